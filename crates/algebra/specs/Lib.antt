@@ -1,0 +1,4 @@
+pub mod Congruence
+pub mod Prime
+pub mod Digits
+pub mod Root
