@@ -1,0 +1,166 @@
+-- What is claimed of the definitions, as types: demands 2 and 3 over whole lists, tables and sequences of calls.
+-- Their proofs are terms of these types, in proofs/.
+use Prim.Native.Nat.{ℕ, _+_, _<_, _^_}
+use mathlib.Core.Path.{_≡_}
+use mathlib.Core.Bool.{Bool, true, false, not}
+use mathlib.Core.Logic.{_↔_, _⊎_}
+use mathlib.Core.List.{List, [], _∷_, _++_, map}
+use mathlib.Core.Option.{Option, none, some}
+use lib.Dec.{T, eqb}
+use lib.ListN.{length, getD, take}
+use lib.IntN.{ℤ, pos}
+use Rattle.meaning.specs.Number.{signed, inRange}
+use Rattle.meaning.specs.Text.{linesOf, isEnded}
+use Rattle.meaning.specs.Line.{Line, lineOf}
+use Rattle.meaning.specs.Known.{Known, fresh}
+use Rattle.meaning.specs.Row.{Row, among, holds}
+use Rattle.meaning.specs.Meaning.{gadget, after}
+use Rattle.meaning.specs.Refusal.{textLimit, Rule, rule, rules, Reading, refused, read, reading}
+use Rattle.meaning.specs.Work.{false-at, true-table, work}
+use Rattle.meaning.specs.Reply.{Reply, reply, rowsOf, checkReply, makeReply}
+use Rattle.meaning.specs.Desk.{Desk, called, freshDesk, fullCount, isAccepted, deskCall, Call, deskAfter, deskReplies}
+
+-- ---- reading is exact
+
+unfoldable pub lineAt : (text : List ℕ) (line : ℕ) → List ℕ
+lineAt text n = getD (linesOf text) n []
+
+unfoldable pub afterBytes : Known → Option Line → Known
+afterBytes s none = s
+afterBytes s (some l) = after s l
+
+-- what is known before line n, if the lines before it are read
+unfoldable pub knownBefore : Known → List (List ℕ) → (n : ℕ) → Known
+knownBefore s bs ℕ.zero = s
+knownBefore s [] (ℕ.suc n) = s
+knownBefore s (b ∷ bs) (ℕ.suc n) = knownBefore (afterBytes s (lineOf b)) bs n
+
+-- the rule at a place of the ordered table
+unfoldable pub ruleAt : ℕ → Rule
+ruleAt k = getD rules k (rule 0 (λ n s l. true))
+
+-- a row of the table of refusals, 1 to 12, fits the text at a place
+pub data Fits (text : List ℕ) (number place : ℕ) : Type 0 where
+  too-long : number ≡ 1 → place ≡ 0 → textLimit < length text → Fits text number place
+  not-ended : number ≡ 2 → place ≡ 0 → ¬ T (isEnded text) → Fits text number place
+  no-line : number ≡ 3 → place < length (linesOf text) → lineOf (lineAt text place) ≡ none → Fits text number place
+  breaks : (k : ℕ) (l : Line) → k < length rules → number ≡ ruleAt k .refusal → place < length (linesOf text)
+      → lineOf (lineAt text place) ≡ some l → ¬ T (ruleAt k .keeps place (knownBefore fresh (linesOf text) place) l)
+      → Fits text number place
+
+-- "1 and 2 come first, then lines in order, in a line by number": by place, then by number, as 1 and 2 have place 0
+abbrev pub Before : (number place number′ place′ : ℕ) → Type 0
+Before n i n′ i′ = (i < i′) ⊎ ((i ≡ i′) × (n < n′))
+
+-- the lines of a text are these
+abbrev pub Spells : List ℕ → List Line → Type 0
+Spells text ls = map lineOf (linesOf text) ≡ map some ls
+
+unfoldable pub knownAfter : Known → List Line → Known
+knownAfter s [] = s
+knownAfter s (l ∷ ls) = knownAfter (after s l) ls
+
+-- demand 2: "A list is read exactly when none of 01's refusals fits it", and a refusal that is replied is the first that fits
+abbrev pub ReadsExactly : Type 0
+ReadsExactly =
+    (text : List ℕ) →
+    (((ls : List Line) × (s : Known) × (reading text ≡ read ls s)) ↔ ((number place : ℕ) → ¬ Fits text number place))
+    × ((number place : ℕ) → reading text ≡ refused number place ↔
+    (Fits text number place × ((n i : ℕ) → Before n i number place → ¬ Fits text n i)))
+    × ((ls : List Line) (s : Known) → reading text ≡ read ls s → Spells text ls × (s ≡ knownAfter fresh ls))
+
+-- ---- rows
+
+-- a table of the list's length with all cells below p
+pub record WellFormed (s : Known) (t : List ℕ) : Type 0 where
+  pub long : length t ≡ s .cells
+  pub below : (i : ℕ) → i < length t → getD t i 0 < s .p
+
+-- row i of the list holds in the table
+abbrev pub Holds : Known → List Line → List ℕ → ℕ → Type 0
+Holds s ls t i = T (holds (s .p) t (getD (rowsOf ls) i (among 0 0)))
+
+-- demand 2: "accepted exactly when every row holds modulo p, else the first failing row is named"
+abbrev pub ChecksRows : Type 0
+ChecksRows =
+    (text : List ℕ) (ls : List Line) (s : Known) (t : List ℕ) → reading text ≡ read ls s → WellFormed s t →
+    (checkReply text t ≡ reply 0 0 ↔ ((i : ℕ) → i < s .rows → Holds s ls t i))
+    × ((r : ℕ) → checkReply text t ≡ reply 15 r ↔ ((r < s .rows) × (¬ Holds s ls t r) × ((i : ℕ) → i < r → Holds s ls t i)))
+    × ((checkReply text t ≡ reply 0 0) ⊎ ((r : ℕ) × (checkReply text t ≡ reply 15 r)))
+
+-- ---- true tables
+
+-- "its input cells are those of the in lines"
+unfoldable pub inputCellsFrom : Known → List Line → List ℕ
+inputCellsFrom s [] = []
+inputCellsFrom s (l ∷ ls) = take (gadget s l .inputs) (s .cells ∷ []) ++ inputCellsFrom (after s l) ls
+
+unfoldable pub signedAt : ℕ → List ℕ → ℕ → ℤ
+signedAt p t i = signed p (getD t i 0)
+
+-- "inputs stand in them when they are these cells' signed values"
+unfoldable pub inputsOf : Known → List Line → List ℕ → List ℤ
+inputsOf s ls t = map (signedAt (s .p) t) (inputCellsFrom fresh ls)
+
+-- "A table's signed values are those of the cells laid out for values"
+unfoldable pub valuesOf : Known → List ℕ → List ℤ
+valuesOf s t = map (signedAt (s .p) t) (s .places)
+
+-- demand 3, whoever wrote the table: "accepted exactly when working from its own input cells meets no false statement and the true
+-- table of that column is this table, cell for cell"
+abbrev pub AcceptsTrueTables : Type 0
+AcceptsTrueTables =
+    (text : List ℕ) (ls : List Line) (s : Known) (t : List ℕ) → reading text ≡ read ls s →
+    checkReply text t ≡ reply 0 0 ↔ (WellFormed s t × (work ls (inputsOf s ls t) ≡ true-table (valuesOf s t) t))
+
+-- ---- making
+
+-- "a column of inputs in -M..M, one for each in line"
+pub record Column (s : Known) (xs : List ℤ) : Type 0 where
+  pub count : length xs ≡ s .inputs
+  pub within : (i : ℕ) → i < length xs → T (inRange (s .p) (getD xs i (pos 0)))
+
+-- demand 3: the maker writes the true table, the one table with these inputs that is accepted, "for every column of inputs whose
+-- statements are true, and replies 18 with the first false line otherwise", where no table with these inputs is accepted
+abbrev pub MakesTheOnly : Type 0
+MakesTheOnly =
+    (text : List ℕ) (ls : List Line) (s : Known) (xs : List ℤ) (t : List ℕ) →
+    reading text ≡ read ls s → Column s xs → length t ≡ s .cells →
+    ((vs : List ℤ) (cs : List ℕ) → work ls xs ≡ true-table vs cs →
+    (makeReply text xs t .answer ≡ reply 0 0) × (makeReply text xs t .table ≡ cs)
+    × (checkReply text cs ≡ reply 0 0) × (inputsOf s ls cs ≡ xs) × (valuesOf s cs ≡ vs)
+    × ((u : List ℕ) → inputsOf s ls u ≡ xs → checkReply text u ≡ reply 0 0 → u ≡ cs))
+    × ((n : ℕ) → work ls xs ≡ false-at n →
+    (makeReply text xs t .answer ≡ reply 18 n) × (makeReply text xs t .table ≡ t)
+    × ((u : List ℕ) → inputsOf s ls u ≡ xs → ¬ (checkReply text u ≡ reply 0 0)))
+
+-- ---- counts
+
+-- how many calls there are whose check is accepted, and how many whose check is refused
+unfoldable pub howMany : (Call → Bool) → List Call → ℕ
+howMany f [] = 0
+howMany f (c ∷ cs) = mathlib.Core.Bool.cond (f c) 1 0 + howMany f cs
+
+unfoldable pub passes : Call → Bool
+passes c = isAccepted (checkReply (c .list) (c .table))
+
+unfoldable pub checkOf : Call → Reply
+checkOf c = checkReply (c .list) (c .table)
+
+-- demand 2: "For every sequence of desk calls up to the full count, heard = accepted + refused, and each is the number of such
+-- calls"; each call is answered by its check's reply
+abbrev pub Counts : Type 0
+Counts =
+    (calls : List Call) → length calls < 2 ^ 64 →
+    let d : Desk = deskAfter freshDesk calls in
+    (d .heard ≡ d .accepted + d .refused)
+    × (d .heard ≡ length calls)
+    × (d .accepted ≡ howMany passes calls)
+    × (d .refused ≡ howMany (λ c. not (passes c)) calls)
+    × (deskReplies freshDesk calls ≡ map checkOf calls)
+
+-- at the full count every further call is refused 20 and nothing moves
+abbrev pub StaysFull : Type 0
+StaysFull =
+    (d : Desk) → d .heard ≡ d .accepted + d .refused → d .heard ≡ fullCount →
+    (list table : List ℕ) → deskCall d list table ≡ called d (reply 20 0)

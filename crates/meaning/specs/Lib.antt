@@ -1,0 +1,15 @@
+pub mod Number
+pub mod Text
+pub mod Line
+pub mod Known
+pub mod Row
+pub mod Gadget
+pub mod Meaning
+pub mod Refusal
+pub mod Work
+pub mod Reply
+pub mod Desk
+pub mod Program
+pub mod Claims
+pub mod Compute
+pub mod Examples

@@ -1,0 +1,156 @@
+-- The refusals of a list, as document 01's table under "Replies" has them, and reading: a list is read where none of them fits.
+use Prim.Native.Nat.{ℕ, zero, suc, _+_}
+use mathlib.Core.Bool.{Bool, true, false, cond, _&&_, not}
+use mathlib.Core.List.{List, [], _∷_}
+use mathlib.Core.Option.{Option, none, some}
+use lib.Dec.{leb, ltb}
+use lib.ListN.{length}
+use lib.IntN.{ℤ, pos, natAbs}
+use lib.Signed.{leZ, nonNeg}
+use Rattle.meaning.specs.Number.{inRange, oddPrime}
+use Rattle.meaning.specs.Text.{linesOf, isEnded}
+use Rattle.meaning.specs.Line.{
+  Word,
+  field,
+  input,
+  span,
+  sum,
+  relu,
+  which,
+  max,
+  root,
+  Line,
+  lineOf,
+  numberAt,
+  namesOf,
+  coefficientsOf,
+  shiftsOf,
+  Digits,
+  digitsOf,
+}
+use Rattle.meaning.specs.Known.{Known, fresh}
+use Rattle.meaning.specs.Meaning.{gadget, after}
+
+-- ---- limits
+
+-- "text over 65,536 bytes"
+unfoldable pub textLimit : ℕ
+textLimit = 65536
+
+-- "A list has at most 256 values and 4,096 cells."
+unfoldable pub valueLimit : ℕ
+valueLimit = 256
+
+unfoldable pub cellLimit : ℕ
+cellLimit = 4096
+
+-- ---- what the rules ask
+
+unfoldable pub all : {A : Type 0} → (A → Bool) → List A → Bool
+all f [] = true
+all f (x ∷ xs) = f x && all f xs
+
+unfoldable pub onSome : {A : Type 0} → Option ℕ → (ℕ → A) → A → A
+onSome none f x = x
+onSome (some i) f x = f i
+
+unfoldable pub isField : Word → Bool
+isField field = true
+isField input = false
+isField span = false
+isField sum = false
+isField relu = false
+isField which = false
+isField max = false
+isField root = false
+
+-- "first line, only there"
+unfoldable pub isPlaced : (line : ℕ) → Word → Bool
+isPlaced zero w = isField w
+isPlaced (suc n) w = not (isField w)
+
+unfoldable pub isOverPrime : Word → List ℤ → Bool
+isOverPrime field ns = nonNeg (numberAt ns 0) && oddPrime (natAbs (numberAt ns 0))
+isOverPrime input ns = true
+isOverPrime span ns = true
+isOverPrime sum ns = true
+isOverPrime relu ns = true
+isOverPrime which ns = true
+isOverPrime max ns = true
+isOverPrime root ns = true
+
+-- "2 ≤ b; 1 ≤ k ≤ 31"
+unfoldable pub isDigits : Digits → Bool
+isDigits d = leZ (pos 2) (d .b) && leZ (pos 1) (d .k) && leZ (d .k) (pos 31)
+
+-- "L, c0 and each coefficient lie in -M..M"
+unfoldable pub isRanged : ℕ → Word → List ℤ → Bool
+isRanged p w ns = all isDigits (digitsOf w ns) && all (inRange p) (shiftsOf w ns) && all (inRange p) (coefficientsOf w ns)
+
+-- does v name one of the n values that are made?
+unfoldable pub isMade : (n : ℕ) (v : ℤ) → Bool
+isMade n v = nonNeg v && ltb (natAbs v) n
+
+-- ---- the rules
+
+-- a rule that each line has to keep, and the refusal of one that does not
+pub record Rule : Type 0 where
+  pub refusal : ℕ
+  pub keeps : (line : ℕ) → Known → Line → Bool
+
+abbrev pub rule : ℕ → (ℕ → Known → Line → Bool) → Rule
+rule r f = record { refusal = r; keeps = f }
+
+-- the ordered table, after refusal 3 (a line that spells nothing), for a list that may have so many cells
+unfoldable pub rulesWithin : (cells : ℕ) → List Rule
+rulesWithin cells =
+    rule 4 (λ n s l. isPlaced n (l .word))
+    ∷ rule 5 (λ n s l. isOverPrime (l .word) (l .numbers))
+    ∷ rule 6 (λ n s l. isRanged (s .p) (l .word) (l .numbers))
+    ∷ rule 7 (λ n s l. all (isMade (length (s .known))) (namesOf (l .word) (l .numbers)))
+    ∷ rule 8 (λ n s l. leb (length (s .known) + length (gadget s l .made)) valueLimit)
+    ∷ rule 9 (λ n s l. leb (s .cells + gadget s l .width) cells)
+    ∷ rule 10 (λ n s l. gadget s l .unambiguous)
+    ∷ rule 11 (λ n s l. gadget s l .fits)
+    ∷ rule 12 (λ n s l. gadget s l .overlaps)
+    ∷ []
+
+unfoldable pub rules : List Rule
+rules = rulesWithin cellLimit
+
+unfoldable pub firstBroken : List Rule → ℕ → Known → Line → Option ℕ
+firstBroken [] n s l = none
+firstBroken (r ∷ rs) n s l = cond (r .keeps n s l) (firstBroken rs n s l) (some (r .refusal))
+
+-- ---- reading
+
+-- a list that is read, its lines and what is known at its end; or its refusal and place
+pub data Reading : Type 0 where
+  refused : (number place : ℕ) → Reading
+  read : List Line → Known → Reading
+
+unfoldable pub onReading : {A : Type 0} → Reading → (refused : (number place : ℕ) → A) → (read : List Line → Known → A) → A
+onReading (refused r n) f g = f r n
+onReading (read ls s) f g = g ls s
+
+unfoldable pub consLine : Line → Reading → Reading
+consLine l (refused r n) = refused r n
+consLine l (read ls s) = read (l ∷ ls) s
+
+-- line n in state s, before the rest; the rest waits, so that a refused line is the last one looked at
+unfoldable pub readLine : List Rule → ℕ → Known → Option Line → (Known → Reading) → Reading
+readLine rs n s none rest = refused 3 n
+readLine rs n s (some l) rest = onSome (firstBroken rs n s l) (λ r. refused r n) (consLine l (rest (after s l)))
+
+-- "then lines in order, in a line by number"
+unfoldable pub readFrom : List Rule → ℕ → Known → List (List ℕ) → Reading
+readFrom rs n s [] = read [] s
+readFrom rs n s (b ∷ bs) = readLine rs n s (lineOf b) (λ s′. readFrom rs (suc n) s′ bs)
+
+-- "1 and 2 come first"
+unfoldable pub readingBy : List Rule → List ℕ → Reading
+readingBy rs text =
+    cond (leb (length text) textLimit) (cond (isEnded text) (readFrom rs 0 fresh (linesOf text)) (refused 2 0)) (refused 1 0)
+
+unfoldable pub reading : List ℕ → Reading
+reading text = readingBy rules text

@@ -1,0 +1,95 @@
+-- What reading, checking, making and showing answer, and what they leave in the lent table
+-- (document 01, "Making and checking", "Show, desk, program", "Replies").
+use Prim.Native.Nat.{ℕ, zero, suc}
+use mathlib.Core.Bool.{Bool, cond}
+use mathlib.Core.List.{List, [], _∷_, _++_}
+use mathlib.Core.Option.{Option, none, some}
+use lib.Dec.{ltb, eqb}
+use lib.ListN.{length, take, drop}
+use lib.IntN.{ℤ}
+use Rattle.meaning.specs.Number.{inRange}
+use Rattle.meaning.specs.Line.{Line}
+use Rattle.meaning.specs.Known.{Known, fresh}
+use Rattle.meaning.specs.Row.{Row, holds}
+use Rattle.meaning.specs.Meaning.{gadget, after}
+use Rattle.meaning.specs.Refusal.{onSome, onReading, reading}
+use Rattle.meaning.specs.Work.{Worked, false-at, true-table, work}
+
+-- a number and a place; "An accepted check and a made table return 0, 0"
+pub record Reply : Type 0 where
+  pub number : ℕ
+  pub place : ℕ
+
+abbrev pub reply : ℕ → ℕ → Reply
+reply n at = record { number = n; place = at }
+
+-- ---- reading: "A read list returns p and its counts of values, cells and rows."
+
+pub data Answer : Type 0 where
+  counts : (p values cells rows : ℕ) → Answer
+  refusal : Reply → Answer
+
+unfoldable pub readReply : List ℕ → Answer
+readReply text =
+    onReading (reading text) (λ n at. refusal (reply n at)) (λ ls s. counts (s .p) (length (s .known)) (s .cells) (s .rows))
+
+-- ---- checking: 13, 14, 15
+
+-- the place of the first element that fails a test, counted from n
+unfoldable pub firstFail : {A : Type 0} → (A → Bool) → ℕ → List A → Option ℕ
+firstFail f n [] = none
+firstFail f n (x ∷ xs) = let later = firstFail f (suc n) xs in cond (f x) later (some n)
+
+-- the rows of a list, in order
+unfoldable pub rowsFrom : Known → List Line → List Row
+rowsFrom s [] = []
+rowsFrom s (l ∷ ls) = gadget s l .rows ++ rowsFrom (after s l) ls
+
+unfoldable pub rowsOf : List Line → List Row
+rowsOf ls = rowsFrom fresh ls
+
+-- "tests all cells, then rows in order"
+unfoldable pub checked : Known → List Line → List ℕ → Reply
+checked s ls t =
+    cond (eqb (length t) (s .cells))
+    (onSome (firstFail (λ c. ltb c (s .p)) 0 t) (reply 14) (onSome (firstFail (holds (s .p) t) 0 (rowsOf ls)) (reply 15) (reply 0 0)))
+    (reply 13 0)
+
+unfoldable pub checkReply : (list table : List ℕ) → Reply
+checkReply text t = onReading (reading text) reply (λ ls s. checked s ls t)
+
+-- ---- making: 13, 16, 17, 18
+
+-- a making's reply, and the table after it
+pub record Making : Type 0 where
+  pub answer : Reply
+  pub table : List ℕ
+
+abbrev pub making : Reply → List ℕ → Making
+making r t = record { answer = r; table = t }
+
+unfoldable pub filled : Worked → List ℕ → Making
+filled (false-at n) t = making (reply 18 n) t
+filled (true-table vs cs) t = making (reply 0 0) cs
+
+unfoldable pub made : Known → List Line → List ℤ → List ℕ → Making
+made s ls xs t =
+    cond (eqb (length t) (s .cells))
+    (cond (eqb (length xs) (s .inputs))
+    (onSome (firstFail (inRange (s .p)) 0 xs) (λ i. making (reply 17 i) t) (filled (work ls xs) t))
+    (making (reply 16 0) t))
+    (making (reply 13 0) t)
+
+unfoldable pub makeReply : (list : List ℕ) → List ℤ → (table : List ℕ) → Making
+makeReply text xs t = onReading (reading text) (λ n at. making (reply n at) t) (λ ls s. made s ls xs t)
+
+-- ---- showing: the stretch of the table that holds the cells of line n
+
+unfoldable pub stretch : Known → List Line → (n : ℕ) → List ℕ → List ℕ
+stretch s [] n t = []
+stretch s (l ∷ ls) zero t = take (gadget s l .width) (drop (s .cells) t)
+stretch s (l ∷ ls) (suc n) t = stretch (after s l) ls n t
+
+-- "empty for the field line, for a line that is not there, for a refused list and for a wrong table length"
+unfoldable pub shown : (list table : List ℕ) (line : ℕ) → List ℕ
+shown text t n = onReading (reading text) (λ _ _. []) (λ ls s. cond (eqb (length t) (s .cells)) (stretch fresh ls n t) [])
