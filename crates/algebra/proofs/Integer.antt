@@ -1,0 +1,4 @@
+pub mod Order
+pub mod Linear
+pub mod Difference
+pub mod Ring

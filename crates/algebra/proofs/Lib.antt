@@ -1,0 +1,6 @@
+pub mod Integer
+pub mod Test
+pub mod Congruence
+pub mod Prime
+pub mod Digits
+pub mod Root
