@@ -32,8 +32,7 @@ pub from-difference-≤-negation : (a b c : ℤ) → (a -ℤ b) ≤ℤ (negℤ c
 from-difference-≤-negation a b c h = omega (integer, minus a b, positivePart-negation c, negativePart-negation c)
 
 pub to-difference-≤-negation : (a b c : ℤ)
-    → (positivePart a + negativePart b) + positivePart c ≤ negativePart c + (negativePart a + positivePart b)
-    → (a -ℤ b) ≤ℤ (negℤ c)
+    → (positivePart a + negativePart b) + positivePart c ≤ negativePart c + (negativePart a + positivePart b) → (a -ℤ b) ≤ℤ (negℤ c)
 to-difference-≤-negation a b c h = omega (integer, minus a b, positivePart-negation c, negativePart-negation c)
 
 pub from-difference-≤-number : (a b c : ℤ) → (a -ℤ b) ≤ℤ c
@@ -41,8 +40,7 @@ pub from-difference-≤-number : (a b c : ℤ) → (a -ℤ b) ≤ℤ c
 from-difference-≤-number a b c h = omega (integer, minus a b)
 
 pub to-difference-≤-number : (a b c : ℤ)
-    → (positivePart a + negativePart b) + negativePart c ≤ positivePart c + (negativePart a + positivePart b)
-    → (a -ℤ b) ≤ℤ c
+    → (positivePart a + negativePart b) + negativePart c ≤ positivePart c + (negativePart a + positivePart b) → (a -ℤ b) ≤ℤ c
 to-difference-≤-number a b c h = omega (integer, minus a b)
 
 pub from-sum-≤-difference : (a b c d : ℤ) → (a +ℤ b) ≤ℤ (c -ℤ d)
@@ -68,8 +66,7 @@ pub from-sum-≤-negation : (a b c : ℤ) → (a +ℤ b) ≤ℤ (negℤ c)
 from-sum-≤-negation a b c h = omega (integer, plus a b, positivePart-negation c, negativePart-negation c)
 
 pub to-sum-≤-negation : (a b c : ℤ)
-    → (positivePart a + positivePart b) + positivePart c ≤ negativePart c + (negativePart a + negativePart b)
-    → (a +ℤ b) ≤ℤ (negℤ c)
+    → (positivePart a + positivePart b) + positivePart c ≤ negativePart c + (negativePart a + negativePart b) → (a +ℤ b) ≤ℤ (negℤ c)
 to-sum-≤-negation a b c h = omega (integer, plus a b, positivePart-negation c, negativePart-negation c)
 
 pub from-sum-≤-number : (a b c : ℤ) → (a +ℤ b) ≤ℤ c
@@ -77,8 +74,7 @@ pub from-sum-≤-number : (a b c : ℤ) → (a +ℤ b) ≤ℤ c
 from-sum-≤-number a b c h = omega (integer, plus a b)
 
 pub to-sum-≤-number : (a b c : ℤ)
-    → (positivePart a + positivePart b) + negativePart c ≤ positivePart c + (negativePart a + negativePart b)
-    → (a +ℤ b) ≤ℤ c
+    → (positivePart a + positivePart b) + negativePart c ≤ positivePart c + (negativePart a + negativePart b) → (a +ℤ b) ≤ℤ c
 to-sum-≤-number a b c h = omega (integer, plus a b)
 
 pub from-negation-≤-difference : (a c d : ℤ) → (negℤ a) ≤ℤ (c -ℤ d)
@@ -86,8 +82,7 @@ pub from-negation-≤-difference : (a c d : ℤ) → (negℤ a) ≤ℤ (c -ℤ d
 from-negation-≤-difference a c d h = omega (integer, positivePart-negation a, negativePart-negation a, minus c d)
 
 pub to-negation-≤-difference : (a c d : ℤ)
-    → negativePart a + (negativePart c + positivePart d) ≤ (positivePart c + negativePart d) + positivePart a
-    → (negℤ a) ≤ℤ (c -ℤ d)
+    → negativePart a + (negativePart c + positivePart d) ≤ (positivePart c + negativePart d) + positivePart a → (negℤ a) ≤ℤ (c -ℤ d)
 to-negation-≤-difference a c d h = omega (integer, positivePart-negation a, negativePart-negation a, minus c d)
 
 pub from-negation-≤-sum : (a c d : ℤ) → (negℤ a) ≤ℤ (c +ℤ d)
@@ -95,8 +90,7 @@ pub from-negation-≤-sum : (a c d : ℤ) → (negℤ a) ≤ℤ (c +ℤ d)
 from-negation-≤-sum a c d h = omega (integer, positivePart-negation a, negativePart-negation a, plus c d)
 
 pub to-negation-≤-sum : (a c d : ℤ)
-    → negativePart a + (negativePart c + negativePart d) ≤ (positivePart c + positivePart d) + positivePart a
-    → (negℤ a) ≤ℤ (c +ℤ d)
+    → negativePart a + (negativePart c + negativePart d) ≤ (positivePart c + positivePart d) + positivePart a → (negℤ a) ≤ℤ (c +ℤ d)
 to-negation-≤-sum a c d h = omega (integer, positivePart-negation a, negativePart-negation a, plus c d)
 
 pub from-negation-≤-negation : (a c : ℤ) → (negℤ a) ≤ℤ (negℤ c)
@@ -104,8 +98,7 @@ pub from-negation-≤-negation : (a c : ℤ) → (negℤ a) ≤ℤ (negℤ c)
 from-negation-≤-negation a c h = omega (integer, positivePart-negation a, negativePart-negation a, positivePart-negation c, negativePart-negation c)
 
 pub to-negation-≤-negation : (a c : ℤ)
-    → negativePart a + positivePart c ≤ negativePart c + positivePart a
-    → (negℤ a) ≤ℤ (negℤ c)
+    → negativePart a + positivePart c ≤ negativePart c + positivePart a → (negℤ a) ≤ℤ (negℤ c)
 to-negation-≤-negation a c h = omega (integer, positivePart-negation a, negativePart-negation a, positivePart-negation c, negativePart-negation c)
 
 pub from-negation-≤-number : (a c : ℤ) → (negℤ a) ≤ℤ c
@@ -113,8 +106,7 @@ pub from-negation-≤-number : (a c : ℤ) → (negℤ a) ≤ℤ c
 from-negation-≤-number a c h = omega (integer, positivePart-negation a, negativePart-negation a)
 
 pub to-negation-≤-number : (a c : ℤ)
-    → negativePart a + negativePart c ≤ positivePart c + positivePart a
-    → (negℤ a) ≤ℤ c
+    → negativePart a + negativePart c ≤ positivePart c + positivePart a → (negℤ a) ≤ℤ c
 to-negation-≤-number a c h = omega (integer, positivePart-negation a, negativePart-negation a)
 
 pub from-number-≤-difference : (a c d : ℤ) → a ≤ℤ (c -ℤ d)
@@ -122,8 +114,7 @@ pub from-number-≤-difference : (a c d : ℤ) → a ≤ℤ (c -ℤ d)
 from-number-≤-difference a c d h = omega (integer, minus c d)
 
 pub to-number-≤-difference : (a c d : ℤ)
-    → positivePart a + (negativePart c + positivePart d) ≤ (positivePart c + negativePart d) + negativePart a
-    → a ≤ℤ (c -ℤ d)
+    → positivePart a + (negativePart c + positivePart d) ≤ (positivePart c + negativePart d) + negativePart a → a ≤ℤ (c -ℤ d)
 to-number-≤-difference a c d h = omega (integer, minus c d)
 
 pub from-number-≤-sum : (a c d : ℤ) → a ≤ℤ (c +ℤ d)
@@ -131,8 +122,7 @@ pub from-number-≤-sum : (a c d : ℤ) → a ≤ℤ (c +ℤ d)
 from-number-≤-sum a c d h = omega (integer, plus c d)
 
 pub to-number-≤-sum : (a c d : ℤ)
-    → positivePart a + (negativePart c + negativePart d) ≤ (positivePart c + positivePart d) + negativePart a
-    → a ≤ℤ (c +ℤ d)
+    → positivePart a + (negativePart c + negativePart d) ≤ (positivePart c + positivePart d) + negativePart a → a ≤ℤ (c +ℤ d)
 to-number-≤-sum a c d h = omega (integer, plus c d)
 
 pub from-number-≤-negation : (a c : ℤ) → a ≤ℤ (negℤ c)
@@ -140,8 +130,7 @@ pub from-number-≤-negation : (a c : ℤ) → a ≤ℤ (negℤ c)
 from-number-≤-negation a c h = omega (integer, positivePart-negation c, negativePart-negation c)
 
 pub to-number-≤-negation : (a c : ℤ)
-    → positivePart a + positivePart c ≤ negativePart c + negativePart a
-    → a ≤ℤ (negℤ c)
+    → positivePart a + positivePart c ≤ negativePart c + negativePart a → a ≤ℤ (negℤ c)
 to-number-≤-negation a c h = omega (integer, positivePart-negation c, negativePart-negation c)
 
 pub from-difference-<-difference : (a b c d : ℤ) → (a -ℤ b) <ℤ (c -ℤ d)
@@ -167,8 +156,7 @@ pub from-difference-<-negation : (a b c : ℤ) → (a -ℤ b) <ℤ (negℤ c)
 from-difference-<-negation a b c h = omega (integer, minus a b, positivePart-negation c, negativePart-negation c)
 
 pub to-difference-<-negation : (a b c : ℤ)
-    → (positivePart a + negativePart b) + positivePart c < negativePart c + (negativePart a + positivePart b)
-    → (a -ℤ b) <ℤ (negℤ c)
+    → (positivePart a + negativePart b) + positivePart c < negativePart c + (negativePart a + positivePart b) → (a -ℤ b) <ℤ (negℤ c)
 to-difference-<-negation a b c h = omega (integer, minus a b, positivePart-negation c, negativePart-negation c)
 
 pub from-difference-<-number : (a b c : ℤ) → (a -ℤ b) <ℤ c
@@ -176,8 +164,7 @@ pub from-difference-<-number : (a b c : ℤ) → (a -ℤ b) <ℤ c
 from-difference-<-number a b c h = omega (integer, minus a b)
 
 pub to-difference-<-number : (a b c : ℤ)
-    → (positivePart a + negativePart b) + negativePart c < positivePart c + (negativePart a + positivePart b)
-    → (a -ℤ b) <ℤ c
+    → (positivePart a + negativePart b) + negativePart c < positivePart c + (negativePart a + positivePart b) → (a -ℤ b) <ℤ c
 to-difference-<-number a b c h = omega (integer, minus a b)
 
 pub from-sum-<-difference : (a b c d : ℤ) → (a +ℤ b) <ℤ (c -ℤ d)
@@ -203,8 +190,7 @@ pub from-sum-<-negation : (a b c : ℤ) → (a +ℤ b) <ℤ (negℤ c)
 from-sum-<-negation a b c h = omega (integer, plus a b, positivePart-negation c, negativePart-negation c)
 
 pub to-sum-<-negation : (a b c : ℤ)
-    → (positivePart a + positivePart b) + positivePart c < negativePart c + (negativePart a + negativePart b)
-    → (a +ℤ b) <ℤ (negℤ c)
+    → (positivePart a + positivePart b) + positivePart c < negativePart c + (negativePart a + negativePart b) → (a +ℤ b) <ℤ (negℤ c)
 to-sum-<-negation a b c h = omega (integer, plus a b, positivePart-negation c, negativePart-negation c)
 
 pub from-sum-<-number : (a b c : ℤ) → (a +ℤ b) <ℤ c
@@ -212,8 +198,7 @@ pub from-sum-<-number : (a b c : ℤ) → (a +ℤ b) <ℤ c
 from-sum-<-number a b c h = omega (integer, plus a b)
 
 pub to-sum-<-number : (a b c : ℤ)
-    → (positivePart a + positivePart b) + negativePart c < positivePart c + (negativePart a + negativePart b)
-    → (a +ℤ b) <ℤ c
+    → (positivePart a + positivePart b) + negativePart c < positivePart c + (negativePart a + negativePart b) → (a +ℤ b) <ℤ c
 to-sum-<-number a b c h = omega (integer, plus a b)
 
 pub from-negation-<-difference : (a c d : ℤ) → (negℤ a) <ℤ (c -ℤ d)
@@ -221,8 +206,7 @@ pub from-negation-<-difference : (a c d : ℤ) → (negℤ a) <ℤ (c -ℤ d)
 from-negation-<-difference a c d h = omega (integer, positivePart-negation a, negativePart-negation a, minus c d)
 
 pub to-negation-<-difference : (a c d : ℤ)
-    → negativePart a + (negativePart c + positivePart d) < (positivePart c + negativePart d) + positivePart a
-    → (negℤ a) <ℤ (c -ℤ d)
+    → negativePart a + (negativePart c + positivePart d) < (positivePart c + negativePart d) + positivePart a → (negℤ a) <ℤ (c -ℤ d)
 to-negation-<-difference a c d h = omega (integer, positivePart-negation a, negativePart-negation a, minus c d)
 
 pub from-negation-<-sum : (a c d : ℤ) → (negℤ a) <ℤ (c +ℤ d)
@@ -230,8 +214,7 @@ pub from-negation-<-sum : (a c d : ℤ) → (negℤ a) <ℤ (c +ℤ d)
 from-negation-<-sum a c d h = omega (integer, positivePart-negation a, negativePart-negation a, plus c d)
 
 pub to-negation-<-sum : (a c d : ℤ)
-    → negativePart a + (negativePart c + negativePart d) < (positivePart c + positivePart d) + positivePart a
-    → (negℤ a) <ℤ (c +ℤ d)
+    → negativePart a + (negativePart c + negativePart d) < (positivePart c + positivePart d) + positivePart a → (negℤ a) <ℤ (c +ℤ d)
 to-negation-<-sum a c d h = omega (integer, positivePart-negation a, negativePart-negation a, plus c d)
 
 pub from-negation-<-negation : (a c : ℤ) → (negℤ a) <ℤ (negℤ c)
@@ -239,8 +222,7 @@ pub from-negation-<-negation : (a c : ℤ) → (negℤ a) <ℤ (negℤ c)
 from-negation-<-negation a c h = omega (integer, positivePart-negation a, negativePart-negation a, positivePart-negation c, negativePart-negation c)
 
 pub to-negation-<-negation : (a c : ℤ)
-    → negativePart a + positivePart c < negativePart c + positivePart a
-    → (negℤ a) <ℤ (negℤ c)
+    → negativePart a + positivePart c < negativePart c + positivePart a → (negℤ a) <ℤ (negℤ c)
 to-negation-<-negation a c h = omega (integer, positivePart-negation a, negativePart-negation a, positivePart-negation c, negativePart-negation c)
 
 pub from-negation-<-number : (a c : ℤ) → (negℤ a) <ℤ c
@@ -248,8 +230,7 @@ pub from-negation-<-number : (a c : ℤ) → (negℤ a) <ℤ c
 from-negation-<-number a c h = omega (integer, positivePart-negation a, negativePart-negation a)
 
 pub to-negation-<-number : (a c : ℤ)
-    → negativePart a + negativePart c < positivePart c + positivePart a
-    → (negℤ a) <ℤ c
+    → negativePart a + negativePart c < positivePart c + positivePart a → (negℤ a) <ℤ c
 to-negation-<-number a c h = omega (integer, positivePart-negation a, negativePart-negation a)
 
 pub from-number-<-difference : (a c d : ℤ) → a <ℤ (c -ℤ d)
@@ -257,8 +238,7 @@ pub from-number-<-difference : (a c d : ℤ) → a <ℤ (c -ℤ d)
 from-number-<-difference a c d h = omega (integer, minus c d)
 
 pub to-number-<-difference : (a c d : ℤ)
-    → positivePart a + (negativePart c + positivePart d) < (positivePart c + negativePart d) + negativePart a
-    → a <ℤ (c -ℤ d)
+    → positivePart a + (negativePart c + positivePart d) < (positivePart c + negativePart d) + negativePart a → a <ℤ (c -ℤ d)
 to-number-<-difference a c d h = omega (integer, minus c d)
 
 pub from-number-<-sum : (a c d : ℤ) → a <ℤ (c +ℤ d)
@@ -266,8 +246,7 @@ pub from-number-<-sum : (a c d : ℤ) → a <ℤ (c +ℤ d)
 from-number-<-sum a c d h = omega (integer, plus c d)
 
 pub to-number-<-sum : (a c d : ℤ)
-    → positivePart a + (negativePart c + negativePart d) < (positivePart c + positivePart d) + negativePart a
-    → a <ℤ (c +ℤ d)
+    → positivePart a + (negativePart c + negativePart d) < (positivePart c + positivePart d) + negativePart a → a <ℤ (c +ℤ d)
 to-number-<-sum a c d h = omega (integer, plus c d)
 
 pub from-number-<-negation : (a c : ℤ) → a <ℤ (negℤ c)
@@ -275,8 +254,7 @@ pub from-number-<-negation : (a c : ℤ) → a <ℤ (negℤ c)
 from-number-<-negation a c h = omega (integer, positivePart-negation c, negativePart-negation c)
 
 pub to-number-<-negation : (a c : ℤ)
-    → positivePart a + positivePart c < negativePart c + negativePart a
-    → a <ℤ (negℤ c)
+    → positivePart a + positivePart c < negativePart c + negativePart a → a <ℤ (negℤ c)
 to-number-<-negation a c h = omega (integer, positivePart-negation c, negativePart-negation c)
 
 pub from-difference-≡-difference : (a b c d : ℤ) → (a -ℤ b) ≡ (c -ℤ d)
@@ -302,8 +280,7 @@ pub from-difference-≡-negation : (a b c : ℤ) → (a -ℤ b) ≡ negℤ c
 from-difference-≡-negation a b c h = omega (integer, minus a b, positivePart-negation c, negativePart-negation c)
 
 pub to-difference-≡-negation : (a b c : ℤ)
-    → (positivePart a + negativePart b) + positivePart c ≡ negativePart c + (negativePart a + positivePart b)
-    → (a -ℤ b) ≡ negℤ c
+    → (positivePart a + negativePart b) + positivePart c ≡ negativePart c + (negativePart a + positivePart b) → (a -ℤ b) ≡ negℤ c
 to-difference-≡-negation a b c h = omega (integer, minus a b, positivePart-negation c, negativePart-negation c)
 
 pub from-difference-≡-number : (a b c : ℤ) → (a -ℤ b) ≡ c
@@ -311,8 +288,7 @@ pub from-difference-≡-number : (a b c : ℤ) → (a -ℤ b) ≡ c
 from-difference-≡-number a b c h = omega (integer, minus a b)
 
 pub to-difference-≡-number : (a b c : ℤ)
-    → (positivePart a + negativePart b) + negativePart c ≡ positivePart c + (negativePart a + positivePart b)
-    → (a -ℤ b) ≡ c
+    → (positivePart a + negativePart b) + negativePart c ≡ positivePart c + (negativePart a + positivePart b) → (a -ℤ b) ≡ c
 to-difference-≡-number a b c h = omega (integer, minus a b)
 
 pub from-sum-≡-difference : (a b c d : ℤ) → (a +ℤ b) ≡ (c -ℤ d)
@@ -338,8 +314,7 @@ pub from-sum-≡-negation : (a b c : ℤ) → (a +ℤ b) ≡ negℤ c
 from-sum-≡-negation a b c h = omega (integer, plus a b, positivePart-negation c, negativePart-negation c)
 
 pub to-sum-≡-negation : (a b c : ℤ)
-    → (positivePart a + positivePart b) + positivePart c ≡ negativePart c + (negativePart a + negativePart b)
-    → (a +ℤ b) ≡ negℤ c
+    → (positivePart a + positivePart b) + positivePart c ≡ negativePart c + (negativePart a + negativePart b) → (a +ℤ b) ≡ negℤ c
 to-sum-≡-negation a b c h = omega (integer, plus a b, positivePart-negation c, negativePart-negation c)
 
 pub from-sum-≡-number : (a b c : ℤ) → (a +ℤ b) ≡ c
@@ -347,8 +322,7 @@ pub from-sum-≡-number : (a b c : ℤ) → (a +ℤ b) ≡ c
 from-sum-≡-number a b c h = omega (integer, plus a b)
 
 pub to-sum-≡-number : (a b c : ℤ)
-    → (positivePart a + positivePart b) + negativePart c ≡ positivePart c + (negativePart a + negativePart b)
-    → (a +ℤ b) ≡ c
+    → (positivePart a + positivePart b) + negativePart c ≡ positivePart c + (negativePart a + negativePart b) → (a +ℤ b) ≡ c
 to-sum-≡-number a b c h = omega (integer, plus a b)
 
 pub from-negation-≡-difference : (a c d : ℤ) → negℤ a ≡ (c -ℤ d)
@@ -356,8 +330,7 @@ pub from-negation-≡-difference : (a c d : ℤ) → negℤ a ≡ (c -ℤ d)
 from-negation-≡-difference a c d h = omega (integer, positivePart-negation a, negativePart-negation a, minus c d)
 
 pub to-negation-≡-difference : (a c d : ℤ)
-    → negativePart a + (negativePart c + positivePart d) ≡ (positivePart c + negativePart d) + positivePart a
-    → negℤ a ≡ (c -ℤ d)
+    → negativePart a + (negativePart c + positivePart d) ≡ (positivePart c + negativePart d) + positivePart a → negℤ a ≡ (c -ℤ d)
 to-negation-≡-difference a c d h = omega (integer, positivePart-negation a, negativePart-negation a, minus c d)
 
 pub from-negation-≡-sum : (a c d : ℤ) → negℤ a ≡ (c +ℤ d)
@@ -365,8 +338,7 @@ pub from-negation-≡-sum : (a c d : ℤ) → negℤ a ≡ (c +ℤ d)
 from-negation-≡-sum a c d h = omega (integer, positivePart-negation a, negativePart-negation a, plus c d)
 
 pub to-negation-≡-sum : (a c d : ℤ)
-    → negativePart a + (negativePart c + negativePart d) ≡ (positivePart c + positivePart d) + positivePart a
-    → negℤ a ≡ (c +ℤ d)
+    → negativePart a + (negativePart c + negativePart d) ≡ (positivePart c + positivePart d) + positivePart a → negℤ a ≡ (c +ℤ d)
 to-negation-≡-sum a c d h = omega (integer, positivePart-negation a, negativePart-negation a, plus c d)
 
 pub from-negation-≡-negation : (a c : ℤ) → negℤ a ≡ negℤ c
@@ -374,8 +346,7 @@ pub from-negation-≡-negation : (a c : ℤ) → negℤ a ≡ negℤ c
 from-negation-≡-negation a c h = omega (integer, positivePart-negation a, negativePart-negation a, positivePart-negation c, negativePart-negation c)
 
 pub to-negation-≡-negation : (a c : ℤ)
-    → negativePart a + positivePart c ≡ negativePart c + positivePart a
-    → negℤ a ≡ negℤ c
+    → negativePart a + positivePart c ≡ negativePart c + positivePart a → negℤ a ≡ negℤ c
 to-negation-≡-negation a c h = omega (integer, positivePart-negation a, negativePart-negation a, positivePart-negation c, negativePart-negation c)
 
 pub from-negation-≡-number : (a c : ℤ) → negℤ a ≡ c
@@ -383,8 +354,7 @@ pub from-negation-≡-number : (a c : ℤ) → negℤ a ≡ c
 from-negation-≡-number a c h = omega (integer, positivePart-negation a, negativePart-negation a)
 
 pub to-negation-≡-number : (a c : ℤ)
-    → negativePart a + negativePart c ≡ positivePart c + positivePart a
-    → negℤ a ≡ c
+    → negativePart a + negativePart c ≡ positivePart c + positivePart a → negℤ a ≡ c
 to-negation-≡-number a c h = omega (integer, positivePart-negation a, negativePart-negation a)
 
 pub from-number-≡-difference : (a c d : ℤ) → a ≡ (c -ℤ d)
@@ -392,8 +362,7 @@ pub from-number-≡-difference : (a c d : ℤ) → a ≡ (c -ℤ d)
 from-number-≡-difference a c d h = omega (integer, minus c d)
 
 pub to-number-≡-difference : (a c d : ℤ)
-    → positivePart a + (negativePart c + positivePart d) ≡ (positivePart c + negativePart d) + negativePart a
-    → a ≡ (c -ℤ d)
+    → positivePart a + (negativePart c + positivePart d) ≡ (positivePart c + negativePart d) + negativePart a → a ≡ (c -ℤ d)
 to-number-≡-difference a c d h = omega (integer, minus c d)
 
 pub from-number-≡-sum : (a c d : ℤ) → a ≡ (c +ℤ d)
@@ -401,8 +370,7 @@ pub from-number-≡-sum : (a c d : ℤ) → a ≡ (c +ℤ d)
 from-number-≡-sum a c d h = omega (integer, plus c d)
 
 pub to-number-≡-sum : (a c d : ℤ)
-    → positivePart a + (negativePart c + negativePart d) ≡ (positivePart c + positivePart d) + negativePart a
-    → a ≡ (c +ℤ d)
+    → positivePart a + (negativePart c + negativePart d) ≡ (positivePart c + positivePart d) + negativePart a → a ≡ (c +ℤ d)
 to-number-≡-sum a c d h = omega (integer, plus c d)
 
 pub from-number-≡-negation : (a c : ℤ) → a ≡ negℤ c
@@ -410,8 +378,7 @@ pub from-number-≡-negation : (a c : ℤ) → a ≡ negℤ c
 from-number-≡-negation a c h = omega (integer, positivePart-negation c, negativePart-negation c)
 
 pub to-number-≡-negation : (a c : ℤ)
-    → positivePart a + positivePart c ≡ negativePart c + negativePart a
-    → a ≡ negℤ c
+    → positivePart a + positivePart c ≡ negativePart c + negativePart a → a ≡ negℤ c
 to-number-≡-negation a c h = omega (integer, positivePart-negation c, negativePart-negation c)
 
 pub ruleset linear = (

@@ -30,7 +30,8 @@ abbrev compareVariables : List ℕ → List ℕ → Ordering
 compareVariables [] [] = Ordering·eq
 compareVariables [] (j ∷ n) = Ordering·lt
 compareVariables (i ∷ m) [] = Ordering·gt
-compareVariables (i ∷ m) (j ∷ n) = elim (compare i j) [ Ordering·lt ↦ Ordering·lt | Ordering·eq ↦ compareVariables m n | Ordering·gt ↦ Ordering·gt ]
+compareVariables (i ∷ m) (j ∷ n) =
+    elim (compare i j) [ Ordering·lt ↦ Ordering·lt | Ordering·eq ↦ compareVariables m n | Ordering·gt ↦ Ordering·gt ]
 
 abbrev insertVariable : ℕ → List ℕ → List ℕ
 insertVariable i [] = i ∷ []
