@@ -1,0 +1,77 @@
+-- A digit group: its rows hold exactly where the form's whole number lies in L..L+c-1 and the group's cells are its digits.
+-- This is the one place where rows meet the digit rule of algebra; every line with digits goes by it.
+use mathlib.Core.Path.{_≡_, refl, sym, ap, _∙_}
+use mathlib.Core.Bool.{Bool, _&&_}
+use mathlib.Core.List.{List, [], _∷_, _++_}
+use mathlib.Core.Logic.{_↔_}
+use Prim.Native.Nat.{ℕ, zero, suc, _+_, _-_, _*_, _^_, _≤_, _<_}
+use native.Mathlib.Omega.{arith}
+use native.Mathlib.Nat.{mul-zero, one-mul}
+use lib.Dec.{T, leb, leb→le}
+use lib.ListN.{length, getD}
+use lib.IntN.{ℤ, pos, natAbs, _+ℤ_, _-ℤ_, _*ℤ_}
+use lib.Signed.{_≤ℤ_, leZ}
+use Rattle.algebra.specs.Congruence.{Congruent}
+use Rattle.algebra.specs.Digits.{value, digits, Below}
+use Rattle.algebra.proofs.Test.{left, right, leZ-iff}
+use Rattle.algebra.proofs.Congruence.{congruent-≡, congruent-refl, congruent-sym, congruent-trans, congruent--}
+use Rattle.algebra.proofs.Digits.{DigitRule, digit-rule}
+use Rattle.meaning.specs.Known.{Ends, digitRule}
+use Rattle.meaning.specs.Row.{Form, cell, constant, _⊕_, _⊖_, _⊗_, eval, _≅_, digitRows, placeValues, group}
+use Rattle.meaning.specs.Gadget.Digits.{groupCells}
+use Rattle.meaning.proofs.Cells.{cellsAt, cellsAt-zero, cellsAt-suc, length-cellsAt}
+use Rattle.meaning.proofs.Hold.{Hold, hold-append, row-holds, digit-holds}
+
+module _ (p : ℕ) (t : List ℕ) where
+  digits-hold : (at b k : ℕ) → at + k ≤ length t → Hold p t (digitRows at b k) ↔ Below b (cellsAt t at k)
+  unfolding digitRows
+  digits-hold at b zero h = rw (cellsAt-zero t at) (λ _. tt, λ _. tt)
+  digits-hold at b (suc k) h =
+      let later = digits-hold (suc at) b k (omega arith) in
+      rw (cellsAt-suc t at k (omega arith))
+      (λ e. (digit-holds p t at b .0 (e .0), later .0 (e .1)), λ e. (digit-holds p t at b .1 (e .0), later .1 (e .1)))
+
+  places-value : (w at b k : ℕ) → at + k ≤ length t → eval t (placeValues w at b k) ≡ pos (w * value b (cellsAt t at k))
+  unfolding placeValues eval value
+  places-value w at b zero h = rw (cellsAt-zero t at, mul-zero) refl
+  places-value w at b (suc k) h =
+      rw (cellsAt-suc t at k (omega arith), places-value (w * b) (suc at) b k (omega arith)) (ap pos (omega arith))
+
+  -- the last row of the group, as a congruence between the whole number and the digits' value
+  value-row : (f : Form) (x L : ℤ) (at b k : ℕ) → zero < p → at + k ≤ length t → Congruent p (eval t f) x
+      → Congruent p (eval t (f ⊖ constant L)) (eval t (placeValues 1 at b k)) ↔ Congruent p (x -ℤ L) (pos (value b (cellsAt t at k)))
+  unfolding eval
+  value-row f x L at b k h l c =
+      let same : Congruent p (eval t f -ℤ L) (x -ℤ L) = congruent-- c (congruent-refl L) in
+      let digits-are : eval t (placeValues 1 at b k) ≡ pos (value b (cellsAt t at k)) = rw (places-value 1 at b k l, one-mul) refl in (
+        λ e. congruent-trans (congruent-sym same) (congruent-trans e (congruent-≡ digits-are)),
+        λ e. congruent-trans same (congruent-trans e (congruent-≡ (sym digits-are))),
+      )
+
+  pub group-holds : (f : Form) {E F L x : ℤ} (at : ℕ) {b k : ℕ} → zero < p → at + k ≤ length t → Congruent p (eval t f) x
+      → DigitRule p b k E F L x
+      → Hold p t (group f L at b k) ↔ ((L ≤ℤ x) × (x ≤ℤ (L +ℤ pos (b ^ k - 1))) × (cellsAt t at k ≡ groupCells b k x L))
+  unfolding group groupCells
+  group-holds f {E} {F} {L} {x} at {b} {k} h l c r =
+      let rows = hold-append p t (digitRows at b k) (f ⊖ constant L ≅ placeValues 1 at b k ∷ []) in
+      let small = digits-hold at b k l in
+      let last = row-holds p t (f ⊖ constant L) (placeValues 1 at b k) h in
+      let sum = value-row f x L at b k h l c in
+      let rule = digit-rule r (cellsAt t at k) (length-cellsAt t at k l) in (
+        λ e. let g = rows .0 e in rule .0 (sum .0 (last .0 (g .1 .0)), small .0 (g .0)),
+        λ e. let g = rule .1 e in rows .1 (small .1 (g .1), (last .1 (sum .1 (g .0)), tt)),
+      )
+
+-- the digit rule that reading tests, for a whole number between the ends
+pub rule-kept : (p b k : ℕ) (es : Ends) (L x : ℤ) → zero < b → T (digitRule p b k es L) → es .E ≤ℤ x → x ≤ℤ es .F
+    → DigitRule p b k (es .E) (es .F) L x
+unfolding digitRule
+rule-kept p b k es L x h t low high =
+    record {
+      positive-base = h;
+      low = low;
+      high = high;
+      power-fits = leb→le (b ^ k) p (search (left, right));
+      above = record { le = search (left, right) };
+      below = record { le = search (left, right) };
+    }

@@ -1,0 +1,95 @@
+-- The signed reading: over an odd prime p = 2M+1, the remainders below p and the whole numbers in -M..M are read as each other.
+use mathlib.Core.Path.{_≡_, refl, sym, ap, _∙_}
+use mathlib.Core.Bool.{Bool, true, false, cond, not, _&&_}
+use mathlib.Core.List.{[], _∷_}
+use mathlib.Core.Logic.{_≢_}
+use Prim.Native.Nat.{ℕ, zero, suc, _+_, _-_, _*_, _/_, _%_, _≤_, _<_}
+use native.Mathlib.Omega.{arith}
+use native.Mathlib.Decide.{ℕ-discrete}
+use native.Mathlib.Nat.{div-add-mod', mod-lt}
+use lib.Dec.{T, eqb, leb, leb→le, eqb→eq, eqb-refl, T-not}
+use lib.IntN.{ℤ, pos, negsuc, negℤ, _+ℤ_, _-ℤ_, _*ℤ_}
+use lib.Signed.{_≤ℤ_, _<ℤ_, leZ}
+use Rattle.algebra.specs.Congruence.{Congruent, remainder}
+use Rattle.algebra.specs.Prime.{Prime}
+use Rattle.algebra.proofs.Test.{both, left, right, cond-cases, leZ-iff, leZ-false}
+use Rattle.algebra.proofs.Integer.Order.{minus}
+use Rattle.algebra.proofs.Integer.Linear.{linear}
+use Rattle.algebra.proofs.Integer.Ring.{var, lit, _⊕_, _⊖_, _⊗_, ring}
+use Rattle.algebra.proofs.Congruence.{congruent-≡, congruent-sym, congruent-trans, near-equal, congruent-remainder, remainder-below, remainder-unique}
+use Rattle.algebra.proofs.Prime.{prime-by-trial, prime-no-remainder}
+use Rattle.meaning.specs.Number.{half, lowest, highest, between, inRange, signed, noDivisor, oddPrime}
+
+-- ---- odd primes
+
+-- p is prime, and one more than twice its half
+pub record OddPrime (p : ℕ) : Type 0 where
+  pub prime : Prime p
+  pub odd : p ≡ suc (2 * half p)
+  pub three : 3 ≤ p
+
+noDivisor-all : (n k : ℕ) → T (noDivisor n k) → (d : ℕ) → 1 < d → d ≤ suc k → n % d ≢ 0
+unfolding noDivisor
+noDivisor-all n zero t d h l e = omega arith
+noDivisor-all n (suc k) t d h l e = elim (ℕ-discrete d (suc (suc k))) [
+  | yes q ↦ T-not (eqb (n % suc (suc k)) 0) (left (not (eqb (n % suc (suc k)) 0)) (noDivisor n k) t) (rw (← q, e) tt)
+  | no q ↦ noDivisor-all n k (right (not (eqb (n % suc (suc k)) 0)) (noDivisor n k) t) d h (omega arith) e
+]
+
+pub odd-prime : (n : ℕ) → T (oddPrime n) → OddPrime n
+unfolding oddPrime half
+odd-prime n t =
+    let l : 3 ≤ n = leb→le 3 n (left (leb 3 n) (noDivisor n (n - 2)) t) in
+    let P : Prime n = prime-by-trial n (omega arith) (λ d h k. noDivisor-all n (n - 2) (right (leb 3 n) (noDivisor n (n - 2)) t) d h (omega arith)) in
+    let two : n % 2 ≢ 0 = prime-no-remainder n P 2 (omega arith) (omega arith) in
+    record { prime = P; odd = omega arith; three = l }
+
+module _ {p : ℕ} (P : OddPrime p) where
+  pub positive : zero < p
+  positive = omega (arith, P .three)
+
+  -- ---- the signed range
+
+  pub range-test : (x : ℤ) → lowest p ≤ℤ x → x ≤ℤ highest p → T (inRange p x)
+  unfolding inRange between
+  range-test x l h = both (leZ (lowest p) x) (leZ x (highest p)) (l .le) (h .le)
+
+  pub range-low : (x : ℤ) → T (inRange p x) → lowest p ≤ℤ x
+  unfolding inRange between
+  range-low x t = record { le = left (leZ (lowest p) x) (leZ x (highest p)) t }
+
+  pub range-high : (x : ℤ) → T (inRange p x) → x ≤ℤ highest p
+  unfolding inRange between
+  range-high x t = record { le = right (leZ (lowest p) x) (leZ x (highest p)) t }
+
+  -- two congruent numbers of the signed range are equal
+  pub range-equal : {x y : ℤ} → Congruent p x y → T (inRange p x) → T (inRange p y) → x ≡ y
+  unfolding lowest highest
+  range-equal {x} {y} c t u =
+      let a = range-low x t in
+      let b = range-high x t in
+      let d = range-low y u in
+      let e = range-high y u in
+      near-equal c (omega (linear, P .odd)) (omega (linear, P .odd))
+
+  -- ---- the signed value of a cell
+
+  pub signed-congruent : (c : ℕ) → Congruent p (signed p c) (pos c)
+  unfolding signed
+  signed-congruent c = cond-cases (λ z. Congruent p z (pos c)) (leZ (pos c) (highest p)) (pos c) (pos c -ℤ pos p)
+      (λ _. congruent-≡ refl)
+      (λ _. record { quotient = negsuc 0; equation = ring (pos c ∷ pos p ∷ []) (var 0 ⊖ var 1) (var 0 ⊕ lit (negsuc 0) ⊗ var 1) refl })
+
+  pub signed-range : (c : ℕ) → c < p → T (inRange p (signed p c))
+  unfolding signed lowest highest
+  signed-range c h = cond-cases (λ z. T (inRange p z)) (leZ (pos c) (highest p)) (pos c) (pos c -ℤ pos p)
+      (λ t. let k = leZ-iff (pos c) (highest p) .0 t in range-test (pos c) (omega linear) k)
+      (λ f. let k = leZ-false (pos c) (highest p) f in range-test (pos c -ℤ pos p) (omega (linear, P .odd)) (omega linear))
+
+  pub remainder-signed : (c : ℕ) → c < p → remainder p (signed p c) ≡ c
+  remainder-signed c h = remainder-unique p (signed p c) c h (signed-congruent c)
+
+  pub signed-remainder : (x : ℤ) → T (inRange p x) → signed p (remainder p x) ≡ x
+  signed-remainder x t = range-equal
+      (congruent-trans (signed-congruent (remainder p x)) (congruent-sym (congruent-remainder p x positive)))
+      (signed-range (remainder p x) (remainder-below p x positive)) t
