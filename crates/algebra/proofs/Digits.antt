@@ -28,7 +28,8 @@ pub value-digits : (b k n : ℕ) → zero < b → n < b ^ k → value b (digits 
 unfolding value digits
 value-digits b zero n p h = omega (arith, pow-zero b)
 value-digits b (suc k) n p h =
-    rw (value-digits b k (n / b) p (div-lt-iff-lt-mul p .1 (rw pow-suc at h))) (omega (arith, div-add-mod' n b))
+    let lower : value b (digits b k (n / b)) ≡ n / b = value-digits b k (n / b) p (div-lt-iff-lt-mul p .1 (rw pow-suc at h)) in
+    omega (arith, ap (λ (v : ℕ). b * v) lower, div-add-mod' n b)
 
 pub digits-value : (b : ℕ) (ds : List ℕ) → Below b ds → digits b (length ds) (value b ds) ≡ ds
 unfolding value digits
@@ -77,7 +78,8 @@ top-digit-full b k n h p = (
 
 -- ---- the digit rule
 
--- x is between E and F, the k digits of x − L are wanted, and neither F nor the digits' range reaches p or more past the other's end
+-- x lies between E and F, and its k digits are counted from L: they reach up to L + b ^ k − 1.
+-- The last three fields say that x − L and the value of k digits are never p or more apart.
 pub record DigitRule (p b k : ℕ) (E F L x : ℤ) : Type 0 where
   pub positive-base : zero < b
   pub low : E ≤ℤ x

@@ -1,18 +1,19 @@
 -- Modulo a prime p: a product is 0 only where a factor is (Euclid's lemma), so factors cancel, and every t from 1 to p − 1 has exactly
 -- one inverse below p, which `inverse` finds. Last, that trying all divisors, or those up to the square root, proves a prime.
 use mathlib.Core.Path.{_≡_, refl, sym, ap, _∙_}
+use mathlib.Core.Bool.{Bool, true, false}
 use mathlib.Core.List.{[], _∷_}
 use mathlib.Core.Logic.{_⊎_, inl, inr, ⊎-elim, ⊎-map, _≢_, _↔_}
-use Prim.Native.Nat.{ℕ, zero, suc, _+_, _*_, _/_, _%_, _≤_, _<_, _∣_}
+use Prim.Native.Nat.{ℕ, zero, suc, _+_, _-_, _*_, _/_, _%_, _≤_, _<_, _∣_}
 use native.Mathlib.Omega.{arith}
 use native.Mathlib.Decide.{ℕ-discrete, decLe}
 use native.Mathlib.Nat.{one-mul, zero-mul, mul-le-mul-left, mul-le-mul-right, div-add-mod', mod-lt, zero-mod, div-mul-cancel}
 use native.Mathlib.Nat.{dvd-mul-left, dvd-mul-right, dvd-mul-left-of-dvd, dvd-add-iff-right, dvd-of-mod-eq-zero, mod-eq-zero-of-dvd}
 use lib.IntN.{ℤ, pos, negsuc, negℤ, natAbs, +ℤ-idl, _+ℤ_, _-ℤ_, _*ℤ_}
-use lib.Dec.{eqb, eqb→eq}
+use lib.Dec.{eqb}
 use Rattle.algebra.specs.Congruence.{Congruent, remainder, inverseBelow, inverse}
 use Rattle.algebra.specs.Prime.{Prime}
-use Rattle.algebra.proofs.Test.{elim-cases, eqb-false}
+use Rattle.algebra.proofs.Test.{test-≡, eqb-iff, false-eqb}
 use Rattle.algebra.proofs.Integer.Difference.{as-difference, push, difference-≡}
 use Rattle.algebra.proofs.Integer.Ring.{var, lit, _⊕_, _⊖_, _⊗_, ring}
 use Rattle.algebra.proofs.Congruence.{congruent-≡, congruent-refl, congruent-sym, congruent-trans, congruent-*}
@@ -25,7 +26,7 @@ use Rattle.algebra.proofs.Congruence.{congruent-remainder, remainder-be
 step : (a b p : ℕ) → Prime p → 1 < a → a < p → p ∣ a * b → (zero < p % a) × (p % a < a) × (p ∣ p % a * b)
 step a b p P h k d =
     let l : p % a < a = mod-lt p {m = a} (omega arith) in
-    let n : p % a ≢ zero = (λ e. P .no-divisor a h k (dvd-of-mod-eq-zero a e)) in
+    let n : p % a ≢ zero = (λ e. P .no-divisor a (omega arith) (omega arith) (dvd-of-mod-eq-zero a e)) in
     let e : p / a * (a * b) + p % a * b ≡ p * b = omega (arith, ap (λ (n : ℕ). n * b) (div-add-mod' p a)) in
     (omega arith, l, dvd-add-iff-right p (dvd-mul-left-of-dvd p d (p / a)) .1 (rw e (dvd-mul-right p b)))
 
@@ -39,7 +40,7 @@ descend (suc f) a b p P l h k d = elim (ℕ-discrete a 1) [
 pub euclid : (a b p : ℕ) → Prime p → p ∣ a * b → (p ∣ a) ⊎ (p ∣ b)
 euclid a b p P d = elim (ℕ-discrete (a % p) zero) [
   | yes e ↦ inl (dvd-of-mod-eq-zero p e)
-  | no n ↦ let l : a % p < p = mod-lt a {m = p} (omega (arith, P .above-one)) in
+  | no n ↦ let l : a % p < p = mod-lt a {m = p} (omega arith) in
       let e : p * (a / p * b) + a % p * b ≡ a * b = omega (arith, ap (λ (n : ℕ). n * b) (div-add-mod' a p)) in
       inr (descend (a % p) (a % p) b p P (omega arith) (omega arith) l
       (dvd-add-iff-right p (dvd-mul-right p (a / p * b)) .1 (rw e d)))
@@ -83,6 +84,9 @@ cancel k a b P n h = ⊎-elim (λ z. absurd (n z)) (congruent-of-difference a b)
 pub congruent-zero-iff : {p : ℕ} (n : ℕ) → n < p → Congruent p (pos n) (pos 0) ↔ (n ≡ zero)
 congruent-zero-iff n h = (λ c. residue-unique c h (omega arith), λ e. congruent-≡ (ap pos e))
 
+pub one-not-zero : {p : ℕ} → Prime p → ¬ Congruent p (pos 1) (pos 0)
+one-not-zero P c = let e : _≡_ {A = ℕ} 1 0 = residue-unique c (omega arith) (omega arith) in omega arith
+
 -- ---- inverses
 
 -- p = q · a + r, and an inverse s of r, give the inverse − q · s of a
@@ -99,7 +103,7 @@ inverse-by-descent zero a p P l h k = absurd (omega arith)
 inverse-by-descent (suc f) a p P l h k = elim (ℕ-discrete a 1) [
   | yes e ↦ (pos 1, congruent-≡ (ap pos (omega arith)))
   | no n ↦ let m : p % a < a = mod-lt p h in
-      let z : p % a ≢ zero = (λ e. P .no-divisor a (omega arith) k (dvd-of-mod-eq-zero a e)) in
+      let z : p % a ≢ zero = (λ e. P .no-divisor a (omega arith) (omega arith) (dvd-of-mod-eq-zero a e)) in
       let s = inverse-by-descent f (p % a) p P (omega arith) (omega arith) (omega arith) in
       (negsuc 0 *ℤ pos (p / a) *ℤ s .0, inverse-step (p / a) a (p % a) p (s .0) (div-add-mod' p a) (s .1))
 ]
@@ -122,43 +126,48 @@ remainder-one : (p n : ℕ) → 1 < p → n % p ≡ 1 → Congruent p (pos n) (p
 unfolding remainder
 remainder-one p n h e = congruent-trans (congruent-remainder p (pos n) (omega arith)) (congruent-≡ (ap pos e))
 
--- the search ends below its start, at an inverse if there is one, and at 0 if there is none
-search-below : (m p t : ℕ) → inverseBelow (suc m) p t ≤ m
+-- one step of the search: it ends at m exactly where t · m leaves 1
+search-step : (m p t : ℕ) → (t * m % p ≡ 1 → inverseBelow (suc m) p t ≡ m) × (t * m % p ≢ 1 → inverseBelow (suc m) p t ≡ inverseBelow m p t)
 unfolding inverseBelow
-search-below zero p t = elim-cases (λ v. v ≤ zero) (eqb (t * zero % p) 1) zero zero (λ _. omega arith) (λ _. omega arith)
-search-below (suc m) p t = elim-cases (λ v. v ≤ suc m) (eqb (t * suc m % p) 1) (suc m) (inverseBelow (suc m) p t)
-    (λ _. omega arith) (λ _. omega (arith, search-below m p t))
+search-step m p t =
+    let choose : Bool → ℕ = λ b. elim b [ true ↦ m | false ↦ inverseBelow m p t ] in
+    (λ e. ap choose (test-≡ (eqb (t * m % p) 1) (eqb-iff (t * m % p) 1 .1 e)), λ n. ap choose (false-eqb (t * m % p) 1 n))
+
+-- the search ends below its start, at an inverse if there is one, and at 0 if there is none
+search-below : (m p t : ℕ) → inverseBelow m p t ≤ m - 1
+unfolding inverseBelow
+search-below zero p t = omega arith
+search-below (suc m) p t = elim (ℕ-discrete (t * m % p) 1)
+    [ yes e ↦ omega (arith, search-step m p t .0 e) | no n ↦ omega (arith, search-step m p t .1 n, search-below m p t) ]
 
 search-finds : (m p t w : ℕ) → w < m → t * w % p ≡ 1 → t * inverseBelow m p t % p ≡ 1
-unfolding inverseBelow
 search-finds zero p t w h e = absurd (omega arith)
-search-finds (suc m) p t w h e = elim-cases (λ v. t * v % p ≡ 1) (eqb (t * m % p) 1) m (inverseBelow m p t)
-    (λ s. eqb→eq (t * m % p) 1 s)
-    (λ f. search-finds m p t w (elim (ℕ-discrete w m) [ yes q ↦ absurd (eqb-false (t * m % p) 1 f (rw q at e)) | no q ↦ omega arith ]) e)
+search-finds (suc m) p t w h e = elim (ℕ-discrete (t * m % p) 1) [
+  | yes q ↦ rw (search-step m p t .0 q) q
+  | no n ↦ let o : w ≢ m = (λ q. n (rw q at e)) in rw (search-step m p t .1 n) (search-finds m p t w (omega arith) e)
+]
 
 search-fails : (m p t : ℕ) → ((w : ℕ) → t * w % p ≢ 1) → inverseBelow m p t ≡ zero
 unfolding inverseBelow
 search-fails zero p t h = refl
-search-fails (suc m) p t h = elim-cases (λ v. v ≡ zero) (eqb (t * m % p) 1) m (inverseBelow m p t)
-    (λ s. absurd (h m (eqb→eq (t * m % p) 1 s))) (λ _. search-fails m p t h)
+search-fails (suc m) p t h = search-step m p t .1 (h m) ∙ search-fails m p t h
 
 found : (p t w : ℕ) → 1 < p → w < p → Congruent p (pos t *ℤ pos w) (pos 1) → Congruent p (pos t *ℤ pos (inverse p t)) (pos 1)
 unfolding inverse
-found p t w h k c = remainder-one p (t * inverse p t) h (search-finds p p t w k (one-remainder p (t * w) h c))
+found p t w h k c = remainder-one p (t * inverse p t) h (search-finds _ p t w (omega arith) (one-remainder p (t * w) h c))
 
 pub inverse-below : (p t : ℕ) → zero < p → inverse p t < p
 unfolding inverse
-inverse-below zero t h = absurd (omega arith)
-inverse-below (suc p) t h = omega (arith, search-below p (suc p) t)
+inverse-below p t h = let l : inverse p t ≤ p - 1 = search-below p p t in omega arith
 
 pub inverse-is : (p t : ℕ) → Prime p → zero < t → t < p → Congruent p (pos t *ℤ pos (inverse p t)) (pos 1)
-inverse-is p t P h k = let w = inverse-exists p t P h k in found p t (w .0) (P .above-one) (w .1) (w .2)
+inverse-is p t P h k = let w = inverse-exists p t P h k in found p t (w .0) (omega arith) (w .1) (w .2)
 
 -- w = w · (t · v) = (w · t) · v = v for the inverse v that is found
 pub inverse-unique : (p t w : ℕ) → Prime p → t < p → w < p → Congruent p (pos t *ℤ pos w) (pos 1) → w ≡ inverse p t
 inverse-unique p t w P h k c =
     let v : ℕ = inverse p t in
-    residue-unique (combination2 (pos v) (negsuc 0 *ℤ pos w) c (found p t w (P .above-one) k c) (ring (pos t ∷ pos w ∷ pos v ∷ [])
+    residue-unique (combination2 (pos v) (negsuc 0 *ℤ pos w) c (found p t w (omega arith) k c) (ring (pos t ∷ pos w ∷ pos v ∷ [])
     (var 1 ⊖ var 2) (var 2 ⊗ (var 0 ⊗ var 1 ⊖ lit (pos 1)) ⊕ lit (negsuc 0) ⊗ var 1 ⊗ (var 0 ⊗ var 2 ⊖ lit (pos 1))) refl))
     k (inverse-below p t (omega arith))
 
@@ -169,10 +178,10 @@ inverse-zero p h = search-fails p p 0 (λ w e. let z : _≡_ {A = ℕ} 0 1 = rw 
 -- ---- primes by trial
 
 pub prime-by-trial : (n : ℕ) → 1 < n → ((d : ℕ) → 1 < d → d < n → n % d ≢ 0) → Prime n
-prime-by-trial n h t = record { above-one = h; no-divisor = λ d l k v. t d l k (mod-eq-zero-of-dvd d v) }
+prime-by-trial n h t = record { above-one = h; no-divisor = λ d l k v. t d (omega arith) (omega arith) (mod-eq-zero-of-dvd d v) }
 
 pub prime-no-remainder : (n : ℕ) → Prime n → (d : ℕ) → 1 < d → d < n → n % d ≢ 0
-prime-no-remainder n P d l k e = P .no-divisor d l k (dvd-of-mod-eq-zero d e)
+prime-no-remainder n P d l k e = P .no-divisor d (omega arith) (omega arith) (dvd-of-mod-eq-zero d e)
 
 -- n = q · d with d above the root: then q is not 1 and is below the root
 cofactor-above-one : (q d n : ℕ) → q * d ≡ n → 1 < d → d < n → 1 < q

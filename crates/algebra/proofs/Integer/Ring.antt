@@ -201,7 +201,7 @@ module _ (ρ : List ℤ) where
   pub ring : (e f : Expression) → normal e ≡ normal f → evaluate e ≡ evaluate f
   ring e f h = sym (terms-keeps e) ∙ sym (dropZeros-keeps (terms e)) ∙ ap total h ∙ dropZeros-keeps (terms f) ∙ terms-keeps f
 
--- ---- with names for the variables
+-- ---- with names for the variables: `in2 e` is e at the first two, and so on
 
 abbrev pub in2 : (Expression → Expression → Expression) → Expression
 in2 e = e (var 0) (var 1)
