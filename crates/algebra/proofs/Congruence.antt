@@ -1,7 +1,7 @@
 -- Congruence modulo p is an equivalence that the operations of ℤ keep, and every class modulo p > 0 has exactly one remainder.
 -- Two congruent numbers nearer to each other than p are equal: so a congruence and two ranges give an equation.
 -- A congruence is most often proved from others as a combination of them: the factors, and one ring identity.
-use mathlib.Core.Path.{_≡_, refl, ap, _∙_}
+use mathlib.Core.Path.{_≡_, refl, sym, ap, _∙_}
 use mathlib.Core.List.{[], _∷_}
 use mathlib.Core.Logic.{_↔_}
 use Prim.Native.Nat.{ℕ, zero, suc, _-_, _*_, _/_, _%_, _<_}
@@ -155,3 +155,10 @@ module _ (p : ℕ) where
 
   pub remainder-unique : (z : ℤ) (n : ℕ) → n < p → Congruent p z (pos n) → remainder p z ≡ n
   remainder-unique z n h c = remainder-iff z (pos n) (omega arith) .0 c ∙ remainder-of-residue n h
+
+  -- a number below p is the remainder of exactly the integers that are congruent to it
+  pub residue-iff : (n : ℕ) (z : ℤ) → n < p → Congruent p (pos n) z ↔ (n ≡ remainder p z)
+  residue-iff n z h = (
+    λ c. sym (remainder-unique z n h (congruent-sym c)),
+    λ e. congruent-trans (congruent-≡ (ap pos e)) (congruent-sym (congruent-remainder z (omega arith))),
+  )

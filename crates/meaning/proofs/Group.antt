@@ -15,7 +15,7 @@ use Rattle.algebra.specs.Congruence.{Congruent}
 use Rattle.algebra.specs.Digits.{value, digits, Below}
 use Rattle.algebra.proofs.Test.{left, right, leZ-iff}
 use Rattle.algebra.proofs.Congruence.{congruent-≡, congruent-refl, congruent-sym, congruent-trans, congruent--}
-use Rattle.algebra.proofs.Digits.{DigitRule, digit-rule}
+use Rattle.algebra.proofs.Digits.{length-digits, digits-below, base-below-power, DigitRule, digit-rule}
 use Rattle.meaning.specs.Known.{Ends, digitRule}
 use Rattle.meaning.specs.Row.{Form, cell, constant, _⊕_, _⊖_, _⊗_, eval, _≅_, digitRows, placeValues, group}
 use Rattle.meaning.specs.Gadget.Digits.{groupCells}
@@ -75,3 +75,27 @@ rule-kept p b k es L x h t low high =
       above = record { le = search (left, right) };
       below = record { le = search (left, right) };
     }
+
+pub rule-power : (p b k : ℕ) (es : Ends) (L : ℤ) → T (digitRule p b k es L) → b ^ k ≤ p
+unfolding digitRule
+rule-power p b k es L t = leb→le (b ^ k) p (search (left, right))
+
+-- ---- the true cells of a group
+
+pub length-group : (b k : ℕ) (x L : ℤ) → length (groupCells b k x L) ≡ k
+unfolding groupCells
+length-group b k x L = length-digits b k (natAbs (x -ℤ L))
+
+below-weaken : (b p : ℕ) (ds : List ℕ) → b ≤ p → Below b ds → Below p ds
+below-weaken b p [] h l = tt
+below-weaken b p (d ∷ ds) h l = (omega (arith, l .0), below-weaken b p ds h (l .1))
+
+base-fits : (p b k : ℕ) → zero < b → 1 ≤ k → b ^ k ≤ p → b ≤ p
+base-fits p b k h l f = omega (arith, base-below-power b k l h)
+
+-- digits below b are below p, as b is at most c, and c at most p
+pub group-below : (p b k : ℕ) (x L : ℤ) → zero < b → b ^ k ≤ p → Below p (groupCells b k x L)
+unfolding groupCells digits
+group-below p b zero x L h f = tt
+group-below p b (suc k) x L h f =
+    below-weaken b p (digits b (suc k) (natAbs (x -ℤ L))) (base-fits p b (suc k) h (omega arith) f) (digits-below b (suc k) (natAbs (x -ℤ L)) h)

@@ -4,6 +4,7 @@
 use mathlib.Core.Path.{_≡_, refl, ap}
 use Prim.Native.Nat.{ℕ, zero, suc, _+_, _-_, _*_, _≤_, _<_}
 use native.Mathlib.Omega.{arith}
+use native.Mathlib.Nat.{mul-le-mul-left}
 use lib.IntN.{ℤ, pos, negsuc, negℤ, natAbs, _+ℤ_, _-ℤ_, _*ℤ_, subℕ}
 use lib.Signed.{_≤ℤ_, _<ℤ_, leZ, ltZ}
 use lib.Dec.{T, ltb, leb→le, le→leb, ltb→lt, lt→ltb}
@@ -111,3 +112,10 @@ negativePart-zero (negsuc n) h = omega arith
 pub natAbs-parts : (z : ℤ) → natAbs z ≡ positivePart z + negativePart z
 natAbs-parts (pos n) = omega arith
 natAbs-parts (negsuc n) = omega arith
+
+-- a factor that is not negative keeps an order, and a negative one turns it round
+pub product-keeps : (c : ℕ) (a b : ℤ) → a ≤ℤ b → (pos c *ℤ a) ≤ℤ (pos c *ℤ b)
+product-keeps c a b h = omega (integer, times (pos c) a, times (pos c) b, mul-le-mul-left c (from-≤ℤ h))
+
+pub product-turns : (c : ℕ) (a b : ℤ) → a ≤ℤ b → (negsuc c *ℤ b) ≤ℤ (negsuc c *ℤ a)
+product-turns c a b h = omega (integer, times (negsuc c) a, times (negsuc c) b, mul-le-mul-left (suc c) (from-≤ℤ h))

@@ -1,0 +1,7 @@
+-- The law of each kind of line. Made is what lines that make one value share, Sign what relu and which share.
+pub mod Made
+pub mod Field
+pub mod Input
+pub mod Span
+pub mod Sum
+pub mod Sign
