@@ -1,3 +1,4 @@
+pub mod Lists
 pub mod Number
 pub mod Order
 pub mod Cells
@@ -5,3 +6,7 @@ pub mod Hold
 pub mod Group
 pub mod Law
 pub mod Gadget
+pub mod Kept
+pub mod Reading
+pub mod Rows
+pub mod Desk
