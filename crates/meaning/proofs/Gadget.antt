@@ -5,3 +5,7 @@ pub mod Input
 pub mod Span
 pub mod Sum
 pub mod Sign
+pub mod Relu
+pub mod Which
+pub mod Max
+pub mod Root

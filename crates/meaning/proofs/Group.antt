@@ -1,5 +1,5 @@
 -- A digit group: its rows hold exactly where the form's whole number lies in L..L+c-1 and the group's cells are its digits.
--- This is the one place where rows meet the digit rule of algebra; every line with digits goes by it.
+-- This is the one place where rows meet the digit rule of algebra; every line with digits goes by it. Then groups one after another.
 use mathlib.Core.Path.{_≡_, refl, sym, ap, _∙_}
 use mathlib.Core.Bool.{Bool, _&&_}
 use mathlib.Core.List.{List, [], _∷_, _++_}
@@ -8,7 +8,7 @@ use Prim.Native.Nat.{ℕ, zero, suc, _+_, _-_, _*_, _^_, _≤_, _<_}
 use native.Mathlib.Omega.{arith}
 use native.Mathlib.Nat.{mul-zero, one-mul}
 use lib.Dec.{T, leb, leb→le}
-use lib.ListN.{length, getD}
+use lib.ListN.{length, getD, length-append}
 use lib.IntN.{ℤ, pos, natAbs, _+ℤ_, _-ℤ_, _*ℤ_}
 use lib.Signed.{_≤ℤ_, leZ}
 use Rattle.algebra.specs.Congruence.{Congruent}
@@ -17,9 +17,9 @@ use Rattle.algebra.proofs.Test.{left, right, leZ-iff}
 use Rattle.algebra.proofs.Congruence.{congruent-≡, congruent-refl, congruent-sym, congruent-trans, congruent--}
 use Rattle.algebra.proofs.Digits.{length-digits, digits-below, base-below-power, DigitRule, digit-rule}
 use Rattle.meaning.specs.Known.{Ends, digitRule}
-use Rattle.meaning.specs.Row.{Form, cell, constant, _⊕_, _⊖_, _⊗_, eval, _≅_, digitRows, placeValues, group}
+use Rattle.meaning.specs.Row.{Form, cell, constant, _⊕_, _⊖_, _⊗_, eval, Row, _≅_, digitRows, placeValues, group}
 use Rattle.meaning.specs.Gadget.Digits.{groupCells}
-use Rattle.meaning.proofs.Cells.{cellsAt, cellsAt-zero, cellsAt-suc, length-cellsAt}
+use Rattle.meaning.proofs.Cells.{cellsAt, cellsAt-zero, cellsAt-suc, length-cellsAt, append-iff}
 use Rattle.meaning.proofs.Hold.{Hold, hold-append, row-holds, digit-holds}
 
 module _ (p : ℕ) (t : List ℕ) where
@@ -99,3 +99,56 @@ unfolding groupCells digits
 group-below p b zero x L h f = tt
 group-below p b (suc k) x L h f =
     below-weaken b p (digits b (suc k) (natAbs (x -ℤ L))) (base-fits p b (suc k) h (omega arith) f) (digits-below b (suc k) (natAbs (x -ℤ L)) h)
+
+-- ---- groups one after another
+
+pub length-more : (xs : List ℕ) (b k : ℕ) (x L : ℤ) → length (xs ++ groupCells b k x L) ≡ length xs + k
+length-more xs b k x L = length-append xs (groupCells b k x L) ∙ rw (length-group b k x L) refl
+
+pub below-more : (p b k : ℕ) (xs : List ℕ) (x L : ℤ) → Below p xs → zero < b → b ^ k ≤ p → Below p (xs ++ groupCells b k x L)
+below-more p b k [] x L l h f = group-below p b k x L h f
+below-more p b k (d ∷ xs) x L l h f = (l .0, below-more p b k xs x L (l .1) h f)
+
+-- x lies in L..L+c-1
+abbrev pub Spanned : (b k : ℕ) (L x : ℤ) → Type 0
+Spanned b k L x = (L ≤ℤ x) × (x ≤ℤ (L +ℤ pos (b ^ k - 1)))
+
+module _ (p : ℕ) (t : List ℕ) where
+  -- the rows hold exactly where Q does and the n cells from the one called at are xs
+  pub record Tells (rows : List Row) (at n : ℕ) (Q : Type 0) (xs : List ℕ) : Type 0 where
+    pub count : length xs ≡ n
+    pub told : Hold p t rows ↔ (Q × (cellsAt t at n ≡ xs))
+
+  pub tells-group : (f : Form) {E F L x : ℤ} (at : ℕ) {b k : ℕ} → zero < p → at + k ≤ length t → Congruent p (eval t f) x
+      → DigitRule p b k E F L x → Tells (group f L at b k) at k (Spanned b k L x) (groupCells b k x L)
+  tells-group f {E} {F} {L} {x} at {b} {k} h room c rule =
+      let holds = group-holds p t f at h room c rule in
+      record {
+        count = length-group b k x L;
+        told = (λ e. let g = holds .0 e in ((g .0, g .1), g .2), λ e. holds .1 (e .0 .0, e .0 .1, e .1));
+      }
+
+  -- rows, and a group at the cells after theirs; what the rows say may serve for its digit rule
+  pub tells-more : {rows : List Row} {at n : ℕ} {Q : Type 0} {xs : List ℕ} → Tells rows at n Q xs
+      → (f : Form) {E F L x : ℤ} (next : ℕ) {b k : ℕ} (m : ℕ) → next ≡ at + n → m ≡ n + k → zero < p → at + m ≤ length t
+      → Congruent p (eval t f) x → (Q → DigitRule p b k E F L x)
+      → Tells (rows ++ group f L next b k) at m (Q × Spanned b k L x) (xs ++ groupCells b k x L)
+  tells-more {rows} {at} {n} {Q} {xs} before f {E} {F} {L} {x} next {b} {k} m place width h room c rule =
+      let all = hold-append p t rows (group f L next b k) in
+      let old = before .told in
+      record {
+        count = omega (arith, length-more xs b k x L, before .count);
+        told = (
+          λ e. let g = all .0 e in
+              let o = old .0 (g .0) in
+              let i = own (o .0) .told .0 (g .1) in
+              ((o .0, i .0), cells .1 (o .1, i .1)),
+          λ e. let i = cells .0 (e .1) in all .1 (old .1 (e .0 .0, i .0), own (e .0 .0) .told .1 (e .0 .1, i .1)),
+        );
+      }
+    where
+      own : Q → Tells (group f L next b k) next k (Spanned b k L x) (groupCells b k x L)
+      own q = tells-group f next h (omega arith) c (rule q)
+
+      cells : (cellsAt t at m ≡ xs ++ groupCells b k x L) ↔ ((cellsAt t at n ≡ xs) × (cellsAt t next k ≡ groupCells b k x L))
+      cells = rw (width, place) (append-iff t at n k xs (groupCells b k x L) (omega arith) (before .count))

@@ -92,6 +92,16 @@ below-at p [] i h k = absurd (omega arith)
 below-at p (x ∷ t) zero h k = h .0
 below-at p (x ∷ t) (suc i) h k = below-at p t i (h .1) (omega arith)
 
+-- beyond the end of a table a cell counts as 0
+pub below-any : (p : ℕ) (t : List ℕ) (i : ℕ) → zero < p → Below p t → getD t i 0 < p
+below-any p [] i h b = h
+below-any p (x ∷ t) zero h b = b .0
+below-any p (x ∷ t) (suc i) h b = below-any p t i h (b .1)
+
+pub below-append : (p : ℕ) (xs ys : List ℕ) → Below p xs → Below p ys → Below p (xs ++ ys)
+below-append p [] ys h k = k
+below-append p (x ∷ xs) ys h k = (h .0, below-append p xs ys (h .1) k)
+
 module _ (s : Known) (vs : List ℤ) (v : ℕ) (named : v < length (s .known)) where
   pub low-end : Within (s .known) vs → endsOf s v .E ≤ℤ valueAt vs v
   unfolding endsOf valueAt
@@ -138,7 +148,7 @@ pub record Law (p : ℕ) (s : Known) (g : Gadget) : Type 0 where
   pub cells-count : (vs : List ℤ) (next : ℤ) → length (g .cells vs next) ≡ g .width
   pub cells-below : (vs : List ℤ) (next : ℤ) → Within (s .known) vs → T (g .statement vs) → Below p (g .cells vs next)
   pub values-first : (vs : List ℤ) (next : ℤ) → take (length (g .made)) (g .cells vs next) ≡ map (remainder p) (g .values vs next)
-  pub input-first : (vs : List ℤ) (next : ℤ) → 1 ≤ g .inputs → getD (g .cells vs next) 0 0 ≡ remainder p next
+  pub input-first : (vs : List ℤ) (next : ℤ) → 1 ≤ g .inputs → take 1 (g .cells vs next) ≡ remainder p next ∷ []
   -- its rows
   pub rows-hold : (t : List ℕ) (vs : List ℤ) (next : ℤ) → Before p s g t vs → (1 ≤ g .inputs → next ≡ signed p (getD t (s .cells) 0))
       → Hold p t (g .rows) ↔ (T (g .statement vs) × (cellsAt t (s .cells) (g .width) ≡ g .cells vs next))

@@ -7,6 +7,10 @@ pub mod Group
 pub mod Law
 pub mod Gadget
 pub mod Kept
+pub mod Lines
+pub mod Induction
+pub mod Working
 pub mod Reading
 pub mod Rows
+pub mod TrueTables
 pub mod Desk

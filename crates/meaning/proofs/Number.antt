@@ -1,8 +1,8 @@
 -- The signed reading: over an odd prime p = 2M+1, the remainders below p and the whole numbers in -M..M are read as each other.
-use mathlib.Core.Path.{_≡_, refl, sym, ap, _∙_}
+use mathlib.Core.Path.{_≡_, refl, sym, ap, subst, _∙_}
 use mathlib.Core.Bool.{Bool, true, false, cond, not, _&&_}
 use mathlib.Core.List.{[], _∷_}
-use mathlib.Core.Logic.{_≢_}
+use mathlib.Core.Logic.{_≢_, _↔_}
 use Prim.Native.Nat.{ℕ, zero, suc, _+_, _-_, _*_, _/_, _%_, _≤_, _<_}
 use native.Mathlib.Omega.{arith}
 use native.Mathlib.Decide.{ℕ-discrete}
@@ -16,7 +16,8 @@ use Rattle.algebra.proofs.Test.{both, left, right, cond-cases, leZ-iff, leZ-fal
 use Rattle.algebra.proofs.Integer.Order.{minus}
 use Rattle.algebra.proofs.Integer.Linear.{linear}
 use Rattle.algebra.proofs.Integer.Ring.{var, lit, _⊕_, _⊖_, _⊗_, ring}
-use Rattle.algebra.proofs.Congruence.{congruent-≡, congruent-sym, congruent-trans, near-equal, congruent-remainder, remainder-below, remainder-unique}
+use Rattle.algebra.proofs.Congruence.{congruent-≡, congruent-sym, congruent-trans, near-equal}
+use Rattle.algebra.proofs.Congruence.{congruent-remainder, remainder-below, remainder-unique, residue-iff}
 use Rattle.algebra.proofs.Prime.{prime-by-trial, prime-no-remainder}
 use Rattle.meaning.specs.Number.{half, lowest, highest, between, inRange, signed, noDivisor, oddPrime}
 
@@ -62,6 +63,15 @@ module _ {p : ℕ} (P : OddPrime p) where
   unfolding inRange between
   range-high x t = record { le = right (leZ (lowest p) x) (leZ x (highest p)) t }
 
+  -- 0 and 1 lie in it
+  pub lowest-zero : lowest p ≤ℤ pos 0
+  unfolding lowest
+  lowest-zero = omega linear
+
+  pub one-highest : pos 1 ≤ℤ highest p
+  unfolding highest
+  one-highest = omega (linear, P .odd, P .three)
+
   -- two congruent numbers of the signed range are equal
   pub range-equal : {x y : ℤ} → Congruent p x y → T (inRange p x) → T (inRange p y) → x ≡ y
   unfolding lowest highest
@@ -93,3 +103,19 @@ module _ {p : ℕ} (P : OddPrime p) where
   signed-remainder x t = range-equal
       (congruent-trans (signed-congruent (remainder p x)) (congruent-sym (congruent-remainder p x positive)))
       (signed-range (remainder p x) (remainder-below p x positive)) t
+
+-- ---- what is told over whole numbers
+
+-- H is about a cell below p. Where H holds, the cell is congruent to a whole number of the kind A; and at each such number, H says S,
+-- that the number is y, and C of it. Then H says S, that the cell is the remainder of y, and C of y.
+pub told-by-number : {p : ℕ} (cell : ℕ) (H S : Type 0) (y : ℤ) (A C : ℤ → Type 0) → cell < p
+    → (H → (x : ℤ) × A x × Congruent p (pos cell) x) → (S → A y)
+    → ((x : ℤ) → A x → Congruent p (pos cell) x → H ↔ (S × (x ≡ y) × C x))
+    → H ↔ (S × (cell ≡ remainder p y) × C y)
+told-by-number {p} cell H S y A C below find kind tell =
+    let is = residue-iff p cell y below in (
+      λ h. let f = find h in
+          let r = tell (f .0) (f .1) (f .2) .0 h in
+          (r .0, is .0 (congruent-trans (f .2) (congruent-≡ (r .1))), subst C (r .1) (r .2)),
+      λ r. tell y (kind (r .0)) (is .1 (r .1)) .1 (r .0, refl, r .2),
+    )

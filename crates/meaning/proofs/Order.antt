@@ -53,3 +53,9 @@ module _ (a b : ℤ) where
   pub smaller-greatest : (c : ℤ) → c ≤ℤ a → c ≤ℤ b → c ≤ℤ smaller a b
   unfolding smaller
   smaller-greatest c h k = cond-cases (λ z. c ≤ℤ z) (leZ a b) a b (λ _. h) (λ _. k)
+
+pub larger-keeps : {a b c d : ℤ} → a ≤ℤ c → b ≤ℤ d → larger a b ≤ℤ larger c d
+larger-keeps {a} {b} {c} {d} h k =
+    let l = larger-left c d in
+    let r = larger-right c d in
+    larger-least a b (larger c d) (omega linear) (omega linear)

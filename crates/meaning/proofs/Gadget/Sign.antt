@@ -6,9 +6,9 @@ use mathlib.Core.List.{List, [], _∷_, _++_}
 use mathlib.Core.Logic.{_⊎_, inl, inr, ⊎-elim, _↔_, _≢_}
 use Prim.Native.Nat.{ℕ, zero, suc, _+_, _-_, _*_, _/_, _%_, _^_, _≤_, _<_}
 use native.Mathlib.Omega.{arith}
-use native.Mathlib.Nat.{mod-eq-of-lt, pow-succ'}
+use native.Mathlib.Nat.{mod-lt, mod-eq-of-lt, pow-succ', add-suc}
 use lib.Dec.{T, eqb}
-use lib.ListN.{length, getD, take, drop}
+use lib.ListN.{length, getD, take, drop, length-append}
 use lib.Seq.{getD-take, getD-drop}
 use lib.IntN.{ℤ, pos, negsuc, negℤ, natAbs, _+ℤ_, _-ℤ_, _*ℤ_}
 use lib.Signed.{_≤ℤ_, _<ℤ_}
@@ -19,28 +19,24 @@ use Rattle.algebra.proofs.Test.{cond-cases, eqb-iff, eqb-false, decide, test-�
 use Rattle.algebra.proofs.Integer.Order.{positivePart, negativePart, negativePart-zero, natAbs-parts, subℕ-parts, plus, minus, positivePart-negation, negativePart-negation, integer}
 use Rattle.algebra.proofs.Integer.Linear.{linear}
 use Rattle.algebra.proofs.Integer.Ring.{var, lit, _⊕_ as _⊞_, _⊖_ as _⊟_, _⊗_ as _⊠_, ring}
-use Rattle.algebra.proofs.Congruence.{
-  congruent-≡,
-  congruent-refl,
-  congruent-sym,
-  congruent-trans,
-  congruent--,
-  congruent-*,
-  combination1,
-  combination2,
-  near-equal,
-  residue-unique,
-  congruent-remainder,
-  remainder-below,
-  remainder-iff,
-  remainder-of-residue,
-}
+use Rattle.algebra.proofs.Congruence.{congruent-≡, congruent-refl, congruent-sym, congruent-trans, congruent-*, combination2, residue-unique}
+use Rattle.algebra.proofs.Congruence.{congruent-of-difference, difference-congruent, congruent-remainder}
+use Rattle.algebra.proofs.Congruence.{remainder-below, remainder-iff, remainder-of-residue}
 use Rattle.algebra.proofs.Prime.{euclid-integers, congruent-zero-iff, inverse-below, inverse-is, inverse-unique}
-use Rattle.algebra.proofs.Digits.{power-positive, digit-at, top-digit, top-digit-full, DigitRule}
-use Rattle.meaning.specs.Known.{topPart}
+use Rattle.algebra.proofs.Digits.{power-positive, base-below-power, digit-at, top-digit, top-digit-full, DigitRule}
+use Rattle.meaning.specs.Number.{lowest, highest}
+use Rattle.meaning.specs.Known.{Known, Ends, topPart, digitRule}
+use Rattle.meaning.specs.Gadget.Interface.{Gadget}
 use Rattle.meaning.specs.Gadget.Sign.{signShift, signStatement, signRows, signTop, signCells}
 use Rattle.meaning.proofs.Number.{OddPrime, positive}
+use Rattle.meaning.specs.Row.{Form, cell, constant, _⊖_, _⊗_, eval, Row, _≅_, holds, group}
+use Rattle.meaning.specs.Gadget.Digits.{groupCells}
 use Rattle.meaning.proofs.Order.{between-iff}
+use Rattle.meaning.proofs.Cells.{cellsAt, cons-iff, append-iff, cellsAt-zero}
+use Rattle.meaning.proofs.Hold.{Hold, hold-append, row-holds}
+use Rattle.meaning.proofs.Group.{group-holds, rule-kept, rule-power, length-group, group-below}
+use Rattle.meaning.proofs.Law.{Within, InCells, Ranged, below-at, below-append, Law}
+use Rattle.meaning.proofs.Gadget.Made.{maker, made-law}
 
 -- ---- f and w
 
@@ -172,3 +168,174 @@ module _ (b j : ℕ) (base : 2 ≤ b) where
           λ e. let h = full .0 e in omega (linear, n-is, top),
           λ h. full .1 (omega (linear, n-is, top)),
         )
+
+    -- t is 0 modulo p exactly where x is not negative
+    pub top-zero : (p : ℕ) → b ≤ p → (signTop p b k x ≡ 0) ↔ (pos 0 ≤ℤ x)
+    unfolding signTop
+    top-zero p h =
+        let d : ℕ = n / b ^ (k - 1) % b in
+        let small : d < b = mod-lt (n / b ^ (k - 1)) (omega arith) in
+        let zero-is = remainder-iff p (pos d -ℤ pos (b - 1)) (pos 0) (omega arith) in
+        let none = remainder-of-residue p 0 (omega arith) in (
+          λ e. top-full .0 (residue-unique (congruent-of-difference (pos d) (pos (b - 1)) (zero-is .1 (e ∙ sym none))) (omega arith) (omega arith)),
+          λ l. zero-is .0 (difference-congruent (congruent-≡ (ap pos (top-full .1 l)))) ∙ none,
+        )
+
+-- ---- the rows and the cells
+
+-- f says whether x is not negative
+abbrev pub Flag : ℤ → ℕ → Type 0
+Flag x f = ((f ≡ 1) × (pos 0 ≤ℤ x)) ⊎ ((f ≡ 0) × (x <ℤ pos 0))
+
+module _ {p : ℕ} (P : OddPrime p) (t : List ℕ) (below : Below p t) (form : Form) (x : ℤ) (same : Congruent p (eval t form) x)
+    (at b j : ℕ) (base : 2 ≤ b) (room : at + (suc j + 2) ≤ length t) (E F : ℤ) (rule : DigitRule p b (suc j) E F (signShift b (suc j)) x) where
+  abbrev k′ : ℕ
+  k′ = suc j
+
+  -- the cells of the top digit, f and w
+  abbrev top : ℕ
+  top = getD t (at + (k′ - 1)) 0
+
+  abbrev flag : ℕ
+  flag = getD t (at + k′) 0
+
+  abbrev witness : ℕ
+  witness = getD t (at + suc k′) 0
+
+  top-cell : cellsAt t at k′ ≡ groupCells b k′ x (signShift b k′) → remainder p (pos top -ℤ pos (b - 1)) ≡ signTop p b k′ x
+  unfolding signTop groupCells cellsAt
+  top-cell e =
+      let cell-is : getD (take k′ (drop at t)) j 0 ≡ getD t (at + j) 0 = getD-take k′ (drop at t) j 0 (omega arith) ∙ getD-drop at t j 0 in
+      let digit-is = digit-at b k′ (natAbs (x -ℤ signShift b k′)) j (omega arith) in
+      rw (one-less j) (ap (λ (d : ℕ). remainder p (pos d -ℤ pos (b - 1))) (sym cell-is ∙ ap (λ (l : List ℕ). getD l j 0) e ∙ digit-is))
+
+  -- the three rows about t, as congruences
+  abbrev flags : List Row
+  flags = (cell (at + (k′ - 1)) ⊖ constant (pos (b - 1))) ⊗ cell (at + suc k′) ≅ constant (pos 1) ⊖ cell (at + k′)
+      ∷ (cell (at + (k′ - 1)) ⊖ constant (pos (b - 1))) ⊗ cell (at + k′) ≅ constant (pos 0)
+      ∷ cell (at + suc k′) ⊗ cell (at + k′) ≅ constant (pos 0) ∷ []
+
+  flags-hold : Hold p t flags ↔ ((flag ≡ cond (eqb (remainder p (pos top -ℤ pos (b - 1))) 0) 1 0)
+      × (witness ≡ cond (eqb (remainder p (pos top -ℤ pos (b - 1))) 0) 0 (inverse p (remainder p (pos top -ℤ pos (b - 1))))))
+  unfolding eval
+  flags-hold =
+      let τ : Form = cell (at + (k′ - 1)) ⊖ constant (pos (b - 1)) in
+      let f : Form = cell (at + k′) in
+      let w : Form = cell (at + suc k′) in
+      let first = row-holds p t (τ ⊗ w) (constant (pos 1) ⊖ f) (positive P) in
+      let second = row-holds p t (τ ⊗ f) (constant (pos 0)) (positive P) in
+      let third = row-holds p t (w ⊗ f) (constant (pos 0)) (positive P) in
+      let rows = flag-rows P (pos top -ℤ pos (b - 1)) flag witness
+      (below-at p t (at + k′) below (omega arith)) (below-at p t (at + suc k′) below (omega arith)) in (
+        λ h. rows .0 (first .0 (h .0), second .0 (h .1 .0), third .0 (h .1 .1 .0)),
+        λ h. let r = rows .1 h in (first .1 (r .0), (second .1 (r .1), (third .1 (r .2), tt))),
+      )
+
+  -- the stretch of the group, f and w, part by part
+  stretch-iff : (ds : List ℕ) (f w : ℕ) → length ds ≡ k′
+      → (cellsAt t at (k′ + 2) ≡ ds ++ f ∷ w ∷ []) ↔ ((cellsAt t at k′ ≡ ds) × (flag ≡ f) × (witness ≡ w))
+  stretch-iff ds f w l =
+      let parts = append-iff t at k′ 2 ds (f ∷ w ∷ []) (omega arith) l in
+      let first = cons-iff t (at + k′) 1 f (w ∷ []) (omega arith) in
+      let second = cons-iff t (suc (at + k′)) 0 w [] (omega arith) in
+      rw (add-suc at k′) (
+        λ e. let a = parts .0 e in let c = first .0 (a .1) in (a .0, c .0, second .0 (c .1) .0),
+        λ e. parts .1 (e .0, first .1 (e .1, second .1 (e .2, cellsAt-zero t (suc (suc (at + k′)))))),
+      )
+
+  pub sign-holds : (last : Form → Row) → Hold p t (signRows form at b k′ last)
+      ↔ (T (signStatement b k′ x) × (cellsAt t at (k′ + 2) ≡ signCells p b k′ x) × T (holds p t (last (cell (at + k′)))))
+  unfolding signRows signCells
+  sign-holds last =
+      let split = hold-append p t (group form (signShift b k′) at b k′) (flags ++ last (cell (at + k′)) ∷ []) in
+      let tail = hold-append p t flags (last (cell (at + k′)) ∷ []) in
+      let digits-are = group-holds p t form at (positive P) (omega arith) same rule in
+      let statement = statement-iff b j base x in
+      let cells = stretch-iff (groupCells b k′ x (signShift b k′)) _ _ (length-group b k′ x (signShift b k′)) in (
+        λ h.
+            let a = split .0 h in
+            let g = digits-are .0 (a .0) in
+            let c = tail .0 (a .1) in
+            let f = rw (top-cell (g .2)) at (flags-hold .0 (c .0)) in
+            (statement .1 (g .0, g .1), cells .1 (g .2, f .0, f .1), c .1 .0),
+        λ h.
+            let c = cells .0 (h .1) in
+            let s = statement .0 (h .0) in
+            let f = flags-hold .1 (rw (top-cell (c .0)) (c .1, c .2)) in
+            split .1 (digits-are .1 (s .0, s .1, c .0), tail .1 (f, (h .2, tt))),
+      )
+
+  -- f is 1 where x is not negative, and 0 elsewhere
+  pub sign-flag : T (signStatement b k′ x) → cellsAt t at (k′ + 2) ≡ signCells p b k′ x → Flag x flag
+  unfolding signCells
+  sign-flag s e =
+      let z = top-zero b j base x s p (omega (arith, base-below-power b k′ (omega arith) (omega arith), rule .power-fits)) in
+      let c = stretch-iff (groupCells b k′ x (signShift b k′)) _ _ (length-group b k′ x (signShift b k′)) .0 e in
+      rw (c .1) (cond-cases (Flag x) (eqb (signTop p b k′ x) 0) 1 0
+      (λ q. inl (refl, z .0 (eqb-iff (signTop p b k′ x) 0 .0 q)))
+      (λ q. inr (refl, not-zero (λ h. eqb-false (signTop p b k′ x) 0 q (z .1 h)))))
+    where
+      not-zero : ¬ (pos 0 ≤ℤ x) → x <ℤ pos 0
+      not-zero h = ⊎-elim (λ l. absurd (h l)) (λ l. l) (order (pos 0) x)
+
+-- ---- the law of a line that has such a group over x and ties its value to f by the last row
+
+pub record Signs (s : Known) (b k : ℕ) (form : Form) (x : List ℤ → ℤ) (es made : Ends) (last : Form → Row) (value : List ℤ → ℤ) : Type 0 where
+  pub congruent : (t : List ℕ) (vs : List ℤ) → Within (s .known) vs → InCells (s .p) t (s .places) vs → Congruent (s .p) (eval t form) (x vs)
+  pub low : (vs : List ℤ) → Within (s .known) vs → es .E ≤ℤ x vs
+  pub high : (vs : List ℤ) → Within (s .known) vs → x vs ≤ℤ es .F
+  pub allowed : T (digitRule (s .p) b k es (signShift b k))
+  pub made-low-range : lowest (s .p) ≤ℤ made .E
+  pub made-high-range : made .F ≤ℤ highest (s .p)
+  pub made-low : (vs : List ℤ) → Within (s .known) vs → made .E ≤ℤ value vs
+  pub made-high : (vs : List ℤ) → Within (s .known) vs → value vs ≤ℤ made .F
+  pub last-row : (t : List ℕ) (vs : List ℤ) (f : ℕ) → Within (s .known) vs → InCells (s .p) t (s .places) vs
+      → getD t (s .cells) 0 < s .p → Flag (x vs) (getD t f 0)
+      → T (holds (s .p) t (last (cell f))) ↔ (getD t (s .cells) 0 ≡ remainder (s .p) (value vs))
+
+module _ (s : Known) (P : OddPrime (s .p)) (r : Ranged (s .p) (s .known)) (b j : ℕ) (base : 2 ≤ b)
+    (form : Form) (x : List ℤ → ℤ) (es made : Ends) (last : Form → Row) (value : List ℤ → ℤ) (own : Signs s b (suc j) form x es made last value) where
+  abbrev pub signMaker : Gadget
+  signMaker = maker s (digitRule (s .p) b (suc j) es (signShift b (suc j))) true true made (suc j + 3) (suc j + 2)
+      (signRows form (suc (s .cells)) b (suc j) last) (λ vs. signStatement b (suc j) (x vs)) value (λ vs. signCells (s .p) b (suc j) (x vs)) (s .p)
+
+  cells-count : (y : ℤ) → length (signCells (s .p) b (suc j) y) ≡ suc j + 2
+  unfolding signCells
+  cells-count y = length-append (groupCells b (suc j) y (signShift b (suc j))) (_ ∷ _ ∷ []) ∙ rw (length-group b (suc j) y (signShift b (suc j))) refl
+
+  cells-below : (y : ℤ) → Below (s .p) (signCells (s .p) b (suc j) y)
+  unfolding signCells
+  cells-below y =
+      let t : ℕ = signTop (s .p) b (suc j) y in
+      below-append (s .p) (groupCells b (suc j) y (signShift b (suc j))) (_ ∷ _ ∷ [])
+      (group-below (s .p) b (suc j) y (signShift b (suc j)) (omega arith) (rule-power (s .p) b (suc j) es (signShift b (suc j)) (own .allowed))) (
+        cond-cases (λ z. z < s .p) (eqb t 0) 1 0 (λ _. omega (arith, P .three)) (λ _. positive P),
+        (cond-cases (λ z. z < s .p) (eqb t 0) 0 (inverse (s .p) t) (λ _. positive P) (λ _. inverse-below (s .p) t (positive P)), tt),
+      )
+
+  pub sign-law : Law (s .p) s signMaker
+  sign-law = made-law s (digitRule (s .p) b (suc j) es (signShift b (suc j))) true true made (suc j + 3) (suc j + 2)
+      (signRows form (suc (s .cells)) b (suc j) last) (λ vs. signStatement b (suc j) (x vs)) value (λ vs. signCells (s .p) b (suc j) (x vs)) (s .p) r
+      (record {
+        positive = positive P;
+        width-is = omega arith;
+        low-range = own .made-low-range;
+        high-range = own .made-high-range;
+        low = λ vs w u. own .made-low vs w;
+        high = λ vs w u. own .made-high vs w;
+        others-count = λ vs. cells-count (x vs);
+        others-below = λ vs w u. cells-below (x vs);
+        hold = λ t vs room c.
+            let p : ℕ = s .p in
+            let at : ℕ = suc (s .cells) in
+            let same = own .congruent t vs (c .within) (c .in-cells) in
+            let rule = rule-kept p b (suc j) es (signShift b (suc j)) (x vs) (omega arith) (own .allowed)
+            (own .low vs (c .within)) (own .high vs (c .within)) in
+            let rows = sign-holds P t (c .below) form (x vs) same at b j base room (es .E) (es .F) rule last in
+            let flag-is = sign-flag P t (c .below) form (x vs) same at b j base room (es .E) (es .F) rule in
+            let y-below = below-at p t (s .cells) (c .below) (omega arith) in
+            let tie = own .last-row t vs (at + suc j) (c .within) (c .in-cells) y-below in (
+              λ h. let k = rows .0 h in (k .0, tie (flag-is (k .0) (k .1)) .0 (k .2), k .1),
+              λ h. rows .1 (h .0, h .2, tie (flag-is (h .0) (h .2)) .1 (h .1)),
+            );
+      })
