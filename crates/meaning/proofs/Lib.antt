@@ -14,3 +14,5 @@ pub mod Reading
 pub mod Rows
 pub mod TrueTables
 pub mod Desk
+pub mod NotEmpty
+pub mod WorkedTables

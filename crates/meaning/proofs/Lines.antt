@@ -95,7 +95,7 @@ unfolding isPlaced isField
 first-line zero t = refl
 first-line (suc n) t = absurd t
 
-field-or-not : (w : Word) (p : ℕ) (ns : List ℤ) → (w ≡ field) ⊎ ((isField w ≡ false) × (primeAfter w p ns ≡ p))
+pub field-or-not : (w : Word) (p : ℕ) (ns : List ℤ) → (w ≡ field) ⊎ ((isField w ≡ false) × (primeAfter w p ns ≡ p))
 unfolding isField primeAfter
 field-or-not field p ns = inl refl
 field-or-not input p ns = inr (refl, refl)

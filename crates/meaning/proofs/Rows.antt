@@ -14,7 +14,7 @@ use Rattle.meaning.specs.Known.{Known, fresh}
 use Rattle.meaning.specs.Row.{among, holds}
 use Rattle.meaning.specs.Meaning.{gadget, after}
 use Rattle.meaning.specs.Refusal.{onSome, read, onReading, reading}
-use Rattle.meaning.specs.Reply.{Reply, reply, firstFail, rowsFrom, rowsOf, checked, checkReply}
+use Rattle.meaning.specs.Reply.{Reply, reply, firstFail, isCell, rowsFrom, rowsOf, checked, checkReply}
 use Rattle.meaning.specs.Claims.{WellFormed, Holds, ChecksRows}
 use Rattle.meaning.proofs.Lists.{FirstFails, all-pass, first-fails-at}
 use Rattle.meaning.proofs.Kept.{Kept}
@@ -64,13 +64,15 @@ module _ (s : Known) (ls : List Line) (t : List ℕ) where
   firstRow = firstFail (holds (s .p) t) 0 (rowsOf ls)
 
   abbrev firstCell : Option ℕ
-  firstCell = firstFail (λ c. ltb c (s .p)) 0 t
+  firstCell = firstFail (isCell (s .p)) 0 t
 
   cells-pass : WellFormed s t → firstCell ≡ none
-  cells-pass w = all-pass (λ c. ltb c (s .p)) 0 0 t .1 (λ i h. ltb-iff (getD t i 0) (s .p) .1 (w .below i h))
+  unfolding isCell
+  cells-pass w = all-pass (isCell (s .p)) 0 0 t .1 (λ i h. ltb-iff (getD t i 0) (s .p) .1 (w .below i h))
 
   cells-below : firstCell ≡ none → (i : ℕ) → i < length t → getD t i 0 < s .p
-  cells-below e i h = ltb-iff (getD t i 0) (s .p) .0 (all-pass (λ c. ltb c (s .p)) 0 0 t .0 e i h)
+  unfolding isCell
+  cells-below e i h = ltb-iff (getD t i 0) (s .p) .0 (all-pass (isCell (s .p)) 0 0 t .0 e i h)
 
   -- a well formed table is left to its rows
   checked-by-rows : WellFormed s t → checked s ls t ≡ byRow firstRow

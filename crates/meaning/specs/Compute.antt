@@ -21,8 +21,10 @@ use Rattle.meaning.specs.Gadget.Root.{rootValue, rootLine}
 use Rattle.meaning.specs.Meaning.{byWord, gadget, primeAfter, placesFrom, after}
 use Rattle.meaning.specs.Refusal.{textLimit, valueLimit, cellLimit, all, onSome, isField, isPlaced, isOverPrime, isDigits, isRanged, isMade, rulesWithin, rules, firstBroken, onReading, consLine, readLine, readFrom, readingBy, reading}
 use Rattle.meaning.specs.Work.{withCells, workFrom, work}
-use Rattle.meaning.specs.Reply.{readReply, firstFail, rowsFrom, rowsOf, checked, checkReply, filled, made, makeReply, stretch, shown}
+use Rattle.meaning.specs.Reply.{readReply, firstFail, rowsFrom, rowsOf, isCell, checked, checkReply, filled, made, makeReply, stretch, shown}
 use Rattle.meaning.specs.Program.{tabbed, refusalText, cellsText, tableText, makingText, consPart, partsOf, joined, isSome, orNone, answerParts, onParts, respond}
+use Rattle.meaning.specs.Claims.{valuesOf, signedAt}
+use Rattle.meaning.specs.Examples.{numbersText, listText, columnText, inputText, sameReply, sameAnswer, sameValues, making-of, values-of, isRight, allRight, examples}
 
 -- remainders, digits, roots and the signed range
 unfoldable pub computing-numbers : Unit {0}
@@ -46,9 +48,14 @@ computing-gadgets = tt
 
 -- reading, working, the replies and the program
 unfoldable pub computing-replies : Unit {0}
-unfolding textLimit valueLimit cellLimit all onSome isField isPlaced isOverPrime isDigits isRanged isMade rulesWithin rules firstBroken onReading consLine readLine readFrom readingBy reading withCells workFrom work readReply firstFail rowsFrom rowsOf checked checkReply filled made makeReply stretch shown tabbed refusalText cellsText tableText makingText consPart partsOf joined isSome orNone answerParts onParts respond
+unfolding textLimit valueLimit cellLimit all onSome isField isPlaced isOverPrime isDigits isRanged isMade rulesWithin rules firstBroken onReading consLine readLine readFrom readingBy reading withCells workFrom work readReply firstFail rowsFrom rowsOf isCell checked checkReply filled made makeReply stretch shown tabbed refusalText cellsText tableText makingText consPart partsOf joined isSome orNone answerParts onParts respond
 computing-replies = tt
 
+-- the rows of the worked tables
+unfoldable pub computing-examples : Unit {0}
+unfolding valuesOf signedAt numbersText listText columnText inputText sameReply sameAnswer sameValues making-of values-of isRight allRight examples
+computing-examples = tt
+
 unfoldable pub computing : Unit {0}
-unfolding computing-numbers computing-lines computing-rows computing-gadgets computing-replies
+unfolding computing-numbers computing-lines computing-rows computing-gadgets computing-replies computing-examples
 computing = tt

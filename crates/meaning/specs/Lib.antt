@@ -11,5 +11,5 @@ pub mod Reply
 pub mod Desk
 pub mod Program
 pub mod Claims
-pub mod Compute
 pub mod Examples
+pub mod Compute

@@ -48,11 +48,15 @@ rowsFrom s (l ∷ ls) = gadget s l .rows ++ rowsFrom (after s l) ls
 unfoldable pub rowsOf : List Line → List Row
 rowsOf ls = rowsFrom fresh ls
 
+-- "A cell holds a remainder from 0 to p-1"
+unfoldable pub isCell : (p cell : ℕ) → Bool
+isCell p cell = ltb cell p
+
 -- "tests all cells, then rows in order"
 unfoldable pub checked : Known → List Line → List ℕ → Reply
 checked s ls t =
     cond (eqb (length t) (s .cells))
-    (onSome (firstFail (λ c. ltb c (s .p)) 0 t) (reply 14) (onSome (firstFail (holds (s .p) t) 0 (rowsOf ls)) (reply 15) (reply 0 0)))
+    (onSome (firstFail (isCell (s .p)) 0 t) (reply 14) (onSome (firstFail (holds (s .p) t) 0 (rowsOf ls)) (reply 15) (reply 0 0)))
     (reply 13 0)
 
 unfoldable pub checkReply : (list table : List ℕ) → Reply

@@ -39,13 +39,20 @@ value-high u v = cond-cases (λ z. z ≤ℤ pos 1) (leZ v u) (pos 0) (pos 1) (λ
 
 module _ (s : Known) (P : OddPrime (s .p)) (r : Ranged (s .p) (s .known)) (u v b : ℕ)
     (u-named : u < length (s .known)) (v-named : v < length (s .known)) (base : 2 ≤ b) where
-  law-suc : (j : ℕ) → T (whichLine s u v b (suc j) .unambiguous) → Law (s .p) s (whichLine s u v b (suc j))
+  abbrev x : List ℤ → ℤ
+  x vs = valueAt vs u -ℤ valueAt vs v
+
+  abbrev last-row-of : Form → Row
+  last-row-of f = cell (s .cells) ≅ constant (pos 1) ⊖ f
+
+  -- what is the line's own, for a line whose value is that of u and v
+  signs : (k : ℕ) (value : List ℤ → ℤ) → ((vs : List ℤ) → value vs ≡ whichValue (valueAt vs u) (valueAt vs v))
+      → T (whichLine s u v b k .unambiguous)
+      → Signs s b k (cell (placeOf s u) ⊖ cell (placeOf s v)) x (apart (endsOf s u) (endsOf s v)) (ends (pos 0) (pos 1)) last-row-of value
   unfolding whichLine eval apart
-  law-suc j allowed =
+  signs k value is allowed =
       let p : ℕ = s .p in
-      let last : Form → Row = λ f. cell (s .cells) ≅ constant (pos 1) ⊖ f in
-      sign-law s P r b j base (cell (placeOf s u) ⊖ cell (placeOf s v)) (λ vs. valueAt vs u -ℤ valueAt vs v)
-      (apart (endsOf s u) (endsOf s v)) (ends (pos 0) (pos 1)) last (λ vs. whichValue (valueAt vs u) (valueAt vs v)) (record {
+      record {
         congruent = λ t vs w c.
             congruent-- (value-congruent s vs u u-named p t (positive P) w c) (value-congruent s vs v v-named p t (positive P) w c);
         low = λ vs w. let a = low-end s vs u u-named w in let c = high-end s vs v v-named w in omega linear;
@@ -53,17 +60,21 @@ module _ (s : Known) (P : OddPrime (s .p)) (r : Ranged (s .p) (s .known)) (u v b
         allowed = allowed;
         made-low-range = lowest-zero P;
         made-high-range = one-highest P;
-        made-low = λ vs w. value-low (valueAt vs u) (valueAt vs v);
-        made-high = λ vs w. value-high (valueAt vs u) (valueAt vs v);
+        made-low = λ vs w. rw (is vs) (value-low (valueAt vs u) (valueAt vs v));
+        made-high = λ vs w. rw (is vs) (value-high (valueAt vs u) (valueAt vs v));
         last-row = λ t vs f w c below flag.
-            let y : ℤ = whichValue (valueAt vs u) (valueAt vs v) in
             let row = row-holds p t (cell (s .cells)) (constant (pos 1) ⊖ cell f) (positive P) in
-            let is = residue-iff p (getD t (s .cells) 0) y below in
-            let value-is = flag-value (valueAt vs u) (valueAt vs v) (getD t f 0) flag in (
-              λ h. is .0 (congruent-trans (row .0 h) (congruent-≡ value-is)),
-              λ e. row .1 (congruent-trans (is .1 e) (congruent-≡ (sym value-is))),
+            let cell-is = residue-iff p (getD t (s .cells) 0) (value vs) below in
+            let value-is : pos 1 -ℤ pos (getD t f 0) ≡ value vs = flag-value (valueAt vs u) (valueAt vs v) (getD t f 0) flag ∙ sym (is vs) in (
+              λ h. cell-is .0 (congruent-trans (row .0 h) (congruent-≡ value-is)),
+              λ e. row .1 (congruent-trans (cell-is .1 e) (congruent-≡ (sym value-is))),
             );
-      })
+      }
+
+  law-suc : (j : ℕ) → T (whichLine s u v b (suc j) .unambiguous) → Law (s .p) s (whichLine s u v b (suc j))
+  unfolding whichLine
+  law-suc j allowed = sign-law s P r b j base (cell (placeOf s u) ⊖ cell (placeOf s v)) x (apart (endsOf s u) (endsOf s v)) (ends (pos 0) (pos 1))
+      last-row-of _ (signs (suc j) _ (λ vs. refl) allowed)
 
   pub which-law : (k : ℕ) → 1 ≤ k → T (whichLine s u v b k .unambiguous) → Law (s .p) s (whichLine s u v b k)
   which-law zero h u = absurd (omega arith)

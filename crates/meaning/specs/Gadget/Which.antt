@@ -1,7 +1,7 @@
 -- `which u v b k`: "-B ≤ u-v ≤ b^(k-1)-1; the value is 0 where u ≥ v, else 1". "As relu over u-v", last row y ≡ 1-f.
 use Prim.Native.Nat.{ℕ, suc, _+_}
 use mathlib.Core.Bool.{true, cond}
-use mathlib.Core.List.{[], _∷_}
+use mathlib.Core.List.{List, [], _∷_}
 use lib.IntN.{ℤ, pos, _-ℤ_}
 use lib.Signed.{leZ}
 use Rattle.meaning.specs.Number.{remainder}
@@ -15,17 +15,18 @@ unfoldable pub whichValue : (u v : ℤ) → ℤ
 whichValue u v = cond (leZ v u) (pos 0) (pos 1)
 
 unfoldable pub whichLine : Known → (u v b k : ℕ) → Gadget
-whichLine s u v b k = record {
-  unambiguous = digitRule (s .p) b k (apart (endsOf s u) (endsOf s v)) (signShift b k);
-  fits = true;
-  overlaps = true;
-  narrowed = s .known;
-  made = ends (pos 0) (pos 1) ∷ [];
-  width = k + 3;
-  inputs = 0;
-  rows = signRows (cell (placeOf s u) ⊖ cell (placeOf s v)) (suc (s .cells)) b k (λ f. cell (s .cells) ≅ constant (pos 1) ⊖ f);
-  statement = λ vs. signStatement b k (valueAt vs u -ℤ valueAt vs v);
-  values = λ vs next. whichValue (valueAt vs u) (valueAt vs v) ∷ [];
-  cells = λ vs next.
-      remainder (s .p) (whichValue (valueAt vs u) (valueAt vs v)) ∷ signCells (s .p) b k (valueAt vs u -ℤ valueAt vs v);
-}
+whichLine s u v b k =
+    let y : List ℤ → ℤ = λ vs. whichValue (valueAt vs u) (valueAt vs v) in
+    record {
+      unambiguous = digitRule (s .p) b k (apart (endsOf s u) (endsOf s v)) (signShift b k);
+      fits = true;
+      overlaps = true;
+      narrowed = s .known;
+      made = ends (pos 0) (pos 1) ∷ [];
+      width = k + 3;
+      inputs = 0;
+      rows = signRows (cell (placeOf s u) ⊖ cell (placeOf s v)) (suc (s .cells)) b k (λ f. cell (s .cells) ≅ constant (pos 1) ⊖ f);
+      statement = λ vs. signStatement b k (valueAt vs u -ℤ valueAt vs v);
+      values = λ vs next. y vs ∷ [];
+      cells = λ vs next. remainder (s .p) (y vs) ∷ signCells (s .p) b k (valueAt vs u -ℤ valueAt vs v);
+    }
