@@ -1,0 +1,83 @@
+-- Bounds on the absolute value: each operation computes the bound of its result, and a bound below 2 ^ 63 is that the result fits.
+-- `search (needs, sum-fits)` shows what `whole_sum` asks of two bounded numbers, and so for the other operations.
+use mathlib.Core.Path.{_≡_, refl}
+use mathlib.Core.Logic.{_⊎_, inl, inr, ⊎-elim}
+use Prim.Native.Nat.{ℕ, zero, _+_, _*_, _^_, _≤_, _<_}
+use native.Mathlib.Omega.{arith}
+use native.Mathlib.Nat.{mul-le-mul}
+use lib.Dec.{T, ltb, ltb→lt}
+use lib.IntN.{ℤ, pos, negsuc, negℤ, _+ℤ_, _-ℤ_, _*ℤ_}
+use lib.Signed.{_≤ℤ_, leZ}
+use mir.Syntax.{w64}
+use mir.Val.{SFits}
+use Rattle.meaning.specs.Number.{half, highest, signed}
+use Rattle.algebra.proofs.Test.{cond-cases, leZ-iff, leZ-false}
+use Rattle.algebra.proofs.Integer.Order.{positivePart, negativePart, natAbs-parts, plus, minus, positivePart-negation, negativePart-negation}
+use Rattle.algebra.proofs.Integer.Linear.{linear}
+use Rattle.algebra.proofs.Prime.{natAbs-*}
+use Rattle.number.specs.Bounded.{Bounded}
+use Rattle.number.proofs.Word.{parts-fit}
+
+-- one of the two parts of an integer is 0
+one-part : (z : ℤ) → (positivePart z ≡ zero) ⊎ (negativePart z ≡ zero)
+one-part (pos n) = inr refl
+one-part (negsuc n) = inl refl
+
+by-parts : {bound : ℕ} (z : ℤ) → positivePart z ≤ negativePart z + bound → negativePart z ≤ positivePart z + bound → Bounded bound z
+by-parts z h k = record { size = ⊎-elim (λ e. omega (arith, natAbs-parts z)) (λ e. omega (arith, natAbs-parts z)) (one-part z) }
+
+pub bounded-range : {bound : ℕ} (z : ℤ) → negℤ (pos bound) ≤ℤ z → z ≤ℤ pos bound → Bounded bound z
+bounded-range z h k = by-parts z (omega linear) (omega linear)
+
+pub range-bounded : {bound : ℕ} {z : ℤ} → Bounded bound z → (negℤ (pos bound) ≤ℤ z) × (z ≤ℤ pos bound)
+range-bounded {bound} {z} s = let e = natAbs-parts z in let l = s .size in (omega linear, omega linear)
+
+pub bounded-more : {less more : ℕ} {z : ℤ} → Bounded less z → less ≤ more → Bounded more z
+bounded-more s h = record { size = omega (arith, s .size) }
+
+-- ---- the operations
+
+pub bounded-negation : {A : ℕ} {a : ℤ} → Bounded A a → Bounded A (negℤ a)
+bounded-negation {A} {a} s =
+    by-parts (negℤ a) (omega (arith, s .size, natAbs-parts a, positivePart-negation a, negativePart-negation a))
+    (omega (arith, s .size, natAbs-parts a, positivePart-negation a, negativePart-negation a))
+
+module _ {A B : ℕ} {a b : ℤ} where
+  pub bounded-sum : Bounded A a → Bounded B b → Bounded (A + B) (a +ℤ b)
+  bounded-sum s t =
+      by-parts (a +ℤ b) (omega (arith, s .size, t .size, natAbs-parts a, natAbs-parts b, plus a b))
+      (omega (arith, s .size, t .size, natAbs-parts a, natAbs-parts b, plus a b))
+
+  pub bounded-difference : Bounded A a → Bounded B b → Bounded (A + B) (a -ℤ b)
+  bounded-difference s t =
+      by-parts (a -ℤ b) (omega (arith, s .size, t .size, natAbs-parts a, natAbs-parts b, minus a b))
+      (omega (arith, s .size, t .size, natAbs-parts a, natAbs-parts b, minus a b))
+
+  pub bounded-product : Bounded A a → Bounded B b → Bounded (A * B) (a *ℤ b)
+  bounded-product s t = record { size = rw (natAbs-* a b) (mul-le-mul (s .size) (t .size)) }
+
+-- ---- what fits
+
+pub bounded-fits : (bound : ℕ) {z : ℤ} → Bounded bound z → T (ltb bound (2 ^ 63)) → SFits w64 z
+bounded-fits bound {z} s t =
+    let l : bound < 2 ^ 63 = ltb→lt bound (2 ^ 63) t in
+    parts-fit z (omega (arith, s .size, natAbs-parts z)) (omega (arith, s .size, natAbs-parts z))
+
+module _ {A B : ℕ} (a b : ℤ) where
+  pub sum-fits : Bounded A a → Bounded B b → T (ltb (A + B) (2 ^ 63)) → SFits w64 (a +ℤ b)
+  sum-fits s t l = bounded-fits (A + B) (bounded-sum s t) l
+
+  pub difference-fits : Bounded A a → Bounded B b → T (ltb (A + B) (2 ^ 63)) → SFits w64 (a -ℤ b)
+  difference-fits s t l = bounded-fits (A + B) (bounded-difference s t) l
+
+  pub product-fits : Bounded A a → Bounded B b → T (ltb (A * B) (2 ^ 63)) → SFits w64 (a *ℤ b)
+  product-fits s t l = bounded-fits (A * B) (bounded-product s t) l
+
+-- ---- the signed reading of a remainder, for every p that a u32 holds
+
+pub signed-bounded : (p cell : ℕ) → cell < p → p < 2 ^ 32 → Bounded (2 ^ 31) (signed p cell)
+unfolding signed highest half
+signed-bounded p cell h l = cond-cases (Bounded (2 ^ 31)) (leZ (pos cell) (highest p)) (pos cell) (pos cell -ℤ pos p)
+    (λ t. let k = leZ-iff (pos cell) (highest p) .0 t in by-parts (pos cell) (omega linear) (omega linear))
+    (λ f. let k = leZ-false (pos cell) (highest p) f in
+    by-parts (pos cell -ℤ pos p) (omega (linear, minus (pos cell) (pos p))) (omega (linear, minus (pos cell) (pos p))))

@@ -1,0 +1,8 @@
+pub mod Word
+pub mod Bounded
+pub mod Remainder
+pub mod CappedPower
+pub mod PrimeDivisor
+pub mod OddPrime
+pub mod PrimeTable
+pub mod Euclid

@@ -1,0 +1,120 @@
+-- The table holds exactly the primes below 256. The checker computes two tests, each once: every entry is 2 or an odd prime, and
+-- below 256, and every number below 256 that is 2 or an odd prime is an entry.
+use mathlib.Core.Path.{_≡_, refl}
+use mathlib.Core.Bool.{Bool, true, false, not, _&&_, _||_}
+use mathlib.Core.List.{List, [], _∷_}
+use mathlib.Core.Logic.{_⊎_, inl, inr, ⊎-elim, _≢_}
+use Prim.Native.Nat.{ℕ, zero, suc, _*_, _%_, _≤_, _<_}
+use native.Mathlib.Omega.{arith}
+use native.Mathlib.Decide.{ℕ-discrete, decLt}
+use lib.Dec.{T, eqb, ltb, eqb→eq, ltb→lt}
+use lib.ListN.{length, getD}
+use Rattle.meaning.specs.Number.{noDivisor, oddPrime}
+use Rattle.meaning.proofs.Number.{odd-prime}
+use Rattle.algebra.specs.Prime.{Prime}
+use Rattle.algebra.proofs.Test.{left, right}
+use Rattle.algebra.proofs.Prime.{prime-by-trial, prime-no-remainder}
+use Rattle.number.specs.Table.{primes, FirstDivisor}
+use Rattle.number.proofs.PrimeDivisor.{prime-by-prime-roots}
+use Rattle.number.proofs.OddPrime.{odd-prime-passes}
+
+-- ---- tests over a list, and over the numbers below a bound
+
+abbrev every : (ℕ → Bool) → List ℕ → Bool
+every f [] = true
+every f (x ∷ xs) = f x && every f xs
+
+every-at : (f : ℕ → Bool) (xs : List ℕ) → T (every f xs) → (k : ℕ) → k < length xs → T (f (getD xs k 0))
+every-at f [] t k h = absurd (omega arith)
+every-at f (x ∷ xs) t zero h = left (f x) (every f xs) t
+every-at f (x ∷ xs) t (suc k) h = every-at f xs (right (f x) (every f xs) t) k (omega arith)
+
+abbrev everyBelow : (ℕ → Bool) → ℕ → Bool
+everyBelow f zero = true
+everyBelow f (suc n) = f n && everyBelow f n
+
+everyBelow-at : (f : ℕ → Bool) (n : ℕ) → T (everyBelow f n) → (k : ℕ) → k < n → T (f k)
+everyBelow-at f zero t k h = absurd (omega arith)
+everyBelow-at f (suc n) t k h = elim (ℕ-discrete k n) [
+  | yes e ↦ rw e (left (f n) (everyBelow f n) t)
+  | no e ↦ everyBelow-at f n (right (f n) (everyBelow f n) t) k (omega arith)
+]
+
+abbrev listed : ℕ → List ℕ → Bool
+listed q [] = false
+listed q (x ∷ xs) = eqb x q || listed q xs
+
+either : (a b : Bool) → T (a || b) → (T a) ⊎ (T b)
+either true b t = inl tt
+either false b t = inr t
+
+listed-place : (q : ℕ) (xs : List ℕ) → T (listed q xs) → (i : ℕ) × (i < length xs) × (getD xs i 0 ≡ q)
+listed-place q [] t = absurd t
+listed-place q (x ∷ xs) t = ⊎-elim
+    (λ s. (0, omega arith, eqb→eq x q s))
+    (λ s. let w = listed-place q xs s in (suc (w .0), omega (arith, w .1), w .2))
+    (either (eqb x q) (listed q xs) t)
+
+-- ---- the two tests
+
+isPrime : ℕ → Bool
+isPrime n = eqb n 2 || oddPrime n
+
+entry-test : ℕ → Bool
+entry-test q = isPrime q && ltb q 256
+
+listed-test : ℕ → Bool
+listed-test q = not (isPrime q) || listed q primes
+
+entries-right : T (every entry-test primes)
+unfolding entry-test isPrime oddPrime noDivisor
+entries-right = tt
+
+primes-listed : T (everyBelow listed-test 256)
+unfolding listed-test isPrime oddPrime noDivisor
+primes-listed = tt
+
+two-prime : Prime 2
+two-prime = prime-by-trial 2 (omega arith) (λ d h k. absurd (omega arith))
+
+test-prime : (n : ℕ) → T (isPrime n) → Prime n
+unfolding isPrime
+test-prime n t = ⊎-elim (λ s. rw (eqb→eq n 2 s) two-prime) (λ s. odd-prime n s .prime) (either (eqb n 2) (oddPrime n) t)
+
+prime-test : (n : ℕ) → Prime n → isPrime n ≡ true
+unfolding isPrime
+prime-test n P = elim (ℕ-discrete n 2) [
+  | yes e ↦ rw e
+  | no e ↦ rw (← odd-prime-passes n (omega (arith, P .above-one)) P) (or-true (eqb n 2))
+]
+  where
+    or-true : (b : Bool) → (b || true) ≡ true
+    or-true true = refl
+    or-true false = refl
+
+pub entry-prime : (i : ℕ) → i < 54 → Prime (getD primes i 0)
+unfolding entry-test
+entry-prime i h = let q = getD primes i 0 in test-prime q (left (isPrime q) (ltb q 256) (every-at entry-test primes entries-right i h))
+
+pub entry-below : (i : ℕ) → i < 54 → getD primes i 0 < 256
+unfolding entry-test
+entry-below i h =
+    let q = getD primes i 0 in
+    ltb→lt q 256 (right (isPrime q) (ltb q 256) (every-at entry-test primes entries-right i h))
+
+pub prime-listed : (q : ℕ) → Prime q → q < 256 → (i : ℕ) × (i < 54) × (getD primes i 0 ≡ q)
+unfolding listed-test
+prime-listed q P h =
+    let t : T (listed-test q) = everyBelow-at listed-test 256 primes-listed q h in
+    listed-place q primes (rw (prime-test q P) at t)
+
+-- ---- the trial by the table and by the odd numbers above it
+
+pub prime-by-table : (n : ℕ) → 3 ≤ n → FirstDivisor n 54 → ((d : ℕ) → 257 ≤ d → d % 2 ≡ 1 → d * d ≤ n → n % d ≢ 0) → Prime n
+prime-by-table n l f t = prime-by-prime-roots n (omega arith) try
+  where
+    try : (q : ℕ) → Prime q → q * q ≤ n → n % q ≢ 0
+    try q P s e = elim (decLt q 256) [
+      | yes h ↦ let w = prime-listed q P h in f .earlier (w .0) (w .1) (rw (w .2) e)
+      | no h ↦ let o : q % 2 ≢ 0 = prime-no-remainder q P 2 (omega arith) (omega arith) in t q (omega arith) (omega arith) s e
+    ]

@@ -1,0 +1,57 @@
+-- Whole numbers in a machine word. A signed local holds bits, so a use of x reads `toZ w64 (ofZ w64 x)`: `back` takes the bits away
+-- where x fits. What fits is said by the two parts of an integer, as algebra has them, so that `omega` decides it.
+use mathlib.Core.Path.{_≡_, refl}
+use mathlib.Core.Bool.{Bool, true, false}
+use Prim.Native.Nat.{ℕ, suc, _+_, _^_, _≤_, _<_}
+use native.Mathlib.Omega.{arith}
+use lib.Dec.{T, ltb, ltb→lt}
+use lib.IntN.{ℤ, pos, negsuc}
+use lib.Signed.{mag, ltZ, leZ, _≤ℤ_, _<ℤ_, ltZ-no}
+use mir.Syntax.{w64}
+use mir.Val.{SFits, toZ, ofZ}
+use mir.ValLaws.{toZ-ofZ, toZ-pos}
+use Rattle.algebra.proofs.Test.{≡-test, false-test}
+use Rattle.algebra.proofs.Integer.Order.{positivePart, negativePart, integer}
+
+-- ---- bits
+
+pub back : {z : ℤ} → SFits w64 z → toZ w64 (ofZ w64 z) ≡ z
+back {z} f = toZ-ofZ w64 z f
+
+-- bits below 2 ^ 63 are that number
+pub small : (n : ℕ) → n < 2 ^ 63 → toZ w64 n ≡ pos n
+small n h = toZ-pos w64 n h
+
+-- ---- what fits, by the two parts
+
+pub fits-parts : (z : ℤ) → SFits w64 z → (positivePart z < 2 ^ 63) × (negativePart z ≤ 2 ^ 63)
+fits-parts (pos n) h = (h .sfits, omega arith)
+fits-parts (negsuc n) h = (omega arith, omega (arith, h .sfits))
+
+pub parts-fit : (z : ℤ) → positivePart z < negativePart z + 2 ^ 63 → negativePart z ≤ positivePart z + 2 ^ 63 → SFits w64 z
+parts-fit (pos n) h k = record { sfits = omega arith }
+parts-fit (negsuc n) h k = record { sfits = omega arith }
+
+-- a number written out: `literal (pos 0) tt`
+pub literal : (z : ℤ) → T (ltb (mag z) (2 ^ 63)) → SFits w64 z
+literal z t = record { sfits = ltb→lt (mag z) (2 ^ 63) t }
+
+-- ---- the test `z < 0` of an i64, and the cast to a u64
+
+pub negative : {z : ℤ} → SFits w64 z → ltZ (toZ w64 (ofZ w64 z)) (pos 0) ≡ true → (positivePart z ≡ 0) × (negativePart z ≡ suc (mag z))
+negative {z} f e = below z (record { lt = ≡-test (ltZ z (pos 0)) (rw (back f) at e) })
+  where
+    below : (z : ℤ) → z <ℤ pos 0 → (positivePart z ≡ 0) × (negativePart z ≡ suc (mag z))
+    below (pos n) h = absurd (omega integer)
+    below (negsuc n) h = (refl, refl)
+
+pub not-negative : {z : ℤ} → SFits w64 z → ltZ (toZ w64 (ofZ w64 z)) (pos 0) ≡ false → z ≡ pos (mag z)
+not-negative {z} f e = above z (ltZ-no (false-test (ltZ z (pos 0)) (rw (back f) at e)))
+  where
+    above : (z : ℤ) → pos 0 ≤ℤ z → z ≡ pos (mag z)
+    above (pos n) h = refl
+    above (negsuc n) h = absurd (omega integer)
+
+-- the order of two i64, as a test reads it from their bits
+pub test-≤ : {a b : ℤ} → SFits w64 a → SFits w64 b → (t : Bool) → leZ (toZ w64 (ofZ w64 a)) (toZ w64 (ofZ w64 b)) ≡ t → leZ a b ≡ t
+test-≤ fa fb t e = rw (back fa, back fb) at e

@@ -1,0 +1,46 @@
+-- `number::prime::is_odd_prime`: a divisor from the table decides, and where there is none the trial by odd numbers does.
+use mathlib.Core.Path.{_≡_}
+use native.Mathlib.Omega.{arith}
+use borrow.Author.Needs.{needs}
+use Rattle.number.proofs.OddPrime.{odd-prime-low, prime-divisor-decides}
+use Rattle.number.proofs.PrimeTable.{entry-prime}
+use Rattle.number.proofs.prime.is_odd_prime.Statement.{statement}
+use Rattle.number.proofs.prime.is_odd_prime.Tie as tie
+
+returns : tie.Need-returns
+returns c = odd-prime-low _ (c .if1 .taken)
+
+first-divisor-requires : tie.Need-first-divisor-requires
+first-divisor-requires c κs = search needs
+
+mul-result : tie.Need-mul-result
+mul-result c = search needs
+
+array-read-result : tie.Need-array-read-result
+array-read-result c = search needs
+
+returns-2 : tie.Need-returns-2
+returns-2 c =
+    let at = c .before .first-divisor .result in
+    prime-divisor-decides _ _ (c .before .before .if1 .left) (entry-prime at (c .if2 .taken)) (c .before .first-divisor .ensures .divides (c .if2 .taken))
+
+passes-odd-trial-requires : tie.Need-passes-odd-trial-requires
+passes-odd-trial-requires c κs =
+    let d = c .before .first-divisor in
+    let e : d .result ≡ 54 = omega (arith, d .ensures .within) in
+    (c .before .before .if1 .left, rw e at (d .ensures))
+
+returns-3 : tie.Need-returns-3
+returns-3 c = search needs
+
+pub is-odd-prime-spec : {M : Type 1} → statement M
+is-odd-prime-spec =
+    tie.close
+    (tie.spec
+    returns
+    first-divisor-requires
+    mul-result
+    array-read-result
+    returns-2
+    passes-odd-trial-requires
+    returns-3)

@@ -1,0 +1,68 @@
+-- `number::root::square_root`: the square of low is at most n and that of high above it, until high is the next number after low.
+use mathlib.Core.Path.{_≡_}
+use Prim.Native.Nat.{suc, _+_, _-_, _*_, _/_, _^_, _≤_, _<_}
+use native.Mathlib.Omega.{arith}
+use native.Mathlib.Nat.{mul-le-mul}
+use borrow.Author.Needs.{needs}
+use Rattle.algebra.proofs.Root.{root-unique}
+use Rattle.number.proofs.root.square_root.Statement.{statement}
+use Rattle.number.proofs.root.square_root.Tie as tie
+
+abbrev Inv-loop : tie.InvT-loop
+Inv-loop n low₀ high₀ low high = (low < high) × (high ≤ 2 ^ 32) × (low * low ≤ n) × (n < high * high)
+
+abbrev μ-loop : tie.MeasureT-loop
+μ-loop n low₀ high₀ low high = high - low
+
+loop-holds : tie.Need-loop-holds Inv-loop μ-loop
+loop-holds c = search needs
+
+sub-loop : tie.Need-sub-loop Inv-loop μ-loop
+sub-loop c = search needs
+
+sub-middle : tie.Need-sub-middle Inv-loop μ-loop
+sub-middle c = search needs
+
+add-middle : tie.Need-add-middle Inv-loop μ-loop
+add-middle c = search needs
+
+mul-if1 : tie.Need-mul-if1 Inv-loop μ-loop
+mul-if1 c =
+    let s = c .before .loop in
+    let h : s .low + (s .high - s .low) / 2 ≤ 4294967295 = omega arith in
+    omega (arith, mul-le-mul h h)
+
+loop-less : tie.Need-loop-less Inv-loop μ-loop
+loop-less c = search needs
+
+loop-again : tie.Need-loop-again Inv-loop μ-loop
+loop-again c = search needs
+
+loop-less-2 : tie.Need-loop-less-2 Inv-loop μ-loop
+loop-less-2 c = search needs
+
+loop-again-2 : tie.Need-loop-again-2 Inv-loop μ-loop
+loop-again-2 c = search needs
+
+returns : tie.Need-returns Inv-loop μ-loop
+returns c =
+    let s = c .before .loop in
+    let e : s .high ≡ suc (s .low) = omega arith in
+    root-unique _ (s .low) (s .inv .2) (rw (← e) (s .inv .3))
+
+pub square-root-spec : {M : Type 1} → statement M
+square-root-spec =
+    tie.close
+    (tie.spec
+    Inv-loop
+    μ-loop
+    loop-holds
+    sub-loop
+    sub-middle
+    add-middle
+    mul-if1
+    loop-less
+    loop-again
+    loop-less-2
+    loop-again-2
+    returns)

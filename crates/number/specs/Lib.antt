@@ -1,0 +1,4 @@
+pub mod Table
+pub mod Euclid
+pub mod Power
+pub mod Bounded

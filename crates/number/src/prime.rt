@@ -1,0 +1,111 @@
+// Whether a number is an odd prime. The primes below 256 are tried first, from a table, then the odd numbers from 257 on up to
+// the square root: each test is one division of 32-bit numbers.
+use super::root::square_root;
+ghost use mathlib.Core.Path.{_≡_};
+ghost use Prim.Native.Nat.{_≤_};
+ghost use Rattle.meaning.specs.Number.{oddPrime};
+ghost use Rattle.number.specs.Table.{FirstDivisor};
+
+// The primes below 256.
+const PRIMES: [u32; 54] = [
+    2,
+    3,
+    5,
+    7,
+    11,
+    13,
+    17,
+    19,
+    23,
+    29,
+    31,
+    37,
+    41,
+    43,
+    47,
+    53,
+    59,
+    61,
+    67,
+    71,
+    73,
+    79,
+    83,
+    89,
+    97,
+    101,
+    103,
+    107,
+    109,
+    113,
+    127,
+    131,
+    137,
+    139,
+    149,
+    151,
+    157,
+    163,
+    167,
+    173,
+    179,
+    181,
+    191,
+    193,
+    197,
+    199,
+    211,
+    223,
+    227,
+    229,
+    233,
+    239,
+    241,
+    251,
+];
+
+pub fn is_odd_prime(n: u32) -> bool
+    ensures { λ r. ⌜ r ≡ oddPrime n ⌝ }
+{
+    if n < 3 {
+        return false;
+    }
+    let at = first_divisor(n);
+    if at < 54 {
+        // A prime of the table that divides n: n is prime only where it is that prime itself.
+        return PRIMES[at] == n;
+    }
+    passes_odd_trial(n)
+}
+
+// The place of the first prime of the table that divides n, or 54 where none does.
+fn first_divisor(n: u32) -> usize
+    ensures { λ r. ⌜ FirstDivisor n r ⌝ }
+{
+    let primes = PRIMES;
+    let mut i: usize = 0;
+    while i < 54 {
+        if n % primes[i] == 0 {
+            return i;
+        }
+        i += 1;
+    }
+    i
+}
+
+// Whether n is prime, where no prime of the table divides it: the odd numbers from 257 on are left to try, up to the square
+// root, which is taken once: a turn is then one division.
+fn passes_odd_trial(n: u32) -> bool
+    requires { ⌜ (3 ≤ n) × FirstDivisor n 54 ⌝ }
+    ensures { λ r. ⌜ r ≡ oddPrime n ⌝ }
+{
+    let root = square_root(n as u64) as u32;
+    let mut d: u32 = 257;
+    while d <= root {
+        if n % d == 0 {
+            return false;
+        }
+        d += 2;
+    }
+    true
+}

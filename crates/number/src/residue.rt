@@ -1,0 +1,72 @@
+// Remainders modulo p, for every p that a u32 holds: the signed reading, the remainder of a whole number, and the
+// operations. Products are taken in a u64, where they are exact.
+use super::whole::Whole;
+use super::whole::magnitude;
+ghost use mathlib.Core.Path.{_≡_};
+ghost use Prim.Native.Nat.{_<_};
+ghost use lib.IntN.{pos, _+ℤ_, _-ℤ_, _*ℤ_};
+ghost use Rattle.meaning.specs.Number.{remainder, signed};
+
+// A remainder modulo p, below p.
+pub struct Residue(pub u32);
+
+// The whole number that r stands for: r where it is at most M = (p-1)/2, else r - p.
+pub fn signed_value(r: Residue, p: u32) -> Whole
+    requires { ⌜ r .0 < p ⌝ }
+    ensures { λ w. ⌜ w .0 ≡ signed p (r .0) ⌝ }
+{
+    let x = r.0;
+    let half = (p - 1) / 2;
+    if x <= half {
+        Whole(x as i64)
+    } else {
+        Whole(x as i64 - p as i64)
+    }
+}
+
+// The remainder that x leaves modulo p, also of the lowest i64: below zero, x is -(m + 1) for its magnitude m.
+pub fn remainder_of(x: Whole, p: u32) -> Residue
+    requires { ⌜ 0 < p ⌝ }
+    ensures { λ r. ⌜ r .0 ≡ remainder p (x .0) ⌝ }
+{
+    let m = (magnitude(x) % p as u64) as u32;
+    if x.0 < 0 {
+        Residue(p - (m + 1))
+    } else {
+        Residue(m)
+    }
+}
+
+// a + b modulo p, without a division: a + b, or a + b - p where that is p or more.
+pub fn sum(a: Residue, b: Residue, p: u32) -> Residue
+    requires { ⌜ (a .0 < p) × (b .0 < p) ⌝ }
+    ensures { λ r. ⌜ (r .0 < p) × (r .0 ≡ remainder p (pos (a .0) +ℤ pos (b .0))) ⌝ }
+{
+    let room = p - b.0;
+    if a.0 < room {
+        Residue(a.0 + b.0)
+    } else {
+        Residue(a.0 - room)
+    }
+}
+
+// a - b modulo p, without a division: a - b, or a - b + p where a is the lesser.
+pub fn difference(a: Residue, b: Residue, p: u32) -> Residue
+    requires { ⌜ (a .0 < p) × (b .0 < p) ⌝ }
+    ensures { λ r. ⌜ (r .0 < p) × (r .0 ≡ remainder p (pos (a .0) -ℤ pos (b .0))) ⌝ }
+{
+    if a.0 < b.0 {
+        Residue(a.0 + (p - b.0))
+    } else {
+        Residue(a.0 - b.0)
+    }
+}
+
+// a · b modulo p, also where a or b is p or more.
+pub fn product(a: Residue, b: Residue, p: u32) -> Residue
+    requires { ⌜ 0 < p ⌝ }
+    ensures { λ r. ⌜ (r .0 < p) × (r .0 ≡ remainder p (pos (a .0) *ℤ pos (b .0))) ⌝ }
+{
+    let exact = a.0 as u64 * b.0 as u64;
+    Residue((exact % p as u64) as u32)
+}

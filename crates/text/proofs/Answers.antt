@@ -1,0 +1,83 @@
+-- What an answer of `line_of` tells its caller: the line, that it has the right count of numbers, and that they are small.
+use mathlib.Core.Path.{_≡_, refl, sym, _∙_}
+use mathlib.Core.Bool.{Bool, true, false, cond}
+use mathlib.Core.List.{List, [], _∷_}
+use mathlib.Core.Option.{Option, none, some}
+use Prim.Native.Nat.{ℕ, zero, suc, _≤_, _<_}
+use native.Mathlib.Omega.{arith}
+use lib.IntN.{ℤ, pos, natAbs}
+use lib.ListN.{length, getD, take}
+use lib.Seq.{length-take-le, getD-take}
+use Rattle.meaning.specs.Text.{fieldsOf, number}
+use Rattle.meaning.specs.Line.{words, wordAmong, isCount, consNumber, numbersOf, assemble, lineOfFields, lineOf}
+use Rattle.meaning.specs.Line.{Word as MeantWord, Line as MeantLine}
+use Rattle.text.specs.declared.Word.{Word}
+use Rattle.text.specs.declared.Parsed.{Parsed}
+use Rattle.text.specs.declared.Parsed.the-variants.{Line, NoLine}
+use Rattle.text.specs.Word.{wordOf}
+use Rattle.text.specs.Parsed.{parsedSeen, countSeen, LineRead}
+use Rattle.text.proofs.Bytes.{none-some}
+use Rattle.text.proofs.Numbers.{number-small}
+
+-- ---- every line that the definition reads is good
+
+abbrev pub Small : List ℤ → Type 0
+Small ns = (i : ℕ) → natAbs (getD ns i (pos 0)) ≤ 2147483647
+
+pub record GoodLine (l : MeantLine) : Type 0 where
+  pub counted : isCount (l .word) (length (l .numbers)) ≡ true
+  pub small : Small (l .numbers)
+
+cons-small : (first : Option ℤ) (rest : Option (List ℤ)) (ns : List ℤ) → ((z : ℤ) → first ≡ some z → natAbs z ≤ 2147483647)
+    → ((ms : List ℤ) → rest ≡ some ms → Small ms) → consNumber first rest ≡ some ns → Small ns
+unfolding consNumber
+cons-small none rest ns small later q i = absurd (none-some q)
+cons-small (some n) none ns small later q i = absurd (none-some q)
+cons-small (some n) (some ms) ns small later q zero = let e : n ∷ ms ≡ ns = cc in rw (← e) (small n refl)
+cons-small (some n) (some ms) ns small later q (suc i) = let e : n ∷ ms ≡ ns = cc in rw (← e) (later ms refl i)
+
+numbers-small : (fields : List (List ℕ)) (ns : List ℤ) → numbersOf fields ≡ some ns → Small ns
+unfolding numbersOf
+numbers-small [] ns q i = let e : [] ≡ ns = cc in rw (← e) (omega arith)
+numbers-small (f ∷ fs) ns q i = cons-small (number f) (numbersOf fs) ns (λ z. number-small f) (numbers-small fs) q i
+
+good-at : (t : Bool) (l m : MeantLine) → isCount (l .word) (length (l .numbers)) ≡ t → Small (l .numbers) → cond t (some l) none ≡ some m → GoodLine m
+good-at true l m p small q = let e : l ≡ m = cc in rw (← e) (record { counted = p; small = small })
+good-at false l m p small q = absurd (none-some q)
+
+good-assembled : (w : Option MeantWord) (ns : Option (List ℤ)) (l : MeantLine) → ((ms : List ℤ) → ns ≡ some ms → Small ms) → assemble w ns ≡ some l → GoodLine l
+unfolding assemble
+good-assembled none ns l small q = absurd (none-some q)
+good-assembled (some w) none l small q = absurd (none-some q)
+good-assembled (some w) (some ns) l small q = good-at _ (record { word = w; numbers = ns }) l refl (small ns refl) q
+
+good-fields : (fields : List (List ℕ)) (l : MeantLine) → lineOfFields fields ≡ some l → GoodLine l
+unfolding lineOfFields
+good-fields [] l q = absurd (none-some q)
+good-fields (f ∷ fs) l q = good-assembled (wordAmong words f) (numbersOf fs) l (numbers-small fs) q
+
+pub good-line : (line : List ℕ) {l : MeantLine} → lineOf line ≡ some l → GoodLine l
+unfolding lineOf
+good-line line {l} q = good-fields (fieldsOf line) l q
+
+-- ---- what an answer says
+
+module _ {line : List ℕ} {before after : List ℤ} {r : Parsed} (read : LineRead line before after r) where
+  pub no-line-seen : r ≡ NoLine → lineOf line ≡ none
+  unfolding parsedSeen
+  no-line-seen q = sym (read .seen) ∙ rw q
+
+  module _ {w : Word} {n : ℕ} (q : r ≡ Line w n) where
+    pub line-seen : lineOf line ≡ some (record { word = wordOf w; numbers = take n after })
+    unfolding parsedSeen
+    line-seen = sym (read .seen) ∙ rw q
+
+    pub line-most : n ≤ 33
+    unfolding countSeen
+    line-most = rw q at (read .most)
+
+    pub line-counted : length before ≡ 33 → isCount (wordOf w) n ≡ true
+    line-counted room = rw (length-take-le n after (omega (arith, read .kept, line-most))) at (good-line line line-seen .counted)
+
+    pub line-small : (i : ℕ) → i < n → natAbs (getD after i (pos 0)) ≤ 2147483647
+    line-small i h = rw (getD-take n after i (pos 0) h) at (good-line line line-seen .small i)

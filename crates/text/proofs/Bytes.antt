@@ -1,0 +1,47 @@
+-- Laws of byte strings: the bytes from a place on, taken apart at the first, and the comparison of two. Before them two small facts
+-- on tests and options that the other laws share.
+use mathlib.Core.Path.{_≡_, refl, sym, _∙_, ap}
+use mathlib.Core.Bool.{Bool, true, false, _&&_}
+use mathlib.Core.List.{List, [], _∷_}
+use mathlib.Core.Option.{none, some}
+use Prim.Native.Nat.{ℕ, suc, _+_, _≤_, _<_}
+use native.Mathlib.Numerals.{add-one}
+use native.Mathlib.Omega.{arith}
+use borrow.Author.Tests.{eq-eqb, ne-eqb}
+use lib.Dec.{eqb}
+use lib.ListN.{length, getD, drop, drop-of-length-le}
+use lib.Seq.{drop-cons}
+use Rattle.meaning.specs.Text.{sameBytes}
+
+pub and-false : (t : Bool) → t && false ≡ false
+and-false true = refl
+and-false false = refl
+
+pub none-some : {A : Type 0} {x : A} → none ≡ some x → ⊥
+none-some q = let e : _≡_ {A = ℕ} 0 1 = cc in omega arith
+
+pub drop-more : (xs : List ℕ) (i : ℕ) → i < length xs → drop i xs ≡ getD xs i 0 ∷ drop (i + 1) xs
+drop-more xs i h = rw (add-one, ← drop-cons xs i 0 h)
+
+-- ---- a law for each way out of `is_same`
+
+pub same-lengths : (xs ys : List ℕ) → (length xs ≡ length ys → ⊥) → sameBytes xs ys ≡ false
+unfolding sameBytes
+same-lengths [] [] h = absurd (h refl)
+same-lengths [] (y ∷ ys) h = refl
+same-lengths (x ∷ xs) [] h = refl
+same-lengths (x ∷ xs) (y ∷ ys) h = rw (same-lengths xs ys (λ e. h (ap suc e))) (and-false (eqb x y))
+
+module _ (xs ys : List ℕ) (i : ℕ) where
+  pub same-end : length xs ≤ i → length ys ≤ i → sameBytes (drop i xs) (drop i ys) ≡ true
+  unfolding sameBytes
+  same-end h k = rw (drop-of-length-le xs h, drop-of-length-le ys k)
+
+  module _ (h : i < length xs) (k : i < length ys) where
+    pub same-differ : (getD xs i 0 ≡ getD ys i 0 → ⊥) → sameBytes (drop i xs) (drop i ys) ≡ false
+    unfolding sameBytes
+    same-differ q = rw (drop-more xs i h, drop-more ys i k) (simp (ne-eqb _ _ q))
+
+    pub same-next : getD xs i 0 ≡ getD ys i 0 → sameBytes (drop i xs) (drop i ys) ≡ sameBytes (drop (i + 1) xs) (drop (i + 1) ys)
+    unfolding sameBytes
+    same-next q = rw (drop-more xs i h, drop-more ys i k) (simp (eq-eqb _ _ q))

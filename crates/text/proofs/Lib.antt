@@ -1,0 +1,6 @@
+pub mod Bytes
+pub mod Numbers
+pub mod Places
+pub mod Words
+pub mod Lines
+pub mod Answers

@@ -1,0 +1,118 @@
+-- Laws of the line reader: its word, one number more, and each refusal.
+use mathlib.Core.Path.{_≡_, refl, sym, _∙_, ap}
+use mathlib.Core.Bool.{Bool, true, false, cond, _&&_}
+use mathlib.Core.List.{List, [], _∷_, _++_, append-nil, append-assoc}
+use mathlib.Core.Option.{Option, none, some}
+use Prim.Native.Nat.{ℕ, suc, _+_, _-_, _%_, _≤_, _<_}
+use native.Mathlib.Numerals.{add-one}
+use native.Mathlib.Omega.{arith}
+use borrow.Author.Tests.{lt-leb, ne-eqb}
+use lib.Dec.{eqb}
+use lib.IntN.{ℤ}
+use lib.ListN.{length, take, drop, set, length-append}
+use lib.Seq.{length-take-le, take-suc-set}
+use Rattle.meaning.specs.Text.{fieldsOf, number}
+use Rattle.meaning.specs.Line.{field, input, span, sum, relu, which, max, root, words, wordAmong, isCount, consNumber, numbersOf, assemble, lineOfFields, lineOf}
+use Rattle.meaning.specs.Line.{Word as MeantWord, Line as MeantLine}
+use Rattle.text.specs.declared.Number.{Number}
+use Rattle.text.specs.declared.Number.the-variants.{Of, NoNumber}
+use Rattle.text.specs.declared.Word.{Word}
+use Rattle.text.specs.declared.Spelled.{Spelled}
+use Rattle.text.specs.declared.Spelled.the-variants.{Known, NoWord}
+use Rattle.text.specs.declared.Parsed.the-variants.{Line}
+use Rattle.text.specs.Number.{numberSeen}
+use Rattle.text.specs.Word.{wordOf, wordSeen}
+use Rattle.text.specs.Place.{Found}
+use Rattle.text.specs.Parsed.{parsedSeen}
+use Rattle.text.proofs.Bytes.{and-false}
+use Rattle.text.proofs.Places.{partsAfter, parts-from, parts-none, parts-some, parts-next}
+
+-- ---- what is left to read of a line
+
+-- the numbers that were read, before those that are left
+unfoldable pub afterNumbers : List ℤ → Option (List ℤ) → Option (List ℤ)
+afterNumbers ns none = none
+afterNumbers ns (some ms) = some (ns ++ ms)
+
+-- the line of a word, of the numbers that were read, and of the fields that are left
+unfoldable pub lineAfter : Word → List ℤ → List (List ℕ) → Option MeantLine
+lineAfter w ns fields = assemble (some (wordOf w)) (afterNumbers ns (numbersOf fields))
+
+-- one number more: it goes from the first that is left to the last that was read
+after-next : (ns : List ℤ) (n : ℤ) (rest : Option (List ℤ)) → afterNumbers ns (consNumber (some n) rest) ≡ afterNumbers (ns ++ n ∷ []) rest
+unfolding afterNumbers consNumber
+after-next ns n none = refl
+after-next ns n (some ms) = ap some (sym (append-assoc ns (n ∷ []) ms))
+
+-- ---- no word has more than 33 numbers
+
+count-over : (w : MeantWord) (n : ℕ) → 33 < n → isCount w n ≡ false
+unfolding isCount
+count-over field n h = ne-eqb n 1 (λ e. omega arith)
+count-over input n h = ne-eqb n 0 (λ e. omega arith)
+count-over span n h = ne-eqb n 4 (λ e. omega arith)
+count-over sum n h = rw (lt-leb n 33 h) (and-false (eqb (n % 2) 1))
+count-over relu n h = ne-eqb n 3 (λ e. omega arith)
+count-over which n h = ne-eqb n 4 (λ e. omega arith)
+count-over max n h = ne-eqb n 4 (λ e. omega arith)
+count-over root n h = ne-eqb n 3 (λ e. omega arith)
+
+after-full : (w : MeantWord) (ns : List ℤ) (first : Option ℤ) (rest : Option (List ℤ)) → length ns ≡ 33
+    → assemble (some w) (afterNumbers ns (consNumber first rest)) ≡ none
+unfolding assemble afterNumbers consNumber
+after-full w ns none rest h = refl
+after-full w ns (some n) none h = refl
+after-full w ns (some n) (some ms) h = rw (count-over w (length (ns ++ n ∷ ms)) (omega (arith, length-append ns (n ∷ ms))))
+
+-- ---- the word: the line's first field
+
+before-all : (numbers : Option (List ℤ)) → numbers ≡ afterNumbers [] numbers
+unfolding afterNumbers
+before-all none = refl
+before-all (some ns) = refl
+
+module _ (line : List ℕ) {end : ℕ} (found : Found 9 line 0 end) (r : Spelled) (seen : wordSeen r ≡ wordAmong words (take (end - 0) (drop 0 line))) where
+  first-field : lineOf line ≡ assemble (wordSeen r) (numbersOf (partsAfter 9 line end))
+  unfolding lineOf lineOfFields fieldsOf
+  first-field = rw (parts-from 9 line found, seen)
+
+  pub line-no-word : r ≡ NoWord → lineOf line ≡ none
+  unfolding wordSeen assemble
+  line-no-word q = first-field ∙ rw q
+
+  pub line-word : {w : Word} → r ≡ Known w → lineOf line ≡ lineAfter w [] (partsAfter 9 line end)
+  unfolding wordSeen lineAfter
+  line-word {w} q = first-field ∙ rw q (ap (assemble (some (wordOf w))) (before-all (numbersOf (partsAfter 9 line end))))
+
+-- ---- the numbers: a law for each turn of the loop and each way out
+
+module _ (line : List ℕ) (w : Word) {end next : ℕ} (h : end < length line) (found : Found 9 line (end + 1) next) {r : Number}
+    (seen : numberSeen r ≡ number (take (next - (end + 1)) (drop (end + 1) line))) where
+  pub line-no-number : (ns : List ℤ) → r ≡ NoNumber → lineAfter w ns (partsAfter 9 line end) ≡ none
+  unfolding lineAfter numbersOf consNumber afterNumbers assemble numberSeen
+  line-no-number ns q = rw (parts-next 9 line h found, sym seen ∙ ap numberSeen q)
+
+  pub line-number : (numbers : List ℤ) (count : ℕ) {n : ℤ} → r ≡ Of n → count < length numbers
+      → lineAfter w (take count numbers) (partsAfter 9 line end) ≡ lineAfter w (take (count + 1) (set numbers count n)) (partsAfter 9 line next)
+  unfolding lineAfter numbersOf numberSeen
+  line-number numbers count {n} q k =
+      let more : take (count + 1) (set numbers count n) ≡ take count numbers ++ (n ∷ []) = rw add-one (take-suc-set numbers count n k) in
+      rw (parts-next 9 line h found, sym seen ∙ ap numberSeen q, more)
+      (ap (assemble (some (wordOf w))) (after-next (take count numbers) n (numbersOf (partsAfter 9 line next))))
+
+module _ (line : List ℕ) (w : Word) (numbers : List ℤ) (end count : ℕ) (room : length numbers ≡ 33) (most : count ≤ 33) where
+  pub line-full : end < length line → 33 ≤ count → lineAfter w (take count numbers) (partsAfter 9 line end) ≡ none
+  unfolding lineAfter numbersOf
+  line-full h full = rw (parts-some 9 line end h) (after-full (wordOf w) (take count numbers) _ _ (omega (arith, length-take-le count numbers (omega arith))))
+
+  module _ (h : length line ≤ end) {right : Bool} (q : right ≡ isCount (wordOf w) count) where
+    counted : lineAfter w (take count numbers) (partsAfter 9 line end) ≡ cond right (some (record { word = wordOf w; numbers = take count numbers })) none
+    unfolding lineAfter numbersOf afterNumbers assemble
+    counted = rw (parts-none 9 line end h, append-nil (take count numbers), length-take-le count numbers (omega arith), sym q)
+
+    pub line-is : right ≡ true → lineAfter w (take count numbers) (partsAfter 9 line end) ≡ parsedSeen (Line w count) numbers
+    unfolding parsedSeen
+    line-is holds = counted ∙ rw holds
+
+    pub line-wrong-count : right ≡ false → lineAfter w (take count numbers) (partsAfter 9 line end) ≡ none
+    line-wrong-count fails = counted ∙ rw fails

@@ -1,0 +1,136 @@
+-- Laws of places: one byte of a search, the part that a search finds, and the lines that are left at a place.
+--
+-- A loop over the lines of a text keeps `at ≤ length text` and what it says of `linesFrom text at`; that the text is ended it knows from before
+-- the loop. In a turn `line-within` says that the line's end is a byte of the text, and `lines-next` takes the line off; after the
+-- loop `lines-none` says that none is left.
+use mathlib.Core.Path.{_≡_, refl, sym, _∙_, ap}
+use mathlib.Core.Bool.{Bool, true, false, cond}
+use mathlib.Core.List.{List, [], _∷_}
+use Prim.Native.Nat.{ℕ, zero, suc, _+_, _-_, _≤_, _<_}
+use native.Mathlib.Numerals.{add-one}
+use native.Mathlib.Omega.{arith}
+use borrow.Author.Tests.{ltb-true, ltb-false, lt-ltb, le-ltb, eq-eqb, ne-eqb}
+use lib.Dec.{ltb, eqb, leb·suc-suc}
+use lib.ListN.{length, getD, take, drop, length-drop, drop-of-length-le}
+use lib.Seq.{drop-drop, getD-drop}
+use Rattle.meaning.specs.Text.{onFirst, split, withoutLast, linesOf, isEnded}
+use Rattle.text.specs.Place.{indexOf, Found, linesFrom}
+use Rattle.text.proofs.Bytes.{drop-more}
+
+-- ---- one byte of a search
+
+module _ (separator : ℕ) (xs : List ℕ) (i : ℕ) where
+  pub index-end : length xs ≤ i → indexOf separator (drop i xs) ≡ 0
+  unfolding indexOf
+  index-end h = rw (drop-of-length-le xs h)
+
+  pub index-here : i < length xs → getD xs i 0 ≡ separator → indexOf separator (drop i xs) ≡ 0
+  unfolding indexOf
+  index-here h q = rw (drop-more xs i h) (simp (eq-eqb _ _ q))
+
+  pub index-past : i < length xs → (getD xs i 0 ≡ separator → ⊥) → indexOf separator (drop i xs) ≡ suc (indexOf separator (drop (i + 1) xs))
+  unfolding indexOf
+  index-past h q = rw (drop-more xs i h) (simp (ne-eqb _ _ q))
+
+-- ---- the part before the first separator, and those after it
+
+-- the parts after the one that ends at a place: none, where that is the end
+unfoldable pub partsAfter : (separator : ℕ) → List ℕ → ℕ → List (List ℕ)
+partsAfter separator xs place = cond (ltb place (length xs)) (split separator (drop (suc place) xs)) []
+
+split-at : (t : Bool) (separator x : ℕ) (xs : List ℕ) (n : ℕ) → split separator xs ≡ take n xs ∷ partsAfter separator xs n
+    → cond t ([] ∷ split separator xs) (onFirst x (split separator xs))
+    ≡ take (cond t 0 (suc n)) (x ∷ xs) ∷ partsAfter separator (x ∷ xs) (cond t 0 (suc n))
+unfolding onFirst partsAfter
+split-at true separator x xs n ih = simp (lt-ltb 0 (suc (length xs)) (omega arith))
+split-at false separator x xs n ih = rw ih (simp (leb·suc-suc (suc n) (length xs)))
+
+split-index : (separator : ℕ) (xs : List ℕ) → split separator xs ≡ take (indexOf separator xs) xs ∷ partsAfter separator xs (indexOf separator xs)
+unfolding split indexOf partsAfter
+split-index separator [] = refl
+split-index separator (x ∷ xs) = split-at (eqb x separator) separator x xs (indexOf separator xs) (split-index separator xs)
+
+-- two tests that say the same
+less-at : (t : Bool) (a b c d : ℕ) → ltb a b ≡ t → (a < b → c < d) → (b ≤ a → d ≤ c) → t ≡ ltb c d
+less-at true a b c d q below above = sym (lt-ltb c d (below (ltb-true a b q)))
+less-at false a b c d q below above = sym (le-ltb c d (above (ltb-false a b q)))
+
+module _ (separator : ℕ) (xs : List ℕ) where
+  -- from a place on: the part up to the separator that a search found, and the parts after it
+  pub parts-from : {at place : ℕ} → Found separator xs at place → split separator (drop at xs) ≡ take (place - at) (drop at xs) ∷ partsAfter separator xs place
+  unfolding partsAfter
+  parts-from {at} {place} found =
+      let n : indexOf separator (drop at xs) ≡ place - at = omega (arith, found .is) in
+      let next : at + suc (place - at) ≡ suc place = omega (arith, found .low) in
+      let within : ltb (place - at) (length (drop at xs)) ≡ ltb place (length xs) =
+      less-at _ (place - at) (length (drop at xs)) place (length xs) refl (λ h. omega (arith, found .low, length-drop at xs)) (λ h. omega (arith, found .low, found .high, length-drop at xs)) in
+      split-index separator (drop at xs) ∙ rw (n, drop-drop (suc (place - at)) at xs, next, within)
+
+  pub parts-none : (place : ℕ) → length xs ≤ place → partsAfter separator xs place ≡ []
+  unfolding partsAfter
+  parts-none place h = simp (le-ltb place (length xs) h)
+
+  -- where a byte, the separator, stands at the end of a part, a part follows
+  parts-more : (place : ℕ) → place < length xs → partsAfter separator xs place ≡ split separator (drop (place + 1) xs)
+  unfolding partsAfter
+  parts-more place h = rw (add-one) (simp (lt-ltb place (length xs) h))
+
+  pub parts-some : (place : ℕ) → place < length xs
+      → let left = drop (place + 1) xs in partsAfter separator xs place ≡ take (indexOf separator left) left ∷ partsAfter separator left (indexOf separator left)
+  parts-some place h = parts-more place h ∙ split-index separator (drop (place + 1) xs)
+
+  pub parts-next : {place next : ℕ} → place < length xs → Found separator xs (place + 1) next
+      → partsAfter separator xs place ≡ take (next - (place + 1)) (drop (place + 1) xs) ∷ partsAfter separator xs next
+  parts-next {place} h found = parts-more place h ∙ parts-from found
+
+-- ---- an ended text
+
+pub ended-empty : (text : List ℕ) → length text ≡ 0 → isEnded text ≡ false
+unfolding isEnded
+ended-empty [] h = refl
+ended-empty (x ∷ xs) h = let z : ⊥ = omega arith in absurd z
+
+pub ended-last : (text : List ℕ) → (length text ≡ 0 → ⊥) → isEnded text ≡ eqb (getD text (length text - 1) 0) 10
+unfolding isEnded
+ended-last [] h = absurd (h refl)
+ended-last (x ∷ []) h = refl
+ended-last (x ∷ (y ∷ xs)) h =
+    let e : length (x ∷ (y ∷ xs)) - 1 ≡ suc (length (y ∷ xs) - 1) = omega arith in
+    rw e (ended-last (y ∷ xs) (λ z. omega arith))
+
+ended-index-at : (t : Bool) (n m : ℕ) → n < m → cond t 0 (suc n) < suc m
+ended-index-at true n m h = omega arith
+ended-index-at false n m h = omega arith
+
+-- a search for byte 10 in an ended text finds one
+ended-index : (text : List ℕ) → isEnded text ≡ true → indexOf 10 text < length text
+unfolding isEnded indexOf
+ended-index [] ended = let z : _≡_ {A = ℕ} 0 1 = cc in omega arith
+ended-index (x ∷ []) ended = rw ended (omega arith)
+ended-index (x ∷ (y ∷ xs)) ended = ended-index-at (eqb x 10) (indexOf 10 (y ∷ xs)) (length (y ∷ xs)) (ended-index (y ∷ xs) ended)
+
+module _ (text : List ℕ) where
+  -- the bytes from a place on end as the whole text does
+  pub ended-from : (at : ℕ) → at < length text → isEnded (drop at text) ≡ isEnded text
+  ended-from at h =
+      let n : length (drop at text) ≡ length text - at = length-drop at text in
+      let last : at + (length (drop at text) - 1) ≡ length text - 1 = omega arith in
+      ended-last (drop at text) (λ z. omega arith)
+      ∙ rw (getD-drop at text (length (drop at text) - 1) 0, last) (sym (ended-last text (λ z. omega arith)))
+
+  -- ---- the lines that are left at a place
+
+  pub lines-none : (at : ℕ) → length text ≤ at → linesFrom text at ≡ []
+  unfolding linesOf split withoutLast
+  lines-none at h = rw (drop-of-length-le text h)
+
+  module _ (ended : isEnded text ≡ true) {at end : ℕ} (h : at < length text) (found : Found 10 text at end) where
+    pub line-within : end < length text
+    line-within =
+        let inside : indexOf 10 (drop at text) < length (drop at text) = ended-index (drop at text) (ended-from at h ∙ ended) in
+        omega (arith, found .is, length-drop at text)
+
+    pub lines-next : linesFrom text at ≡ take (end - at) (drop at text) ∷ linesFrom text (end + 1)
+    unfolding linesOf withoutLast
+    lines-next =
+        rw (parts-from 10 text found, parts-more 10 text end line-within, split-index 10 (drop (end + 1) text))

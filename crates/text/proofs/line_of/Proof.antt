@@ -1,0 +1,211 @@
+-- The fields up to `end` gave the word and the first `count` numbers: with the fields that are left they say what the whole line says.
+use mathlib.Core.Path.{_≡_, sym, _∙_}
+use Prim.Native.Nat.{_≤_, _-_}
+use mir.Syntax.{w64}
+use mir.ValLaws.{toZ-ofZ}
+use lib.ListN.{length, take}
+use Rattle.meaning.specs.Line.{lineOf}
+use Rattle.text.specs.Parsed.{parsedSeen, countSeen}
+use Rattle.text.proofs.Places.{partsAfter}
+use Rattle.text.proofs.Lines.{lineAfter, line-no-word, line-word, line-full, line-no-number, line-number, line-is, line-wrong-count}
+use borrow.Author.Needs.{needs}
+use Rattle.text.proofs.line_of.Statement.{statement}
+use Rattle.text.proofs.line_of.Tie as tie
+
+abbrev Inv-loop : tie.InvT-loop
+Inv-loop line numbers₀ end₀ word count₀ numbers end count =
+    (end ≤ length line) × (count ≤ 33) × (length numbers ≡ 33)
+    × (lineOf line ≡ lineAfter word (take count numbers) (partsAfter 9 line end))
+
+abbrev μ-loop : tie.MeasureT-loop
+μ-loop line numbers₀ end₀ word count₀ numbers end count = length line - end
+
+field-end-requires : tie.Need-field-end-requires Inv-loop μ-loop
+field-end-requires c κs = search needs
+
+sub-word-of : tie.Need-sub-word-of Inv-loop μ-loop
+sub-word-of c = search needs
+
+part-word-of-start : tie.Need-part-word-of-start Inv-loop μ-loop
+part-word-of-start c = search needs
+
+part-word-of-end : tie.Need-part-word-of-end Inv-loop μ-loop
+part-word-of-end c = search needs
+
+word-of-requires : tie.Need-word-of-requires Inv-loop μ-loop
+word-of-requires c κs = search needs
+
+enum-known-word : tie.Need-enum-known-word Inv-loop μ-loop
+enum-known-word c = search needs
+
+enum-told : tie.Need-enum-told Inv-loop μ-loop
+enum-told c = search needs
+
+returns : tie.Need-returns Inv-loop μ-loop
+unfolding parsedSeen countSeen
+returns c =
+    let at-word-of = c .before .before in
+    let at-field-end = at-word-of .before .before in
+    record {
+      seen = sym (line-no-word _ (at-field-end .field-end .ensures) _ (at-word-of .word-of .ensures) (c .enum-told .given .1));
+      most = search needs;
+      kept = search needs;
+    }
+
+loop-holds : tie.Need-loop-holds Inv-loop μ-loop
+loop-holds c =
+    let at-word-of = c .before .before .before in
+    let at-field-end = at-word-of .before .before in
+    (search needs, search needs, search needs, line-word _ (at-field-end .field-end .ensures) _ (at-word-of .word-of .ensures) (c .before .word .given .1))
+
+same-length : tie.Need-same-length Inv-loop μ-loop
+same-length c = search needs
+
+returns-2 : tie.Need-returns-2 Inv-loop μ-loop
+unfolding parsedSeen countSeen
+returns-2 c =
+    let at-loop = c .before .before in
+    let start = at-loop .before .before .before .before .before .before .before .before in
+    record {
+      seen = sym (at-loop .loop .inv .3 ∙ line-full (start .args .line .now) _ _ _ _ (at-loop .loop .inv .2) (at-loop .loop .inv .1) (c .before .loop-test .taken) (c .if1 .taken));
+      most = search needs;
+      kept = search needs;
+    }
+
+add-at : tie.Need-add-at Inv-loop μ-loop
+add-at c = search needs
+
+field-end-requires-2 : tie.Need-field-end-requires-2 Inv-loop μ-loop
+field-end-requires-2 c κs = search needs
+
+sub-number-of : tie.Need-sub-number-of Inv-loop μ-loop
+sub-number-of c = search needs
+
+part-number-of-start : tie.Need-part-number-of-start Inv-loop μ-loop
+part-number-of-start c = search needs
+
+part-number-of-end : tie.Need-part-number-of-end Inv-loop μ-loop
+part-number-of-end c = search needs
+
+number-of-requires : tie.Need-number-of-requires Inv-loop μ-loop
+number-of-requires c κs = search needs
+
+enum-known-n : tie.Need-enum-known-n Inv-loop μ-loop
+enum-known-n c = search needs
+
+enum-told-2 : tie.Need-enum-told-2 Inv-loop μ-loop
+enum-told-2 c = search needs
+
+same-length-2 : tie.Need-same-length-2 Inv-loop μ-loop
+same-length-2 c = search needs
+
+returns-3 : tie.Need-returns-3 Inv-loop μ-loop
+unfolding parsedSeen countSeen
+returns-3 c =
+    let at-number-of = c .before .before in
+    let at-field-end2 = at-number-of .before .before in
+    let at-test = at-field-end2 .before .before in
+    let at-loop = at-test .before in
+    let start = at-loop .before .before .before .before .before .before .before .before in
+    record {
+      seen = sym (at-loop .loop .inv .3 ∙ line-no-number (start .args .line .now) _ (at-test .loop-test .taken) (at-field-end2 .field-end2 .ensures) (at-number-of .number-of .ensures) _ (c .enum-told2 .given .1));
+      most = search needs;
+      kept = search needs;
+    }
+
+mul-n : tie.Need-mul-n Inv-loop μ-loop
+mul-n c = search needs
+
+slice-set-from-n : tie.Need-slice-set-from-n Inv-loop μ-loop
+slice-set-from-n c = search needs
+
+add-count : tie.Need-add-count Inv-loop μ-loop
+add-count c = search needs
+
+loop-less : tie.Need-loop-less Inv-loop μ-loop
+loop-less c = search needs
+
+loop-again : tie.Need-loop-again Inv-loop μ-loop
+loop-again c =
+    let at-number-of = c .before .before .before in
+    let at-field-end2 = at-number-of .before .before in
+    let at-test = at-field-end2 .before .before in
+    let at-loop = at-test .before in
+    let start = at-loop .before .before .before .before .before .before .before .before in (
+      search needs,
+      search needs,
+      search needs,
+      rw (toZ-ofZ w64 (c .before .n .given .0 .0) (search needs))
+          (at-loop .loop .inv .3 ∙ line-number (start .args .line .now) _ (at-test .loop-test .taken) (at-field-end2 .field-end2 .ensures) (at-number-of .number-of .ensures) (at-loop .loop .numbers) (at-loop .loop .count) (c .before .n .given .1) (search needs)),
+    )
+
+is-count-requires : tie.Need-is-count-requires Inv-loop μ-loop
+is-count-requires c κs = search needs
+
+same-length-3 : tie.Need-same-length-3 Inv-loop μ-loop
+same-length-3 c = search needs
+
+returns-4 : tie.Need-returns-4 Inv-loop μ-loop
+unfolding countSeen
+returns-4 c =
+    let at-test = c .before .before in
+    let at-loop = at-test .before in
+    let start = at-loop .before .before .before .before .before .before .before .before in
+    record {
+      seen = sym (at-loop .loop .inv .3 ∙ line-is (start .args .line .now) _ _ _ _ (at-loop .loop .inv .2) (at-loop .loop .inv .1) (at-test .loop-test .left) (c .before .is-count .ensures) (c .if2 .taken));
+      most = search needs;
+      kept = search needs;
+    }
+
+same-length-4 : tie.Need-same-length-4 Inv-loop μ-loop
+same-length-4 c = search needs
+
+returns-5 : tie.Need-returns-5 Inv-loop μ-loop
+unfolding parsedSeen countSeen
+returns-5 c =
+    let at-test = c .before .before in
+    let at-loop = at-test .before in
+    let start = at-loop .before .before .before .before .before .before .before .before in
+    record {
+      seen = sym (at-loop .loop .inv .3 ∙ line-wrong-count (start .args .line .now) _ _ _ _ (at-loop .loop .inv .2) (at-loop .loop .inv .1) (at-test .loop-test .left) (c .before .is-count .ensures) (c .if2 .left));
+      most = search needs;
+      kept = search needs;
+    }
+
+pub line-of-spec : {M : Type 1} → statement M
+line-of-spec =
+    tie.close
+    (tie.spec
+    Inv-loop
+    μ-loop
+    field-end-requires
+    sub-word-of
+    part-word-of-start
+    part-word-of-end
+    word-of-requires
+    enum-known-word
+    enum-told
+    returns
+    loop-holds
+    same-length
+    returns-2
+    add-at
+    field-end-requires-2
+    sub-number-of
+    part-number-of-start
+    part-number-of-end
+    number-of-requires
+    enum-known-n
+    enum-told-2
+    same-length-2
+    returns-3
+    mul-n
+    slice-set-from-n
+    add-count
+    loop-less
+    loop-again
+    is-count-requires
+    same-length-3
+    returns-4
+    same-length-4
+    returns-5)

@@ -1,0 +1,23 @@
+-- Places in a byte string: what a search for a separator finds, and the lines that are left at a place.
+use mathlib.Core.Path.{_≡_}
+use Prim.Native.Nat.{ℕ, suc, _+_, _≤_}
+use mathlib.Core.Bool.{cond}
+use mathlib.Core.List.{List, [], _∷_}
+use lib.Dec.{eqb}
+use lib.ListN.{length, drop}
+use Rattle.meaning.specs.Text.{linesOf}
+
+-- how many bytes stand before the first that equals separator: all, where there is none
+unfoldable pub indexOf : (separator : ℕ) → List ℕ → ℕ
+indexOf separator [] = 0
+indexOf separator (x ∷ xs) = cond (eqb x separator) 0 (suc (indexOf separator xs))
+
+-- place is where the first separator at or after `at` stands, or the end
+pub record Found (separator : ℕ) (xs : List ℕ) (at place : ℕ) : Type 0 where
+  pub low : at ≤ place
+  pub high : place ≤ length xs
+  pub is : place ≡ at + indexOf separator (drop at xs)
+
+-- the lines of the text from `at` on
+abbrev pub linesFrom : List ℕ → ℕ → List (List ℕ)
+linesFrom text at = linesOf (drop at text)

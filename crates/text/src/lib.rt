@@ -1,0 +1,261 @@
+// Reads the text format: numbers, words, fields and lines, each as its definition in `meaning` says, for every byte string.
+//
+// A reader answers with an enum. `specs/` says how each answer is read as a value of the definitions, and a contract says that this
+// value is the definition's. Nothing is read past a slice's end and no sum overflows, however long the bytes are.
+ghost use mathlib.Core.Path.{_≡_};
+ghost use Prim.Native.Nat.{_≤_};
+ghost use lib.ListN.{length, drop};
+ghost use Rattle.meaning.specs.Text.{sameBytes, isEnded, number};
+ghost use Rattle.meaning.specs.Line.{words, wordAmong, isCount};
+ghost use Rattle.text.specs.Number.{plainSize, sizeSeen, numberSeen};
+ghost use Rattle.text.specs.Word.{wordOf, wordSeen};
+ghost use Rattle.text.specs.Place.{Found};
+ghost use Rattle.text.specs.Parsed.{LineRead};
+
+// Bytes with a meaning of their own.
+const TAB: u8 = 9;
+
+const LINE_END: u8 = 10;
+
+const MINUS: u8 = 45;
+
+const ZERO: u8 = 48;
+
+const NINE: u8 = 57;
+
+// The largest size of a number, and the most numbers that a line can have: those of a sum with 16 pairs.
+const LARGEST: u64 = 2147483647;
+
+const MOST_NUMBERS: usize = 33;
+
+// ---- numbers
+
+pub enum Number {
+    Of(i64),
+    NoNumber,
+}
+
+// The size of a number above 0.
+enum Size {
+    Small(u64),
+    NoSize,
+}
+
+// Whether two byte strings are equal.
+fn is_same(left: &[u8], right: &[u8]) -> bool
+    ensures { λ r. ⌜ r ≡ sameBytes (now (left .entry)) (now (right .entry)) ⌝ }
+{
+    if left.len() != right.len() {
+        return false;
+    }
+    let mut i = 0;
+    while i < left.len() {
+        if left[i] != right[i] {
+            return false;
+        }
+        i += 1;
+    }
+    true
+}
+
+// The number that the bytes from `at` on spell: digits without a leading zero. It leaves at the first byte that makes it too large,
+// so that the number stays small however many digits follow.
+fn size_from(field: &[u8], at: usize) -> Size
+    requires { ⌜ at ≤ length (now field) ⌝ }
+    ensures { λ r. ⌜ sizeSeen r ≡ plainSize (drop at (now (field .entry))) ⌝ }
+{
+    if field.len() <= at {
+        return Size::NoSize;
+    }
+    if field[at] == ZERO {
+        return Size::NoSize;
+    }
+    let mut n: u64 = 0;
+    let mut i = at;
+    while i < field.len() {
+        let digit = field[i];
+        if digit < ZERO {
+            return Size::NoSize;
+        }
+        if NINE < digit {
+            return Size::NoSize;
+        }
+        n = 10 * n + ((digit - ZERO) as u64);
+        if LARGEST < n {
+            return Size::NoSize;
+        }
+        i += 1;
+    }
+    Size::Small(n)
+}
+
+// The number that a field spells.
+pub fn number_of(field: &[u8]) -> Number
+    ensures { λ r. ⌜ numberSeen r ≡ number (now (field .entry)) ⌝ }
+{
+    if field.len() == 0 {
+        return Number::NoNumber;
+    }
+    if is_same(field, b"0") {
+        return Number::Of(0);
+    }
+    if field[0] == MINUS {
+        let Size::Small(n) = size_from(field, 1) else {
+            return Number::NoNumber;
+        };
+        return Number::Of(-(n as i64));
+    }
+    let Size::Small(n) = size_from(field, 0) else {
+        return Number::NoNumber;
+    };
+    Number::Of(n as i64)
+}
+
+// ---- words
+
+pub enum Word {
+    Field,
+    In,
+    Span,
+    Sum,
+    Relu,
+    Which,
+    Max,
+    Root,
+}
+
+pub enum Spelled {
+    Known(Word),
+    NoWord,
+}
+
+// The word that a field spells.
+pub fn word_of(field: &[u8]) -> Spelled
+    ensures { λ r. ⌜ wordSeen r ≡ wordAmong words (now (field .entry)) ⌝ }
+{
+    if is_same(b"field", field) {
+        return Spelled::Known(Word::Field);
+    }
+    if is_same(b"in", field) {
+        return Spelled::Known(Word::In);
+    }
+    if is_same(b"span", field) {
+        return Spelled::Known(Word::Span);
+    }
+    if is_same(b"sum", field) {
+        return Spelled::Known(Word::Sum);
+    }
+    if is_same(b"relu", field) {
+        return Spelled::Known(Word::Relu);
+    }
+    if is_same(b"which", field) {
+        return Spelled::Known(Word::Which);
+    }
+    if is_same(b"max", field) {
+        return Spelled::Known(Word::Max);
+    }
+    if is_same(b"root", field) {
+        return Spelled::Known(Word::Root);
+    }
+    Spelled::NoWord
+}
+
+// Whether so many numbers may follow a word. A sum has a constant, and then pairs.
+fn is_count(word: Word, count: usize) -> bool
+    ensures { λ r. ⌜ r ≡ isCount (wordOf word) count ⌝ }
+{
+    match word {
+        Word::Field => count == 1,
+        Word::In => count == 0,
+        Word::Span => count == 4,
+        Word::Sum => {
+            if count % 2 == 1 {
+                return count <= MOST_NUMBERS;
+            }
+            false
+        }
+        Word::Relu => count == 3,
+        Word::Which => count == 4,
+        Word::Max => count == 4,
+        Word::Root => count == 3,
+    }
+}
+
+// ---- places
+
+// The place of the first such byte at or after `at`, or the end.
+fn find(bytes: &[u8], byte: u8, at: usize) -> usize
+    requires { ⌜ at ≤ length (now bytes) ⌝ }
+    ensures { λ r. ⌜ Found byte (now (bytes .entry)) at r ⌝ }
+{
+    let mut i = at;
+    while i < bytes.len() {
+        if bytes[i] == byte {
+            return i;
+        }
+        i += 1;
+    }
+    i
+}
+
+// Where the field that starts at `at` ends.
+pub fn field_end(line: &[u8], at: usize) -> usize
+    requires { ⌜ at ≤ length (now line) ⌝ }
+    ensures { λ r. ⌜ Found 9 (now (line .entry)) at r ⌝ }
+{
+    find(line, TAB, at)
+}
+
+// Where the line that starts at `at` ends.
+pub fn line_end(text: &[u8], at: usize) -> usize
+    requires { ⌜ at ≤ length (now text) ⌝ }
+    ensures { λ r. ⌜ Found 10 (now (text .entry)) at r ⌝ }
+{
+    find(text, LINE_END, at)
+}
+
+// Whether the last line of the text is ended, as each before it is. A text without bytes has no line, and is not ended.
+pub fn is_ended(text: &[u8]) -> bool
+    ensures { λ r. ⌜ r ≡ isEnded (now (text .entry)) ⌝ }
+{
+    if text.len() == 0 {
+        return false;
+    }
+    text[text.len() - 1] == LINE_END
+}
+
+// ---- lines
+
+pub enum Parsed {
+    Line(Word, usize),
+    NoLine,
+}
+
+// The line that the bytes spell: its word, and how many numbers follow it, which are then the first in `numbers`.
+// `end` is where the last field that was read ends, so that a field follows just where a byte, its tab, is there.
+pub fn line_of(line: &[u8], numbers: &mut [i64]) -> Parsed
+    requires { ⌜ length (now numbers) ≡ 33 ⌝ }
+    ensures { λ r. ⌜ LineRead (now (line .entry)) (now (numbers .entry)) (now (numbers .exit)) r ⌝ }
+{
+    let mut end = field_end(line, 0);
+    let Spelled::Known(word) = word_of(&line[0..end]) else {
+        return Parsed::NoLine;
+    };
+    let mut count: usize = 0;
+    while end < line.len() {
+        if MOST_NUMBERS <= count {
+            return Parsed::NoLine;
+        }
+        let at = end + 1;
+        end = field_end(line, at);
+        let Number::Of(n) = number_of(&line[at..end]) else {
+            return Parsed::NoLine;
+        };
+        numbers[count] = n;
+        count += 1;
+    }
+    if is_count(word, count) {
+        return Parsed::Line(word, count);
+    }
+    Parsed::NoLine
+}
