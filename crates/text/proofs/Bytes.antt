@@ -1,6 +1,6 @@
 -- Laws of byte strings: the bytes from a place on, taken apart at the first, and the comparison of two. Before them two small facts
 -- on tests and options that the other laws share.
-use mathlib.Core.Path.{_≡_, refl, sym, _∙_, ap}
+use mathlib.Core.Path.{_≡_, refl, ap}
 use mathlib.Core.Bool.{Bool, true, false, _&&_}
 use mathlib.Core.List.{List, [], _∷_}
 use mathlib.Core.Option.{none, some}

@@ -3,10 +3,10 @@
 -- A loop over the lines of a text keeps `at ≤ length text` and what it says of `linesFrom text at`; that the text is ended it knows from before
 -- the loop. In a turn `line-within` says that the line's end is a byte of the text, and `lines-next` takes the line off; after the
 -- loop `lines-none` says that none is left.
-use mathlib.Core.Path.{_≡_, refl, sym, _∙_, ap}
+use mathlib.Core.Path.{_≡_, refl, sym, _∙_}
 use mathlib.Core.Bool.{Bool, true, false, cond}
 use mathlib.Core.List.{List, [], _∷_}
-use Prim.Native.Nat.{ℕ, zero, suc, _+_, _-_, _≤_, _<_}
+use Prim.Native.Nat.{ℕ, suc, _+_, _-_, _≤_, _<_}
 use native.Mathlib.Numerals.{add-one}
 use native.Mathlib.Omega.{arith}
 use borrow.Author.Tests.{ltb-true, ltb-false, lt-ltb, le-ltb, eq-eqb, ne-eqb}

@@ -1,5 +1,5 @@
 -- The last byte says it.
-use mathlib.Core.Path.{_≡_, sym}
+use mathlib.Core.Path.{sym}
 use Rattle.text.proofs.Places.{ended-empty, ended-last}
 use borrow.Author.Needs.{needs}
 use Rattle.text.proofs.is_ended.Statement.{statement}

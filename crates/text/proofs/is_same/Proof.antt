@@ -1,5 +1,5 @@
 -- The bytes before `i` are equal: what is left to compare says what the whole comparison says.
-use mathlib.Core.Path.{_≡_, refl, sym, _∙_}
+use mathlib.Core.Path.{_≡_, sym, _∙_}
 use Prim.Native.Nat.{_≤_, _-_}
 use lib.ListN.{length, drop}
 use Rattle.meaning.specs.Text.{sameBytes}

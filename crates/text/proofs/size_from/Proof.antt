@@ -1,5 +1,5 @@
 -- The digits before `i` spelled `n`, which is small enough: what is left to read says what the whole reading says.
-use mathlib.Core.Path.{_≡_, refl, sym, _∙_}
+use mathlib.Core.Path.{_≡_, sym, _∙_}
 use Prim.Native.Nat.{_≤_, _-_}
 use lib.ListN.{length, drop}
 use Rattle.text.specs.Number.{sizeSeen, plainSize}
