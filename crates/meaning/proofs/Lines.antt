@@ -63,7 +63,7 @@ digits-ranged p i w ns e t =
     )
 
 -- the first name, and the two names of a line that has two
-first-named : (m i : ℕ) (ns vs : List ℤ) → T (all (isMade m) (numberAt ns i ∷ vs)) → sizeAt ns i < m
+pub first-named : (m i : ℕ) (ns vs : List ℤ) → T (all (isMade m) (numberAt ns i ∷ vs)) → sizeAt ns i < m
 unfolding all sizeAt
 first-named m i ns vs t = made-name m (numberAt ns i) (left (isMade m (numberAt ns i)) (all (isMade m) vs) t)
 

@@ -12,7 +12,8 @@ use mir.Syntax.{w64}
 use mir.Val.{SFits}
 use Rattle.meaning.specs.Number.{half, highest, signed}
 use Rattle.algebra.proofs.Test.{cond-cases, leZ-iff, leZ-false}
-use Rattle.algebra.proofs.Integer.Order.{positivePart, negativePart, natAbs-parts, plus, minus, positivePart-negation, negativePart-negation}
+use Rattle.algebra.proofs.Integer.Order.{positivePart, negativePart, natAbs-parts, plus, minus}
+use Rattle.algebra.proofs.Integer.Order.{positivePart-negation, negativePart-negation}
 use Rattle.algebra.proofs.Integer.Linear.{linear}
 use Rattle.algebra.proofs.Prime.{natAbs-*}
 use Rattle.number.specs.Bounded.{Bounded}

@@ -2,13 +2,14 @@
 -- where x fits. What fits is said by the two parts of an integer, as algebra has them, so that `omega` decides it.
 use mathlib.Core.Path.{_≡_, refl}
 use mathlib.Core.Bool.{Bool, true, false}
-use Prim.Native.Nat.{ℕ, suc, _+_, _^_, _≤_, _<_}
+use Prim.Native.Nat.{ℕ, suc, _+_, _*_, _%_, _^_, _≤_, _<_}
 use native.Mathlib.Omega.{arith}
+use native.Mathlib.Nat.{mul-le-mul, mod-lt}
 use lib.Dec.{T, ltb, ltb→lt}
 use lib.IntN.{ℤ, pos, negsuc}
 use lib.Signed.{mag, ltZ, leZ, _≤ℤ_, _<ℤ_, ltZ-no}
-use mir.Syntax.{w64}
-use mir.Val.{SFits, toZ, ofZ}
+use mir.Syntax.{w32, w64}
+use mir.Val.{Fits, SFits, toZ, ofZ}
 use mir.ValLaws.{toZ-ofZ, toZ-pos}
 use Rattle.algebra.proofs.Test.{≡-test, false-test}
 use Rattle.algebra.proofs.Integer.Order.{positivePart, negativePart, integer}
@@ -55,3 +56,16 @@ not-negative {z} f e = above z (ltZ-no (false-test (ltZ z (pos 0)) (rw (back f) 
 -- the order of two i64, as a test reads it from their bits
 pub test-≤ : {a b : ℤ} → SFits w64 a → SFits w64 b → (t : Bool) → leZ (toZ w64 (ofZ w64 a)) (toZ w64 (ofZ w64 b)) ≡ t → leZ a b ≡ t
 test-≤ fa fb t e = rw (back fa, back fb) at e
+
+-- ---- unsigned words
+
+-- the product of two u32 in a u64
+pub wide-product : {a b : ℕ} → a < 2 ^ 32 → b < 2 ^ 32 → Fits w64 (a * b)
+wide-product {a} {b} h k =
+    let l : a ≤ 4294967295 = omega arith in
+    let m : b ≤ 4294967295 = omega arith in
+    record { fits = omega (arith, mul-le-mul l m) }
+
+-- a remainder by a u32
+pub remainder-fits : (n : ℕ) {p : ℕ} → 0 < p → p < 2 ^ 32 → Fits w32 (n % p)
+remainder-fits n {p} h k = record { fits = omega (arith, mod-lt n h) }

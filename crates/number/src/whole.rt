@@ -41,7 +41,8 @@ pub fn in_range(x: Whole, p: u32) -> bool
     ensures { λ r. ⌜ r ≡ inRange p (x .0) ⌝ }
 {
     let half = ((p - 1) / 2) as i64;
-    within(Whole(0 - half), x, Whole(half))
+    let low = 0 - half;
+    within(Whole(low), x, Whole(half))
 }
 
 pub fn negated(a: Whole) -> Whole

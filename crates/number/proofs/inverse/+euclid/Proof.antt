@@ -3,6 +3,7 @@ use mathlib.Core.Path.{_≡_}
 use Prim.Native.Nat.{ℕ, _%_, _<_}
 use native.Mathlib.Omega.{arith}
 use native.Mathlib.Nat.{mod-lt, pos-of-ne-zero}
+use borrow.Author.Needs.{needs}
 use borrow.Fn.Kinds.{In}
 use borrow.Fn.PlainCycle.{Measures, is, falls, and}
 use Rattle.number.proofs.Euclid.{euclid-step, euclid-end}
@@ -51,7 +52,7 @@ euclid-difference-requires : (t : ℕ) → euclid-lts.Need-difference-requires (
   euclid-below t,
   euclid.Post,
 ) (euclid-at t) euclid.Post
-euclid-difference-requires t c κs = (c .before .before .pre .1 .first .below, c .product .ensures .0)
+euclid-difference-requires t c κs = search needs
 
 euclid-rem-euclid : (t : ℕ) → euclid-lts.Need-rem-euclid (
   product-reads.Asked,

@@ -22,7 +22,10 @@ low : (c : tie.Joined2 Inv-loop μ-loop) → c .if2 .c ≡ c .before .before .ar
 low c =
     let b = c .before .before .args .b in
     let k = c .before .before .args .k in
-    ⊎-elim (λ w. w .1 ∙ sym (ap (λ n. b ^ n) (w .0 .taken) ∙ pow-zero b)) (λ w. w .1 ∙ low-power b k (c .before .if1 .taken) (w .0 .left)) (c .if2 .came)
+    ⊎-elim
+    (λ w. w .1 ∙ sym (ap (λ n. b ^ n) (w .0 .taken) ∙ pow-zero b))
+    (λ w. w .1 ∙ low-power b k (c .before .if1 .taken) (w .0 .left))
+    (c .if2 .came)
 
 returns : tie.Need-returns Inv-loop μ-loop
 returns c = capped-of _ _ _ _ (low (c .before)) (c .if3 .taken)
@@ -44,7 +47,8 @@ loop-holds : tie.Need-loop-holds Inv-loop μ-loop
 loop-holds c = (search needs, sym (pow-zero _), search needs)
 
 -- the next power
-next : (c : tie.In-loop Inv-loop μ-loop) → c .before .loop .c * c .before .before .before .before .args .b ≡ c .before .before .before .before .args .b ^ (c .before .loop .i + 1)
+next : (c : tie.In-loop Inv-loop μ-loop)
+    → c .before .loop .c * c .before .before .before .before .args .b ≡ c .before .before .before .before .args .b ^ (c .before .loop .i + 1)
 next c = let b = c .before .before .before .before .args .b in rw (add-one, pow-suc) (ap (λ n. n * b) (c .before .loop .inv .1))
 
 returns-4 : tie.Need-returns-4 Inv-loop μ-loop

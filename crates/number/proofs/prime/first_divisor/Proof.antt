@@ -19,17 +19,14 @@ abbrev μ-loop : tie.MeasureT-loop
 loop-holds : tie.Need-loop-holds Inv-loop μ-loop
 loop-holds c = (search needs, λ k h. absurd (omega arith))
 
+loop-again : tie.Need-loop-again Inv-loop μ-loop
+loop-again c = (search needs, below-more _ _ (c .before .before .loop .inv .1) (c .if1 .left))
+
 mul-if1 : tie.Need-mul-if1 Inv-loop μ-loop
 mul-if1 c = search needs
 
 array-read-if1 : tie.Need-array-read-if1 Inv-loop μ-loop
 array-read-if1 c = search needs
-
-rem-if1 : tie.Need-rem-if1 Inv-loop μ-loop
-rem-if1 c =
-    let i = c .before .loop .i in
-    let P = entry-prime i (c .loop-test .taken) in
-    omega (arith, P .above-one)
 
 returns : tie.Need-returns Inv-loop μ-loop
 returns c =
@@ -42,13 +39,16 @@ add-i c = search needs
 loop-less : tie.Need-loop-less Inv-loop μ-loop
 loop-less c = search needs
 
-loop-again : tie.Need-loop-again Inv-loop μ-loop
-loop-again c = (search needs, below-more _ _ (c .before .before .loop .inv .1) (c .if1 .left))
-
 returns-2 : tie.Need-returns-2 Inv-loop μ-loop
 returns-2 c =
     let s = c .before .loop in
     record { within = s .inv .0; earlier = s .inv .1; divides = λ h. absurd (omega arith) }
+
+-- the law of the table holds of the table in the code
+rem-if1 : tie.Need-rem-if1 Inv-loop μ-loop
+rem-if1 c =
+    let P = entry-prime (c .before .loop .i) (omega arith) in
+    omega (arith, P .above-one)
 
 pub first-divisor-spec : {M : Type 1} → statement M
 first-divisor-spec =

@@ -8,7 +8,7 @@ use Rattle.number.proofs.prime.is_odd_prime.Statement.{statement}
 use Rattle.number.proofs.prime.is_odd_prime.Tie as tie
 
 returns : tie.Need-returns
-returns c = odd-prime-low _ (c .if1 .taken)
+returns c = odd-prime-low _ (omega arith)
 
 first-divisor-requires : tie.Need-first-divisor-requires
 first-divisor-requires c κs = search needs
@@ -22,13 +22,13 @@ array-read-result c = search needs
 returns-2 : tie.Need-returns-2
 returns-2 c =
     let at = c .before .first-divisor .result in
-    prime-divisor-decides _ _ (c .before .before .if1 .left) (entry-prime at (c .if2 .taken)) (c .before .first-divisor .ensures .divides (c .if2 .taken))
+    prime-divisor-decides _ _ (omega arith) (entry-prime at (c .if2 .taken)) (c .before .first-divisor .ensures .divides (c .if2 .taken))
 
 passes-odd-trial-requires : tie.Need-passes-odd-trial-requires
 passes-odd-trial-requires c κs =
     let d = c .before .first-divisor in
     let e : d .result ≡ 54 = omega (arith, d .ensures .within) in
-    (c .before .before .if1 .left, rw e at (d .ensures))
+    (omega arith, rw e at (d .ensures))
 
 returns-3 : tie.Need-returns-3
 returns-3 c = search needs

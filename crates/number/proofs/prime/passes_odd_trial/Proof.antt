@@ -52,7 +52,7 @@ returns : tie.Need-returns Inv-loop μ-loop
 returns c =
     let s = c .before .before .loop in
     let l : 2 * s .d ≤ s .d * s .d = mul-le-mul (omega arith) (omega arith) in
-    let r : s .d ≤ c .before .before .before .square-root .result = c .before .loop-test .taken in
+    let r : s .d ≤ c .before .before .before .square-root .result = omega arith in
     odd-prime-fails _ (s .d) (omega arith) (omega (arith, mul-le-mul r r, square (c .before .before .before))) (c .if1 .taken)
 
 add-d : tie.Need-add-d Inv-loop μ-loop
@@ -77,7 +77,9 @@ returns-2 c =
     let p = c .before .before .before .pre in
     let below : (k : ℕ) → k * k ≤ n → k < s .d = λ k l. elim (decLt k (s .d)) [
       | yes h ↦ h
-      | no h ↦ let m : suc (c .before .before .square-root .result) ≤ k = omega arith in absurd (omega (arith, mul-le-mul m m, next (c .before .before)))
+      | no h ↦
+          let m : suc (c .before .before .square-root .result) ≤ k = omega arith in
+          absurd (omega (arith, mul-le-mul m m, next (c .before .before)))
     ] in
     odd-prime-passes n (p .0) (prime-by-table n (p .0) (p .1) (λ k h o l. s .inv .2 k h o (below k l)))
 

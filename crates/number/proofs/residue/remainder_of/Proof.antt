@@ -36,13 +36,17 @@ returns : tie.Need-returns
 returns c =
     let s = c .before .before .before .before in
     let f : SFits w64 (s .args .x .0) = search needs in
-    rw (c .before .before .before .magnitude .ensures, remainder-negative (s .args .p) (s .args .x .0) (negative f (c .if1 .taken) .1), add-one)
+    let p = s .args .p in
+    let x = s .args .x .0 in
+    rw (c .before .before .before .magnitude .ensures, remainder-negative p x (negative f (c .if1 .taken) .1), add-one)
 
 returns-2 : tie.Need-returns-2
 returns-2 c =
     let s = c .before .before .before .before in
     let f : SFits w64 (s .args .x .0) = search needs in
-    rw (c .before .before .before .magnitude .ensures) (sym (ap (remainder (s .args .p)) (not-negative f (c .if1 .left)) ∙ remainder-positive (s .args .p) (mag (s .args .x .0))))
+    let p = s .args .p in
+    let e = ap (remainder p) (not-negative f (c .if1 .left)) ∙ remainder-positive p (mag (s .args .x .0)) in
+    rw (c .before .before .before .magnitude .ensures) (sym e)
 
 pub remainder-of-spec : {M : Type 1} → statement M
 remainder-of-spec =

@@ -1,4 +1,5 @@
 -- `number::residue::signed_value`: the test is the definition's, and both arms are below 2 ^ 32 in absolute value.
+use Prim.Native.Nat.{_-_, _/_}
 use borrow.Author.Needs.{needs}
 use borrow.Author.Tests.{le-leb, lt-leb}
 use native.Mathlib.Omega.{arith}
@@ -30,14 +31,17 @@ sub-t11 c =
 
 returns : tie.Need-returns
 unfolding signed highest half
-returns c = simp (small (c .before .args .r .0) (omega arith), le-leb _ _ (c .if1 .taken))
+returns c =
+    let r = c .before .args .r .0 in
+    let p = c .before .args .p in
+    simp (small r (omega arith), le-leb r ((p - 1) / 2) (omega arith))
 
 returns-2 : tie.Need-returns-2
 unfolding signed highest half
 returns-2 c =
     let r = c .before .args .r .0 in
     let p = c .before .args .p in
-    rw (back (sub-t11 c), small r (omega arith), small p (omega arith), lt-leb _ _ (c .if1 .left))
+    rw (back (sub-t11 c), small r (omega arith), small p (omega arith), lt-leb r ((p - 1) / 2) (omega arith))
 
 pub signed-value-spec : {M : Type 1} → statement M
 signed-value-spec =

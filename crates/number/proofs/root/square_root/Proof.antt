@@ -1,9 +1,9 @@
 -- `number::root::square_root`: the square of low is at most n and that of high above it, until high is the next number after low.
 use mathlib.Core.Path.{_≡_}
-use Prim.Native.Nat.{suc, _+_, _-_, _*_, _/_, _^_, _≤_, _<_}
+use Prim.Native.Nat.{suc, _-_, _*_, _^_, _≤_, _<_}
 use native.Mathlib.Omega.{arith}
-use native.Mathlib.Nat.{mul-le-mul}
 use borrow.Author.Needs.{needs}
+use Rattle.number.proofs.Word.{wide-product}
 use Rattle.algebra.proofs.Root.{root-unique}
 use Rattle.number.proofs.root.square_root.Statement.{statement}
 use Rattle.number.proofs.root.square_root.Tie as tie
@@ -27,10 +27,7 @@ add-middle : tie.Need-add-middle Inv-loop μ-loop
 add-middle c = search needs
 
 mul-if1 : tie.Need-mul-if1 Inv-loop μ-loop
-mul-if1 c =
-    let s = c .before .loop in
-    let h : s .low + (s .high - s .low) / 2 ≤ 4294967295 = omega arith in
-    omega (arith, mul-le-mul h h)
+mul-if1 c = wide-product (omega arith) (omega arith)
 
 loop-less : tie.Need-loop-less Inv-loop μ-loop
 loop-less c = search needs

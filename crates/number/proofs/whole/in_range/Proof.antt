@@ -16,8 +16,8 @@ sub-half c = search needs
 cast-half : tie.Need-cast-half
 cast-half c = search needs
 
-sub-t6 : tie.Need-sub-t6
-sub-t6 c =
+sub-low : tie.Need-sub-low
+sub-low c =
     let h : ℕ = (c .args .p - 1) / 2 in
     rw (small h (omega arith)) (parts-fit (pos 0 -ℤ pos h) (omega (arith, minus (pos 0) (pos h))) (omega (arith, minus (pos 0) (pos h))))
 
@@ -29,7 +29,7 @@ unfolding inRange lowest highest half
 returns c =
     let s = c .before in
     let h : ℕ = (s .args .p - 1) / 2 in
-    c .within .ensures ∙ rw (back (sub-t6 s), small h (omega arith), +ℤ-idl (negℤ (pos h)))
+    c .within .ensures ∙ rw (back (sub-low s), small h (omega arith), +ℤ-idl (negℤ (pos h)))
 
 pub in-range-spec : {M : Type 1} → statement M
-in-range-spec = tie.close (tie.spec sub-half cast-half sub-t6 within-requires returns)
+in-range-spec = tie.close (tie.spec sub-half cast-half sub-low within-requires returns)

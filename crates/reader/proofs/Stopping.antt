@@ -1,0 +1,75 @@
+-- A line that reading stops at or goes past: what is replied, and what is known after it.
+use mathlib.Core.Path.{_≡_, refl, sym, ap, _∙_, subst}
+use mathlib.Core.Option.{Option, none, some}
+use Prim.Native.Nat.{ℕ, zero, suc, _≤_}
+use native.Mathlib.Omega.{arith}
+use Rattle.meaning.specs.Line.{Line}
+use Rattle.meaning.specs.Known.{Known, fresh}
+use Rattle.meaning.specs.Meaning.{after}
+use Rattle.meaning.specs.Refusal.{Reading, refused, read, onSome, onReading, isPlaced, rulesWithin, rules, firstBroken, consLine, readLine}
+use Rattle.meaning.specs.Reply.{reply, refusal}
+use Rattle.reader.specs.Step.{Step, stops, goes, stepOf, stepOption}
+use Rattle.reader.specs.Read.{firstOption, replyOf}
+
+-- the step of line n
+unfoldable pub stepAt : ℕ → Known → Option Line → Step
+stepAt n s none = stops 3
+stepAt n s (some l) = onSome (firstBroken rules n s l) stops (goes (after s l))
+
+pub step-first : (o : Option Line) → firstOption o ≡ stepAt 0 fresh o
+unfolding firstOption stepAt
+step-first none = refl
+step-first (some l) = refl
+
+-- the rules are the same for every line after line 0
+step-after : (m : ℕ) (s : Known) (o : Option Line) → stepOption s o ≡ stepAt (suc m) s o
+unfolding stepOption stepOf stepAt rules rulesWithin firstBroken isPlaced
+step-after m s none = refl
+step-after m s (some l) = refl
+
+pub step-later : (n : ℕ) → 1 ≤ n → (s : Known) (o : Option Line) → stepOption s o ≡ stepAt n s o
+step-later zero h s o = absurd (omega arith)
+step-later (suc m) h s o = step-after m s o
+
+-- ---- a step taken apart
+
+abbrev numberIn : Step → ℕ
+numberIn (stops n) = n
+numberIn (goes s) = 0
+
+abbrev knownIn : Step → Known
+knownIn (stops n) = fresh
+knownIn (goes s) = s
+
+abbrev Goes : Step → Type 0
+Goes (stops n) = ⊥
+Goes (goes s) = Unit {0}
+
+reply-cons : (l : Line) (r : Reading) → replyOf (consLine l r) ≡ replyOf r
+unfolding replyOf consLine onReading
+reply-cons l (refused n i) = refl
+reply-cons l (read ls z) = refl
+
+module _ (n : ℕ) (s : Known) (rest : Known → Reading) where
+  stopped-by : (o : Option ℕ) (l : Line) (r : ℕ) (a : Known) → stops r ≡ onSome o stops (goes a)
+      → replyOf (onSome o (λ r. refused r n) (consLine l (rest a))) ≡ refusal (reply r n)
+  unfolding onSome replyOf onReading
+  stopped-by none l r a e = absurd (subst Goes (sym e) tt)
+  stopped-by (some q) l r a e = ap (λ (i : ℕ). refusal (reply i n)) (sym (ap numberIn e))
+
+  gone-by : (o : Option ℕ) (l : Line) (a b : Known) → goes b ≡ onSome o stops (goes a)
+      → (o ≡ none) × (b ≡ a) × (replyOf (onSome o (λ r. refused r n) (consLine l (rest a))) ≡ replyOf (rest b))
+  unfolding onSome
+  gone-by none l a b e = (refl, ap knownIn e, reply-cons l (rest a) ∙ ap (λ (z : Known). replyOf (rest z)) (sym (ap knownIn e)))
+  gone-by (some q) l a b e = absurd (subst Goes e tt)
+
+  pub stopped-at : (o : Option Line) (r : ℕ) → stops r ≡ stepAt n s o → replyOf (readLine rules n s o rest) ≡ refusal (reply r n)
+  unfolding stepAt readLine replyOf onReading
+  stopped-at none r e = ap (λ (i : ℕ). refusal (reply i n)) (sym (ap numberIn e))
+  stopped-at (some l) r e = stopped-by (firstBroken rules n s l) l r (after s l) e
+
+  pub gone-at : (o : Option Line) (b : Known) → goes b ≡ stepAt n s o
+      → (l : Line) × (firstBroken rules n s l ≡ none) × (b ≡ after s l) × (replyOf (readLine rules n s o rest) ≡ replyOf (rest b))
+  unfolding stepAt readLine
+  gone-at none b e = absurd (subst Goes e tt)
+  gone-at (some l) b e = let g = gone-by (firstBroken rules n s l) l (after s l) b e in (l, g .0, g .1, g .2)

@@ -1,0 +1,209 @@
+-- Walking the lines of a list: what holds before each line, that it holds again after a line that is not refused, and what the reply is
+-- where the walk ends.
+use mathlib.Core.Path.{_≡_, refl, sym, ap, ap₂, _∙_, subst}
+use mathlib.Core.Bool.{true, false}
+use mathlib.Core.List.{List, [], _∷_, _++_}
+use mathlib.Core.Option.{Option, none, some}
+use Prim.Native.Nat.{ℕ, zero, suc, _+_, _*_, _-_, _≤_, _<_}
+use native.Mathlib.Omega.{arith}
+use native.Mathlib.Numerals.{add-one}
+use lib.Dec.{T, leb→le}
+use lib.ListN.{length, getD, take, drop, length-append}
+use lib.Seq.{length-take-le, getD-take}
+use lib.IntN.{ℤ, pos, natAbs}
+use lib.Signed.{_≤ℤ_}
+use Rattle.number.proofs.Bounded.{bounded-range}
+use Rattle.algebra.proofs.Integer.Linear.{linear}
+use Rattle.meaning.specs.Number.{half, lowest, highest}
+use Rattle.meaning.specs.Text.{isEnded}
+use Rattle.meaning.specs.Line.{Line, lineOf}
+use Rattle.meaning.specs.Known.{Known}
+use Rattle.meaning.specs.Meaning.{gadget, after}
+use Rattle.meaning.specs.Refusal.{valueLimit, cellLimit, Reading, onReading, rules, firstBroken, readLine, readFrom}
+use Rattle.meaning.specs.Reply.{reply, counts, refusal, Answer}
+use Rattle.meaning.proofs.Number.{OddPrime}
+use Rattle.meaning.proofs.Law.{Ranged}
+use Rattle.meaning.proofs.Kept.{Keeps, keeps-all}
+use Rattle.meaning.proofs.Lines.{Sound, sound-after}
+use Rattle.text.specs.Place.{Found, linesFrom}
+use Rattle.text.proofs.Places.{lines-none, line-within, lines-next}
+use Rattle.reader.specs.State.{greatest, endsFrom, stateOf, Small, Ready}
+use Rattle.reader.specs.Step.{stepBytes, stepSeen, valuesIn, Sized}
+use Rattle.reader.specs.Read.{only, replyOf}
+use Rattle.reader.specs.declared.state.Counts.{Counts}
+use Rattle.reader.specs.declared.state.Stepped.{Stepped}
+use Rattle.reader.specs.declared.state.Stepped.the-variants.{Next, Refused}
+use Rattle.reader.proofs.Growth.{length-ends}
+use Rattle.reader.proofs.Ordered.{Ordered, ordered-after}
+use Rattle.reader.proofs.Steps.{few}
+use Rattle.reader.proofs.Stopping.{stopped-at, gone-at, step-later}
+
+-- what holds before line n, which starts at `at`
+pub record Walked (list : List ℕ) (start p : ℕ) (numbers lows highs : List ℤ) (places : List ℕ) (c : Counts) (at n : ℕ) : Type 0 where
+  pub inside : at ≤ length list
+  pub later : 1 ≤ n
+  pub counted : n ≤ at
+  pub numbers-long : length numbers ≡ 33
+  pub sized : Sized c (length lows) (length highs) (length places)
+  pub sound : Sound n (stateOf p c lows highs places)
+  pub ordered : Ordered (stateOf p c lows highs places .known)
+  pub reply-left : replyOf (readFrom rules 1 (only p) (linesFrom list start)) ≡ replyOf (readFrom rules n (stateOf p c lows highs places) (linesFrom list at))
+
+-- ---- the ends fit the arrays
+
+small-ends : (p : ℕ) (xs ys : List ℤ) → p ≤ greatest → length xs ≡ length ys → Ranged p (endsFrom xs ys) → Ordered (endsFrom xs ys)
+    → ((i : ℕ) → i < length xs → (natAbs (getD xs i (pos 0)) ≤ greatest) × (natAbs (getD ys i (pos 0)) ≤ greatest))
+unfolding endsFrom lowest highest half
+small-ends p [] ys h e r o i l = absurd (omega arith)
+small-ends p (x ∷ xs) [] h e r o i l = absurd (omega arith)
+small-ends p (x ∷ xs) (y ∷ ys) h e r o zero l =
+    let a = r .0 in
+    let b = r .1 in
+    let c = o .0 in
+    (bounded-range {bound = greatest} x (omega linear) (omega linear) .size, bounded-range {bound = greatest} y (omega linear) (omega linear) .size)
+small-ends p (x ∷ xs) (y ∷ ys) h e r o (suc i) l = small-ends p xs ys h (omega arith) (r .2) (o .1) i (omega arith)
+
+module _ (p : ℕ) (c : Counts) (lows highs : List ℤ) (places : List ℕ) (sized : Sized c (length lows) (length highs) (length places)) where
+  abbrev state : Known
+  state = stateOf p c lows highs places
+
+  low-enough : c .values ≤ length lows
+  low-enough = omega (arith, sized .values-most, sized .lows-long)
+
+  high-enough : c .values ≤ length highs
+  high-enough = omega (arith, sized .values-most, sized .highs-long)
+
+  same-length : length (take (c .values) lows) ≡ length (take (c .values) highs)
+  same-length = length-take-le (c .values) lows low-enough ∙ sym (length-take-le (c .values) highs high-enough)
+
+  pub known-count : length (state .known) ≡ c .values
+  unfolding stateOf
+  known-count = length-ends (take (c .values) lows) (take (c .values) highs) same-length ∙ length-take-le (c .values) lows low-enough
+
+  pub walk-ready : (n : ℕ) → 1 ≤ n → p ≤ greatest → Sound n state → Ordered (state .known) → Ready p (c .values) (c .cells) lows highs
+  unfolding stateOf
+  walk-ready n h k sound ordered =
+      let small = small-ends p (take (c .values) lows) (take (c .values) highs) k same-length (sound .ranged) ordered in
+      let count = length-take-le (c .values) lows low-enough in
+      record {
+        p-low = sound .prime (omega arith) .three;
+        p-high = k;
+        values-most = sized .values-most;
+        cells-most = sized .cells-most;
+        lows-long = sized .lows-long;
+        highs-long = sized .highs-long;
+        lows-small = λ i l. subst (λ (z : ℤ). natAbs z ≤ greatest) (getD-take (c .values) lows i (pos 0) l) (small i (omega (arith, count)) .0);
+        highs-small = λ i l. subst (λ (z : ℤ). natAbs z ≤ greatest) (getD-take (c .values) highs i (pos 0) l) (small i (omega (arith, count)) .1);
+      }
+
+count-of : (p : ℕ) (c : Counts) (lows highs : List ℤ) → length lows ≡ 256 → length highs ≡ 256 → (places : List ℕ) → c .values ≤ 256
+    → length (stateOf p c lows highs places .known) ≡ c .values
+unfolding stateOf
+count-of p c lows highs l m places h =
+    let a = length-take-le (c .values) lows (omega (arith, l)) in
+    length-ends (take (c .values) lows) (take (c .values) highs) (a ∙ sym (length-take-le (c .values) highs (omega (arith, m)))) ∙ a
+
+-- ---- the walk
+
+pub walk-start : (list : List ℕ) (start p : ℕ) (numbers lows highs : List ℤ) (places : List ℕ) → 1 ≤ start → start ≤ length list → OddPrime p
+    → length numbers ≡ 33 → length lows ≡ 256 → length highs ≡ 256 → length places ≡ 256
+    → Walked list start p numbers lows highs places (record { values = 0; inputs = 0; cells = 0; rows = 0 }) start 1
+unfolding stateOf endsFrom only
+walk-start list start p numbers lows highs places h k odd n l m o = record {
+  inside = k;
+  later = omega arith;
+  counted = h;
+  numbers-long = n;
+  sized = record {
+    lows-long = l;
+    highs-long = m;
+    places-long = o;
+    values-most = omega arith;
+    inputs-most = omega arith;
+    cells-most = omega arith;
+    rows-most = omega arith;
+  };
+  sound = record { start = λ e. absurd (omega arith); prime = λ _. odd; ranged = tt };
+  ordered = tt;
+  reply-left = refl;
+}
+
+module _ {list : List ℕ} {start p : ℕ} {numbers lows highs : List ℤ} {places : List ℕ} {c : Counts} {at n : ℕ}
+    (w : Walked list start p numbers lows highs places c at n) where
+  pub walk-end : length list ≤ at
+      → counts p (c .values) (c .cells) (c .rows) ≡ replyOf (readFrom rules 1 (only p) (linesFrom list start))
+  unfolding replyOf readFrom onReading stateOf
+  walk-end h = sym (w .reply-left ∙ rw (lines-none list at h) (ap (λ (v : ℕ). counts p v (c .cells) (c .rows)) (known-count p c lows highs places (w .sized))))
+
+  module _ (ended : isEnded list ≡ true) {end : ℕ} (h : at < length list) (found : Found 10 list at end) where
+    abbrev line : List ℕ
+    line = take (end - at) (drop at list)
+
+    abbrev rest : Known → Reading
+    rest z = readFrom rules (suc n) z (linesFrom list (end + 1))
+
+    reply-here : replyOf (readFrom rules 1 (only p) (linesFrom list start)) ≡ replyOf (readLine rules n (state p c lows highs places (w .sized)) (lineOf line) rest)
+    unfolding readFrom
+    reply-here = w .reply-left ∙ rw (lines-next list ended h found) refl
+
+    pub walk-stopped : (x : Stepped) (r : ℕ) (ls hs : List ℤ) (ps : List ℕ) → x ≡ Refused r
+        → stepSeen p x ls hs ps ≡ stepBytes (stateOf p c lows highs places) line
+        → refusal (reply r n) ≡ replyOf (readFrom rules 1 (only p) (linesFrom list start))
+    unfolding stepSeen stepBytes
+    walk-stopped x r ls hs ps is e =
+        let stopped : stepSeen p (Refused r) ls hs ps ≡ stepBytes (stateOf p c lows highs places) line = ap (λ (y : Stepped). stepSeen p y ls hs ps) (sym is) ∙ e in
+        sym (reply-here ∙ stopped-at n (stateOf p c lows highs places) rest (lineOf line) r (stopped ∙ step-later n (w .later) (stateOf p c lows highs places) (lineOf line)))
+
+    -- the walk goes on with the next line
+    module _ (x : Stepped) (next : Counts) (numbers′ ls hs : List ℤ) (ps : List ℕ) (is : x ≡ Next next)
+        (e : stepSeen p x ls hs ps ≡ stepBytes (stateOf p c lows highs places) line) (few-in : valuesIn x ≤ 256) (numbers-long : length numbers′ ≡ 33) (lows-long : length ls ≡ length lows)
+        (highs-long : length hs ≡ length highs) (places-long : length ps ≡ length places) where
+      abbrev s : Known
+      s = stateOf p c lows highs places
+
+      abbrev t : Known
+      t = stateOf p next ls hs ps
+
+      few-values : next .values ≤ 256
+      unfolding valuesIn
+      few-values = subst (λ (y : Stepped). valuesIn y ≤ 256) is few-in
+
+      gone : (l : Line) × (firstBroken rules n s l ≡ none) × (t ≡ after s l) × (replyOf (readLine rules n s (lineOf line) rest) ≡ replyOf (rest t))
+      unfolding stepSeen stepBytes
+      gone = gone-at n s rest (lineOf line) t (ap (λ (y : Stepped). stepSeen p y ls hs ps) (sym is) ∙ e ∙ step-later n (w .later) s (lineOf line))
+
+      keeps : Keeps n s (gone .0)
+      keeps = keeps-all n s (gone .0) (gone .1)
+
+      room : Sized next (length ls) (length hs) (length ps)
+      unfolding stateOf after valueLimit cellLimit
+      room =
+          let g = gadget s (gone .0) in
+          let f = few n s (gone .0) keeps in
+          let cells-are : next .cells ≡ c .cells + g .width = ap (λ (z : Known). z .cells) (gone .2) in
+          let rows-are : next .rows ≡ c .rows + length (g .rows) = ap (λ (z : Known). z .rows) (gone .2) in
+          let inputs-are : next .inputs ≡ c .inputs + g .inputs = ap (λ (z : Known). z .inputs) (gone .2) in
+          let count : length (t .known) ≡ next .values = count-of p next ls hs (lows-long ∙ w .sized .lows-long) (highs-long ∙ w .sized .highs-long) ps few-values in
+          let known-are : length (t .known) ≡ length (g .narrowed ++ g .made) = ap (λ (z : Known). length (z .known)) (gone .2) in
+          let before = known-count p c lows highs places (w .sized) in
+          record {
+            lows-long = lows-long ∙ w .sized .lows-long;
+            highs-long = highs-long ∙ w .sized .highs-long;
+            places-long = places-long ∙ w .sized .places-long;
+            values-most = few-values;
+            inputs-most = omega (arith, inputs-are, count, known-are, length-append (g .narrowed) (g .made), f .0, f .2, before, w .sized .inputs-most);
+            cells-most = omega (arith, cells-are, leb→le (c .cells + g .width) 4096 (keeps .cells-fit));
+            rows-most = omega (arith, cells-are, rows-are, f .1, w .sized .rows-most);
+          }
+
+      pub walk-next : Walked list start p numbers′ ls hs ps next (end + 1) (n + 1)
+      walk-next = record {
+        inside = omega (arith, line-within list ended h found);
+        later = omega arith;
+        counted = omega (arith, w .counted, found .low);
+        numbers-long = numbers-long;
+        sized = room;
+        sound = rw (add-one n) (subst (λ (z : Known). Sound (suc n) z) (sym (gone .2)) (sound-after n s (gone .0) (w .sound) keeps));
+        ordered = subst (λ (z : Known). Ordered (z .known)) (sym (gone .2)) (ordered-after n s (gone .0) keeps (w .ordered));
+        reply-left = reply-here ∙ gone .3 ∙ ap (λ (i : ℕ). replyOf (readFrom rules i t (linesFrom list (end + 1)))) (sym (add-one n));
+      }

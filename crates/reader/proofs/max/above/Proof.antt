@@ -1,0 +1,48 @@
+-- Each end of `apart`, at most brought to 0.
+use mathlib.Core.Path.{_≡_, ap, _∙_}
+use native.Mathlib.Omega.{arith}
+use lib.IntN.{pos}
+use mir.Syntax.{w64}
+use mir.Val.{SFits, toZ, ofZ}
+use Rattle.meaning.specs.Known.{larger, smaller}
+use Rattle.number.specs.Bounded.{Bounded}
+use Rattle.number.proofs.Word.{back}
+use Rattle.reader.proofs.Values.{larger-bounded, smaller-bounded}
+use borrow.Author.Needs.{needs}
+use Rattle.reader.proofs.max.above.Statement.{statement}
+use Rattle.reader.proofs.max.above.Tie as tie
+
+apart-requires : tie.Need-apart-requires
+apart-requires c κs = search needs
+
+smaller-requires : tie.Need-smaller-requires
+smaller-requires c κs = search needs
+
+larger-requires : tie.Need-larger-requires
+larger-requires c κs = search needs
+
+returns : tie.Need-returns
+returns c =
+    let at-larger = c .before .before in
+    let at-smaller = at-larger .before .before in
+    let between = at-smaller .before .before .apart in
+    let f : SFits w64 (at-smaller .smaller .result .0) = search needs in
+    let g : SFits w64 (at-larger .larger .result .0) = search needs in
+    let low : SFits w64 (between .result .low) = search needs in
+    let high : SFits w64 (between .result .high) = search needs in
+    let zero : Bounded 4294967294 (pos 0) = record { size = omega arith } in
+    let small : toZ w64 (ofZ w64 (at-smaller .smaller .result .0)) ≡ smaller (pos 0) (between .result .low) =
+    back f ∙ (rw (back low) at (at-smaller .smaller .ensures)) in
+    let large : toZ w64 (ofZ w64 (at-larger .larger .result .0)) ≡ larger (pos 0) (between .result .high) =
+    back g ∙ (rw (back high) at (at-larger .larger .ensures)) in
+    record {
+      sized = record {
+        low-sized = rw small (smaller-bounded 4294967294 (pos 0) (between .result .low) zero (between .ensures .sized .low-sized));
+        high-sized = rw large (larger-bounded 4294967294 (pos 0) (between .result .high) zero (between .ensures .sized .high-sized));
+      };
+      low-is = small ∙ ap (smaller (pos 0)) (between .ensures .low-is);
+      high-is = large ∙ ap (larger (pos 0)) (between .ensures .high-is);
+    }
+
+pub above-spec : {M : Type 1} → statement M
+above-spec = tie.close (tie.spec apart-requires smaller-requires larger-requires returns)

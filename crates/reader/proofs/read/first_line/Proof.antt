@@ -1,0 +1,139 @@
+-- `reader::read::first_line`: line 0 is a field line over an odd prime, or it is refused 3, 4 or 5.
+use mathlib.Core.Path.{sym, ap, _∙_}
+use Prim.Native.Nat.{ℕ}
+use Rattle.meaning.specs.Number.{oddPrime}
+use Rattle.reader.specs.State.{greatest}
+use Rattle.reader.specs.Step.{goes}
+use native.Mathlib.Omega.{arith}
+use denote.Ref.{now}
+use borrow.Author.Tests.{not-true, not-false}
+use Rattle.number.proofs.Word.{back}
+use Rattle.text.proofs.Answers.{no-line-seen}
+use Rattle.reader.specs.Read.{only, firstSeen, primeIn}
+use Rattle.reader.proofs.Firsts.{first-none, first-not-field, first-fits, first-negative, first-is, first-number, first-size, first-composite, first-odd-prime}
+use borrow.Author.Needs.{needs}
+use Rattle.reader.proofs.read.first_line.Statement.{statement}
+use Rattle.reader.proofs.read.first_line.Tie as tie
+use Rattle.reader.proofs.read.first_line.Reads as reads
+use Rattle.reader.proofs.read.first_line.Lts as lts
+use Rattle.number.proofs.prime.is_odd_prime.Reads as is-odd-prime-reads
+use Rattle.reader.proofs.read.is_field.Reads as is-field-reads
+use Rattle.text.proofs.line_of.Reads as line-of-reads
+
+-- src/read.rt:54:33
+line-of-requires : tie.Need-line-of-requires
+line-of-requires c κs = search needs
+
+-- src/read.rt:54:22
+enum-known-word : tie.Need-enum-known-word
+enum-known-word c = search needs
+
+-- src/read.rt:55:9
+enum-told : tie.Need-enum-told
+enum-told c = search needs
+
+-- src/read.rt:55:9
+same-length : tie.Need-same-length
+same-length c = search needs
+
+-- src/read.rt:55:9
+returns : tie.Need-returns
+unfolding firstSeen primeIn
+returns c = (
+  first-none (now (c .before .before .before .before .before .before .args .line)) (no-line-seen (c .before .before .before .line-of .ensures) (c .enum-told .given .1)),
+  (omega arith, c .before .before .before .line-of .ensures .kept),
+)
+
+-- src/read.rt:57:9
+is-field-requires : tie.Need-is-field-requires
+is-field-requires c κs = search needs
+
+-- src/read.rt:58:9
+same-length-2 : tie.Need-same-length-2
+same-length-2 c = search needs
+
+-- src/read.rt:58:9
+returns-2 : tie.Need-returns-2
+unfolding firstSeen primeIn
+returns-2 c = (
+  first-not-field (now (c .before .before .before .before .before .before .before .before .before .args .line)) (c .before .before .before .before .before .before .line-of .ensures) (c .before .before .before .word .given .1) (c .before .before .before .before .before .before .before .before .before .pre) (sym (c .before .is-field .ensures) ∙ not-true _ (c .if1 .taken)),
+  (omega arith, c .before .before .before .before .before .before .line-of .ensures .kept),
+)
+
+-- src/read.rt:60:13
+slice-copy-out-n : tie.Need-slice-copy-out-n
+slice-copy-out-n c = search needs
+
+-- src/read.rt:62:9
+same-length-3 : tie.Need-same-length-3
+same-length-3 c = search needs
+
+-- src/read.rt:62:9
+returns-3 : tie.Need-returns-3
+unfolding firstSeen primeIn
+returns-3 c = (
+  first-negative (now (c .before .before .before .before .before .before .before .before .before .before .before .args .line)) (c .before .before .before .before .before .before .before .before .line-of .ensures) (c .before .before .before .before .before .word .given .1) (c .before .before .before .before .before .before .before .before .before .before .before .pre) (sym (c .before .before .before .is-field .ensures) ∙ not-false _ (c .before .before .if1 .left)) (c .if2 .taken),
+  (omega arith, c .before .before .before .before .before .before .before .before .line-of .ensures .kept),
+)
+
+-- src/read.rt:64:13
+cast-p : tie.Need-cast-p
+cast-p c =
+    let f = (sym (c .before .before .before .is-field .ensures) ∙ not-false _ (c .before .before .if1 .left)) in
+    rw (back (first-fits (now (c .before .before .before .before .before .before .before .before .before .before .before .args .line)) (c .before .before .before .before .before .before .before .before .line-of .ensures) (c .before .before .before .before .before .word .given .1) (c .before .before .before .before .before .before .before .before .before .before .before .pre) f), first-is (now (c .before .before .before .before .before .before .before .before .before .before .before .args .line)) (c .before .before .before .before .before .before .before .before .line-of .ensures) (c .before .before .before .before .before .word .given .1) (c .before .before .before .before .before .before .before .before .before .before .before .pre) f (c .if2 .left)) (tt, record { fits = omega (arith, first-size (now (c .before .before .before .before .before .before .before .before .before .before .before .args .line)) (c .before .before .before .before .before .before .before .before .line-of .ensures) (c .before .before .before .before .before .word .given .1) (c .before .before .before .before .before .before .before .before .before .before .before .pre) f (c .if2 .left)) })
+
+-- src/read.rt:65:9
+is-odd-prime-requires : tie.Need-is-odd-prime-requires
+is-odd-prime-requires c κs = search needs
+
+-- src/read.rt:66:9
+same-length-4 : tie.Need-same-length-4
+same-length-4 c = search needs
+
+-- src/read.rt:66:9
+returns-4 : tie.Need-returns-4
+unfolding firstSeen primeIn
+returns-4 c =
+    let f = (sym (c .before .before .before .before .before .is-field .ensures) ∙ not-false _ (c .before .before .before .before .if1 .left)) in
+    let number = first-number (now (c .before .before .before .before .before .before .before .before .before .before .before .before .before .args .line)) (c .before .before .before .before .before .before .before .before .before .before .line-of .ensures) (c .before .before .before .before .before .before .before .word .given .1) (c .before .before .before .before .before .before .before .before .before .before .before .before .before .pre) f (c .before .before .if2 .left) in (
+      first-composite (now (c .before .before .before .before .before .before .before .before .before .before .before .before .before .args .line)) (c .before .before .before .before .before .before .before .before .before .before .line-of .ensures) (c .before .before .before .before .before .before .before .word .given .1) (c .before .before .before .before .before .before .before .before .before .before .before .before .before .pre) f (c .before .before .if2 .left)
+          (ap oddPrime (sym number) ∙ sym (c .before .is-odd-prime .ensures) ∙ not-true _ (c .if3 .taken)),
+      (omega arith, c .before .before .before .before .before .before .before .before .before .before .line-of .ensures .kept),
+    )
+
+-- src/read.rt:48:1
+same-length-5 : tie.Need-same-length-5
+same-length-5 c = search needs
+
+-- src/read.rt:48:1
+returns-5 : tie.Need-returns-5
+unfolding firstSeen primeIn greatest
+returns-5 c =
+    let f = (sym (c .before .before .before .before .before .is-field .ensures) ∙ not-false _ (c .before .before .before .before .if1 .left)) in
+    let number = first-number (now (c .before .before .before .before .before .before .before .before .before .before .before .before .before .args .line)) (c .before .before .before .before .before .before .before .before .before .before .line-of .ensures) (c .before .before .before .before .before .before .before .word .given .1) (c .before .before .before .before .before .before .before .before .before .before .before .before .before .pre) f (c .before .before .if2 .left) in (
+      ap (λ (m : ℕ). goes (only m)) number ∙ first-odd-prime (now (c .before .before .before .before .before .before .before .before .before .before .before .before .before .args .line)) (c .before .before .before .before .before .before .before .before .before .before .line-of .ensures) (c .before .before .before .before .before .before .before .word .given .1) (c .before .before .before .before .before .before .before .before .before .before .before .before .before .pre) f (c .before .before .if2 .left)
+          (ap oddPrime (sym number) ∙ sym (c .before .is-odd-prime .ensures) ∙ not-false _ (c .if3 .left)),
+      (rw number (first-size (now (c .before .before .before .before .before .before .before .before .before .before .before .before .before .args .line)) (c .before .before .before .before .before .before .before .before .before .before .line-of .ensures) (c .before .before .before .before .before .before .before .word .given .1) (c .before .before .before .before .before .before .before .before .before .before .before .before .before .pre) f (c .before .before .if2 .left)), c .before .before .before .before .before .before .before .before .before .before .line-of .ensures .kept),
+    )
+
+pub first-line-spec : {M : Type 1} → statement M
+first-line-spec =
+    tie.close
+    (tie.spec
+    line-of-requires
+    enum-known-word
+    enum-told
+    same-length
+    returns
+    is-field-requires
+    same-length-2
+    returns-2
+    slice-copy-out-n
+    same-length-3
+    returns-3
+    cast-p
+    is-odd-prime-requires
+    same-length-4
+    returns-4
+    same-length-5
+    returns-5)

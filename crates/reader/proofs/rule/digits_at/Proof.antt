@@ -1,0 +1,47 @@
+-- `digits_of` at the two numbers that were read.
+use Prim.Native.Nat.{_+_}
+use lib.IntN.{pos}
+use lib.ListN.{getD}
+use mir.Syntax.{w64}
+use mir.Val.{SFits}
+use Rattle.number.proofs.Word.{back}
+use borrow.Author.Needs.{needs}
+use Rattle.reader.proofs.rule.digits_at.Statement.{statement}
+use Rattle.reader.proofs.rule.digits_at.Tie as tie
+
+mul-b : tie.Need-mul-b
+mul-b c = search needs
+
+shared-slice-copy-out-b : tie.Need-shared-slice-copy-out-b
+shared-slice-copy-out-b c = search needs
+
+add-k : tie.Need-add-k
+add-k c = search needs
+
+mul-k : tie.Need-mul-k
+mul-k c = search needs
+
+shared-slice-copy-out-k : tie.Need-shared-slice-copy-out-k
+shared-slice-copy-out-k c = search needs
+
+digits-of-requires : tie.Need-digits-of-requires
+digits-of-requires c κs = search needs
+
+returns : tie.Need-returns
+returns c =
+    let start = c .before .before .before in
+    let f : SFits w64 (getD (start .args .numbers .now) (start .args .at) (pos 0)) = search needs in
+    let g : SFits w64 (getD (start .args .numbers .now) (start .args .at + 1) (pos 0)) = search needs in
+    rw (back f, back g) at (c .digits-of .ensures)
+
+pub digits-at-spec : {M : Type 1} → statement M
+digits-at-spec =
+    tie.close
+    (tie.spec
+    mul-b
+    shared-slice-copy-out-b
+    add-k
+    mul-k
+    shared-slice-copy-out-k
+    digits-of-requires
+    returns)

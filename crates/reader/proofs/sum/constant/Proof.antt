@@ -1,0 +1,22 @@
+-- The number that was read, twice.
+use lib.IntN.{pos}
+use lib.ListN.{getD}
+use mir.Syntax.{w64}
+use mir.Val.{SFits}
+use Rattle.number.proofs.Word.{back}
+use Rattle.reader.specs.Rule.{endsSeen}
+use borrow.Author.Needs.{needs}
+use Rattle.reader.proofs.sum.constant.Statement.{statement}
+use Rattle.reader.proofs.sum.constant.Tie as tie
+
+shared-slice-copy-out-c0 : tie.Need-shared-slice-copy-out-c0
+shared-slice-copy-out-c0 c = search needs
+
+returns : tie.Need-returns
+unfolding endsSeen
+returns c =
+    let f : SFits w64 (getD (c .before .args .numbers .now) 0 (pos 0)) = search needs in
+    rw (back f)
+
+pub constant-spec : {M : Type 1} → statement M
+constant-spec = tie.close (tie.spec shared-slice-copy-out-c0 returns)

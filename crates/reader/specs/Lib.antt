@@ -1,0 +1,6 @@
+pub mod State
+pub mod Told
+pub mod Step
+pub mod Read
+pub mod Rule
+pub mod Sum

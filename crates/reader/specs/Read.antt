@@ -1,0 +1,52 @@
+-- Reading a whole list: line 0, what is left of a list at a place, and how the code's answers are read as the definitions'.
+use Prim.Native.Nat.{ℕ, suc}
+use mathlib.Core.Path.{_≡_}
+use mathlib.Core.Logic.{_↔_}
+use mathlib.Core.List.{List, []}
+use mathlib.Core.Option.{Option, none, some}
+use lib.ListN.{length}
+use Rattle.meaning.specs.Line.{Line}
+use Rattle.meaning.specs.Known.{Known, fresh}
+use Rattle.meaning.specs.Meaning.{after}
+use Rattle.meaning.specs.Refusal.{Reading, onSome, onReading, rules, firstBroken, readFrom}
+use Rattle.meaning.specs.Claims.{Fits, Before}
+use Rattle.meaning.specs.Reply.{reply, counts, refusal}
+use Rattle.meaning.specs.Reply.{Answer as Meant}
+use Rattle.reader.specs.State.{stateOf}
+use Rattle.reader.specs.Step.{Step, stops, goes}
+use Rattle.reader.specs.declared.read.First.{First}
+use Rattle.reader.specs.declared.read.First.the-variants.{Prime, NotFirst}
+use Rattle.reader.specs.declared.read.Answer.{Answer}
+use Rattle.reader.specs.declared.read.Answer.the-variants.{Read, Refused}
+
+-- line 0
+unfoldable pub firstOption : Option Line → Step
+firstOption none = stops 3
+firstOption (some l) = onSome (firstBroken rules 0 fresh l) stops (goes (after fresh l))
+
+-- over p, nothing else is known
+unfoldable pub only : ℕ → Known
+only p = record { p = p; known = []; places = []; inputs = 0; cells = 0; rows = 0 }
+
+unfoldable pub firstSeen : First → Step
+firstSeen (Prime p) = goes (only p)
+firstSeen (NotFirst n) = stops n
+
+unfoldable pub primeIn : First → ℕ
+primeIn (Prime p) = p
+primeIn (NotFirst n) = 0
+
+-- what reading replies
+unfoldable pub replyOf : Reading → Meant
+replyOf r = onReading r (λ n at. refusal (reply n at)) (λ ls s. counts (s .p) (length (s .known)) (s .cells) (s .rows))
+
+unfoldable pub answerSeen : Answer → Meant
+answerSeen (Read p values cells rows) = counts p values cells rows
+answerSeen (Refused number place) = refusal (reply number place)
+
+-- demand 2 of a reply: it is a read list's exactly when no refusal fits the text, and a refusal's exactly when that is the first that fits
+abbrev pub Exact : List ℕ → Meant → Type 0
+Exact text a =
+    (((p : ℕ) × (values : ℕ) × (cells : ℕ) × (rows : ℕ) × (a ≡ counts p values cells rows)) ↔ ((number place : ℕ) → ¬ Fits text number place))
+    × ((number place : ℕ) → a ≡ refusal (reply number place) ↔
+    (Fits text number place × ((n i : ℕ) → Before n i number place → ¬ Fits text n i)))

@@ -1,0 +1,57 @@
+-- What one line after line 0 does to what is known, and how the code's answer is read as it.
+use mathlib.Core.Path.{_≡_}
+use Prim.Native.Nat.{ℕ, _*_, _≤_}
+use mathlib.Core.List.{List}
+use mathlib.Core.Option.{Option, none, some}
+use lib.ListN.{length}
+use lib.IntN.{ℤ}
+use Rattle.meaning.specs.Line.{Line, lineOf}
+use Rattle.meaning.specs.Known.{Known}
+use Rattle.meaning.specs.Meaning.{gadget, after}
+use Rattle.meaning.specs.Refusal.{onSome, rules, firstBroken}
+use Rattle.reader.specs.State.{stateOf}
+use Rattle.reader.specs.declared.state.Counts.{Counts}
+use Rattle.reader.specs.declared.state.Stepped.{Stepped}
+use Rattle.reader.specs.declared.state.Stepped.the-variants.{Next, Refused}
+
+-- the refusal of a line, or what is known after it
+pub data Step : Type 0 where
+  stops : (number : ℕ) → Step
+  goes : Known → Step
+
+unfoldable pub stepOf : Known → Line → Step
+stepOf s l = onSome (firstBroken rules 1 s l) stops (goes (after s l))
+
+-- the same of the bytes of a line
+unfoldable pub stepOption : Known → Option Line → Step
+stepOption s none = stops 3
+stepOption s (some l) = stepOf s l
+
+unfoldable pub stepBytes : Known → List ℕ → Step
+stepBytes s line = stepOption s (lineOf line)
+
+unfoldable pub stepSeen : ℕ → Stepped → (lows highs : List ℤ) (places : List ℕ) → Step
+stepSeen p (Next c) lows highs places = goes (stateOf p c lows highs places)
+stepSeen p (Refused n) lows highs places = stops n
+
+unfoldable pub valuesIn : Stepped → ℕ
+valuesIn (Next c) = c .values
+valuesIn (Refused n) = 0
+
+-- arrays of 256, and counts that no sum overflows
+pub record Sized (c : Counts) (lows highs places : ℕ) : Type 0 where
+  pub lows-long : lows ≡ 256
+  pub highs-long : highs ≡ 256
+  pub places-long : places ≡ 256
+  pub values-most : c .values ≤ 256
+  pub inputs-most : c .inputs ≤ c .values
+  pub cells-most : c .cells ≤ 4096
+  pub rows-most : c .rows ≤ 2 * c .cells
+
+-- a line that narrows no ends, with so many inputs, cells and rows
+pub record Grows (s : Known) (l : Line) (inputs cells rows : ℕ) : Type 0 where
+  pub narrowed-is : gadget s l .narrowed ≡ s .known
+  pub inputs-are : gadget s l .inputs ≡ inputs
+  pub cells-are : gadget s l .width ≡ cells
+  pub rows-are : length (gadget s l .rows) ≡ rows
+  pub prime-is : after s l .p ≡ s .p

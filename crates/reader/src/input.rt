@@ -1,0 +1,23 @@
+// Reading an input line: it asks only for room, and its value may be any whole number of the signed range.
+use super::rule::Made;
+ghost use mathlib.Core.Path.{_≡_};
+ghost use mathlib.Core.List.{[]};
+ghost use Rattle.meaning.specs.Line.{input};
+ghost use Rattle.meaning.specs.Known.{Known};
+ghost use Rattle.reader.specs.State.{Ready, Seen};
+ghost use Rattle.reader.specs.Told.{toldOf, madeSeen, lineWith};
+
+pub fn read_input(p: u32, values: usize, cells: usize, lows: &[i64], highs: &[i64]) -> Made
+    requires { ⌜ Ready p values cells (now lows) (now highs) ⌝ }
+    ensures { λ r. ⌜ ((s : Known) → Seen s p values cells (now (lows .entry)) (now (highs .entry))
+        → madeSeen r ≡ toldOf s (lineWith input [])) ⌝ }
+{
+    if 256 <= values {
+        return Made::Breaks(8);
+    }
+    if 4096 <= cells {
+        return Made::Breaks(9);
+    }
+    let half = ((p - 1) / 2) as i64;
+    Made::EndsOf(0 - half, half)
+}

@@ -1,0 +1,87 @@
+// Reading a max line.
+use super::rule::Digits;
+use super::rule::Ends;
+use super::rule::Made;
+use super::rule::apart;
+use super::rule::are_made;
+use super::rule::digit_rule;
+use super::rule::digits_at;
+use super::rule::early_broken;
+use super::rule::ends_named;
+use number::whole::Whole;
+use number::whole::larger;
+use number::whole::smaller;
+ghost use mathlib.Core.Path.{_≡_};
+ghost use mathlib.Core.Bool.{_&&_};
+ghost use mathlib.Core.List.{[], _∷_};
+ghost use Prim.Native.Nat.{_≤_};
+ghost use lib.IntN.{pos};
+ghost use lib.ListN.{length, take};
+ghost use Rattle.meaning.specs.Line.{max};
+ghost use Rattle.meaning.specs.Known.{Known, ends, larger, above, digitRule};
+ghost use Rattle.reader.specs.State.{Small, Ready, Seen};
+ghost use Rattle.reader.specs.Told.{toldOf, madeSeen, makes, lineWith};
+ghost use Rattle.reader.specs.Rule.{endsSeen, Sized, Above, Field};
+
+pub fn read_max(
+    numbers: &[i64],
+    p: u32,
+    values: usize,
+    cells: usize,
+    lows: &[i64],
+    highs: &[i64],
+) -> Made
+    requires { ⌜ Ready p values cells (now lows) (now highs) × (4 ≤ length (now numbers)) × Small 4 (now numbers) ⌝ }
+    ensures { λ r. ⌜ ((s : Known) → Seen s p values cells (now (lows .entry)) (now (highs .entry))
+        → madeSeen r ≡ toldOf s (lineWith max (take 4 (now (numbers .entry))))) ⌝ }
+{
+    let Digits::Of(b, k) = digits_at(numbers, 2) else {
+        return Made::Breaks(6);
+    };
+    let named = are_made(numbers, values);
+    let broken = early_broken(named, values, 1, cells, 2 * k as usize + 1);
+    if broken != 0 {
+        return Made::Breaks(broken);
+    }
+    let u = ends_named(numbers, 0, values, lows, highs);
+    let v = ends_named(numbers, 1, values, lows, highs);
+    if !max_rule(p, b, k, u, v) {
+        return Made::Breaks(10);
+    }
+    greater(u, v)
+}
+
+// The digit rule over y - u and y - v with shift 0, for y the greater of u and v.
+fn max_rule(p: u32, b: u64, k: u32, u: Ends, v: Ends) -> bool
+    requires { ⌜ Field p × (1 ≤ b) × Sized 2147483647 u × Sized 2147483647 v ⌝ }
+    ensures { λ r. ⌜ r
+        ≡ digitRule p b k (above (endsSeen u) (endsSeen v)) (pos 0) && digitRule p b k (above (endsSeen v) (endsSeen u)) (pos 0) ⌝ }
+{
+    if digit_rule(p, b, k, above(u, v), 0) {
+        return digit_rule(p, b, k, above(v, u), 0);
+    }
+    false
+}
+
+// The ends of y - u.
+fn above(u: Ends, v: Ends) -> Ends
+    requires { ⌜ Sized 2147483647 u × Sized 2147483647 v ⌝ }
+    ensures { λ r. ⌜ Above u v r ⌝ }
+{
+    let between = apart(v, u);
+    let low = smaller(Whole(0), Whole(between.low));
+    let high = larger(Whole(0), Whole(between.high));
+    Ends {
+        low: low.0,
+        high: high.0,
+    }
+}
+
+// The ends of the greater of u and v.
+fn greater(u: Ends, v: Ends) -> Made
+    ensures { λ r. ⌜ madeSeen r ≡ makes (ends (larger (u .low) (v .low)) (larger (u .high) (v .high)) ∷ []) ⌝ }
+{
+    let low = larger(Whole(u.low), Whole(v.low));
+    let high = larger(Whole(u.high), Whole(v.high));
+    Made::EndsOf(low.0, high.0)
+}

@@ -1,0 +1,135 @@
+// Reading a list: the text as a whole, line 0, then line after line until one is refused.
+use super::state::Counts;
+use super::state::Stepped;
+use super::step::step_line;
+use number::prime::is_odd_prime;
+use text::Parsed;
+use text::Word;
+use text::is_ended;
+use text::line_end;
+use text::line_of;
+ghost use mathlib.Core.Path.{_≡_};
+ghost use Prim.Native.Nat.{_≤_};
+ghost use lib.ListN.{length};
+ghost use Rattle.meaning.specs.Line.{lineOf};
+ghost use mathlib.Core.Bool.{true};
+ghost use Rattle.meaning.specs.Text.{isEnded};
+ghost use Rattle.meaning.specs.Refusal.{isField, rules, readFrom};
+ghost use Rattle.meaning.proofs.Number.{OddPrime};
+ghost use Rattle.text.specs.Place.{linesFrom};
+ghost use Rattle.meaning.specs.Reply.{readReply};
+ghost use Rattle.text.specs.Word.{wordOf};
+ghost use Rattle.reader.specs.State.{greatest};
+ghost use Rattle.reader.specs.Read.{only, replyOf, primeIn, firstOption, firstSeen, answerSeen, Exact};
+
+// p of line 0, or the number of its refusal.
+pub enum First {
+    Prime(u32),
+    NotFirst(u32),
+}
+
+// A read list's p and its counts of values, cells and rows, or its refusal.
+pub enum Answer {
+    Read(u32, usize, usize, usize),
+    Refused(u32, usize),
+}
+
+fn is_field(word: Word) -> bool
+    ensures { λ r. ⌜ r ≡ isField (wordOf word) ⌝ }
+{
+    match word {
+        Word::Field => true,
+        Word::In => false,
+        Word::Span => false,
+        Word::Sum => false,
+        Word::Relu => false,
+        Word::Which => false,
+        Word::Max => false,
+        Word::Root => false,
+    }
+}
+
+pub fn first_line(line: &[u8], numbers: &mut [i64]) -> First
+    requires { ⌜ length (now numbers) ≡ 33 ⌝ }
+    ensures told { λ r. ⌜ firstSeen r ≡ firstOption (lineOf (now (line .entry))) ⌝ }
+    ensures small { λ r. ⌜ primeIn r ≤ greatest ⌝ }
+    ensures long { λ r. ⌜ length (now (numbers .exit)) ≡ length (now (numbers .entry)) ⌝ }
+{
+    let Parsed::Line(word, _) = line_of(line, numbers) else {
+        return First::NotFirst(3);
+    };
+    if !is_field(word) {
+        return First::NotFirst(4);
+    }
+    let n = numbers[0];
+    if n < 0 {
+        return First::NotFirst(5);
+    }
+    let p = n as u32;
+    if !is_odd_prime(p) {
+        return First::NotFirst(5);
+    }
+    First::Prime(p)
+}
+
+// The public call: for every byte string the reply of document 01, and so the first refusal that fits the text, or none.
+pub fn read(list: &[u8]) -> Answer
+    ensures replied { λ r. ⌜ answerSeen r ≡ readReply (now (list .entry)) ⌝ }
+    ensures exact { λ r. ⌜ Exact (now (list .entry)) (answerSeen r) ⌝ }
+{
+    if 65536 < list.len() {
+        return Answer::Refused(1, 0);
+    }
+    if !is_ended(list) {
+        return Answer::Refused(2, 0);
+    }
+    let mut numbers: [i64; 33] = [0; 33];
+    let end = line_end(list, 0);
+    let first = first_line(&list[0..end], &mut numbers);
+    match first {
+        First::NotFirst(n) => Answer::Refused(n, 0),
+        First::Prime(p) => read_from(list, end + 1, p),
+    }
+}
+
+// The lines after line 0, from the place where line 1 starts.
+fn read_from(list: &[u8], start: usize, p: u32) -> Answer
+    requires { ⌜ (isEnded (now list) ≡ true) × (1 ≤ start) × (start ≤ length (now list)) × OddPrime p × (p ≤ greatest) ⌝ }
+    ensures { λ r. ⌜ answerSeen r ≡ replyOf (readFrom rules 1 (only p) (linesFrom (now (list .entry)) start)) ⌝ }
+{
+    let mut numbers: [i64; 33] = [0; 33];
+    let mut lows: [i64; 256] = [0; 256];
+    let mut highs: [i64; 256] = [0; 256];
+    let mut places: [usize; 256] = [0; 256];
+    let mut counts = Counts {
+        values: 0,
+        inputs: 0,
+        cells: 0,
+        rows: 0,
+    };
+    let mut at = start;
+    let mut n: usize = 1;
+    while at < list.len() {
+        let end = line_end(list, at);
+        let stepped = step_line(
+            &list[at..end],
+            &mut numbers,
+            p,
+            counts,
+            &mut lows,
+            &mut highs,
+            &mut places,
+        );
+        match stepped {
+            Stepped::Refused(number) => {
+                return Answer::Refused(number, n);
+            }
+            Stepped::Next(next) => {
+                counts = next;
+            }
+        }
+        at = end + 1;
+        n += 1;
+    }
+    Answer::Read(p, counts.values, counts.cells, counts.rows)
+}

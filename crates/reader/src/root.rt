@@ -1,0 +1,57 @@
+// Reading a root line.
+use super::rule::Digits;
+use super::rule::Made;
+use super::rule::digits_at;
+use super::rule::early_broken;
+use super::rule::is_made;
+use number::power::Power;
+use number::power::capped_power;
+ghost use mathlib.Core.Path.{_≡_};
+ghost use Prim.Native.Nat.{_^_, _≤_};
+ghost use lib.ListN.{length, take};
+ghost use Rattle.meaning.specs.Line.{root};
+ghost use Rattle.meaning.specs.Known.{Known};
+ghost use Rattle.reader.specs.State.{Small, Ready, Seen};
+ghost use Rattle.reader.specs.Told.{toldOf, madeSeen, lineWith};
+ghost use Rattle.reader.specs.Rule.{rootTold, Field};
+
+pub fn read_root(
+    numbers: &[i64],
+    p: u32,
+    values: usize,
+    cells: usize,
+    lows: &[i64],
+    highs: &[i64],
+) -> Made
+    requires { ⌜ Ready p values cells (now lows) (now highs) × (3 ≤ length (now numbers)) × Small 3 (now numbers) ⌝ }
+    ensures { λ r. ⌜ ((s : Known) → Seen s p values cells (now (lows .entry)) (now (highs .entry))
+        → madeSeen r ≡ toldOf s (lineWith root (take 3 (now (numbers .entry))))) ⌝ }
+{
+    let Digits::Of(b, k) = digits_at(numbers, 1) else {
+        return Made::Breaks(6);
+    };
+    let named = is_made(numbers, 0, values);
+    let broken = early_broken(named, values, 1, cells, 4 * k as usize + 2);
+    if broken != 0 {
+        return Made::Breaks(broken);
+    }
+    root_ends(p, b, k)
+}
+
+// The ends 0..c-1, where c >= 3 and c² <= M+1, M = (p-1)/2.
+fn root_ends(p: u32, b: u64, k: u32) -> Made
+    requires { ⌜ Field p × (1 ≤ b) ⌝ }
+    ensures { λ r. ⌜ madeSeen r ≡ rootTold p (b ^ k) ⌝ }
+{
+    let Power::Of(c) = capped_power(b, k, p as u64) else {
+        return Made::Breaks(10);
+    };
+    if c < 3 {
+        return Made::Breaks(10);
+    }
+    let most = ((p - 1) / 2 + 1) as u64;
+    if most < c * c {
+        return Made::Breaks(10);
+    }
+    Made::EndsOf(0, (c - 1) as i64)
+}
