@@ -1,0 +1,99 @@
+-- The rows of a sign: B modulo p by products, and the answer put together from those for the group and for the four rows after it.
+use mathlib.Core.Path.{_≡_, refl, sym, ap, _∙_}
+use mathlib.Core.Bool.{Bool, cond}
+use mathlib.Core.List.{List, [], _∷_}
+use mathlib.Core.Option.{Option, none, some}
+use Prim.Native.Nat.{ℕ, zero, suc, _+_, _-_, _*_, _%_, _^_, _<_}
+use native.Mathlib.Omega.{arith}
+use native.Mathlib.Numerals.{add-one}
+use native.Mathlib.Nat.{pow-zero, pow-suc, mul-one, mul-assoc}
+use lib.Dec.{eqb}
+use lib.IntN.{ℤ, pos, negℤ, _+ℤ_, _-ℤ_, _*ℤ_}
+use Rattle.algebra.proofs.Congruence.{congruent-remainder, congruent-sym, congruent-*, congruent-refl, remainder-iff}
+use Rattle.meaning.specs.Number.{remainder}
+use Rattle.meaning.specs.Known.{Known, placeOf, topPart}
+use Rattle.meaning.specs.Row.{Form, cell, constant, _⊕_, _⊖_, _⊗_, _≅_, eval, Row, holds, group}
+use Rattle.meaning.specs.Reply.{firstFail}
+use Rattle.meaning.specs.Gadget.Sign.{signShift, signRows}
+use Rattle.meaning.specs.Gadget.Relu.{reluLine}
+use Rattle.meaning.specs.Gadget.Which.{whichLine}
+use Rattle.table.specs.Rows.{Leaves, firstOf}
+use Rattle.table.proofs.RowsFirst.{first-none, first-row, first-rows}
+use Rattle.table.proofs.RowsForm.{leaves-constant, leaves-⊖, leaves-⊗, row-test}
+use Rattle.table.proofs.RowsGroup.{length-group}
+
+-- ---- B modulo p
+
+pub top-start : (p b : ℕ) → (b - 1) % p ≡ remainder p (pos (topPart b 1))
+unfolding remainder topPart
+top-start p b = rw (pow-zero, mul-one) refl
+
+top-power : (b i : ℕ) → 0 < i → topPart b (i + 1) ≡ topPart b i * b
+unfolding topPart
+top-power b i h =
+    let e : i + 1 - 1 ≡ suc (i - 1) = omega arith in
+    rw (e, pow-suc) (sym (mul-assoc (b - 1) (b ^ (i - 1)) b))
+
+pub top-next : (p b i part r : ℕ) → 0 < p → 0 < i → part ≡ remainder p (pos (topPart b i)) → r ≡ remainder p (pos part *ℤ pos b)
+    → r ≡ remainder p (pos (topPart b (i + 1)))
+top-next p b i part r h l e s = s ∙ rw (next, e) (remainder-iff p _ _ h .0
+    (congruent-* (congruent-sym (congruent-remainder p (pos (topPart b i)) h)) (congruent-refl (pos b))))
+  where
+    next : topPart b (i + 1) ≡ topPart b i * b
+    next = top-power b i l
+
+-- a number that is moved up by B, as the group over it asks
+sign-shift : (x : ℤ) (n : ℕ) → x +ℤ pos n ≡ x -ℤ negℤ (pos n)
+sign-shift x zero = refl
+sign-shift x (suc n) = refl
+
+pub sign-number : {p : ℕ} {t : List ℕ} {r : ℕ} (f : Form) (b k : ℕ) → Leaves p t r (f ⊕ constant (pos (topPart b k)))
+    → remainder p (eval t f -ℤ signShift b k) ≡ r
+unfolding eval signShift
+sign-number {p} {t} f b k l = sym (l .is ∙ ap (remainder p) (sign-shift (eval t f) (topPart b k)))
+
+-- ---- the four rows after the group
+
+module _ (p : ℕ) (t : List ℕ) (T F W : Form) (x : Row) {top flag witness : ℕ}
+    (top-is : Leaves p t top T) (flag-is : Leaves p t flag F) (witness-is : Leaves p t witness W) where
+  pub flag-answer : (row : ℕ) {other shown full unused : ℕ} {last : Bool} {r r₁ r₂ r₃ : Option ℕ} → 1 < p → last ≡ holds p t x
+      → (other < p) × (other ≡ remainder p (pos 1 -ℤ pos flag)) → (shown < p) × (shown ≡ remainder p (pos top *ℤ pos witness))
+      → (full < p) × (full ≡ remainder p (pos top *ℤ pos flag)) → (unused < p) × (unused ≡ remainder p (pos witness *ℤ pos flag))
+      → r₃ ≡ cond last none (some (row + 3)) → r₂ ≡ cond (eqb unused 0) r₃ (some (row + 2)) → r₁ ≡ cond (eqb full 0) r₂ (some (row + 1))
+      → r ≡ cond (eqb shown other) r₁ (some row)
+      → r ≡ firstFail (holds p t) row (T ⊗ W ≅ constant (pos 1) ⊖ F ∷ T ⊗ F ≅ constant (pos 0) ∷ W ⊗ F ≅ constant (pos 0) ∷ x ∷ [])
+  flag-answer row h x-is other-is shown-is full-is unused-is e₃ e₂ e₁ e =
+      let none-left = leaves-constant p t 0 (omega arith) in
+      first-row (holds p t) row (row + 1) (T ⊗ W ≅ constant (pos 1) ⊖ F) _ (omega arith)
+      (row-test (leaves-⊗ top-is witness-is shown-is) (leaves-⊖ (leaves-constant p t 1 h) flag-is other-is)) e
+      (first-row (holds p t) (row + 1) (row + 2) (T ⊗ F ≅ constant (pos 0)) _ (omega arith)
+      (row-test (leaves-⊗ top-is flag-is full-is) none-left) e₁
+      (first-row (holds p t) (row + 2) (row + 3) (W ⊗ F ≅ constant (pos 0)) _ (omega arith)
+      (row-test (leaves-⊗ witness-is flag-is unused-is) none-left) e₂
+      (first-row (holds p t) (row + 3) (row + 4) x [] (omega arith) x-is e₃ (first-none (holds p t) (row + 4)))))
+
+-- ---- the rows of a sign
+
+pub sign-answer : (p : ℕ) (t : List ℕ) (form : Form) (at b k : ℕ) (row : Form → Row) {r digits later : Option ℕ}
+    → digits ≡ firstFail (holds p t) 0 (group form (signShift b k) at b k)
+    → later ≡ firstFail (holds p t) (k + 1)
+    ((cell (at + (k - 1)) ⊖ constant (pos (b - 1))) ⊗ cell (at + (k + 1)) ≅ constant (pos 1) ⊖ cell (at + k)
+    ∷ (cell (at + (k - 1)) ⊖ constant (pos (b - 1))) ⊗ cell (at + k) ≅ constant (pos 0)
+    ∷ cell (at + (k + 1)) ⊗ cell (at + k) ≅ constant (pos 0) ∷ row (cell (at + k)) ∷ [])
+    → r ≡ firstOf digits later → r ≡ firstFail (holds p t) 0 (signRows form at b k row)
+unfolding signRows
+sign-answer p t form at b k row d l e =
+    first-rows (holds p t) 0 (suc k) (group form (signShift b k) at b k) _ (omega (arith, length-group form (signShift b k) at b k)) e d
+    (rw add-one at l)
+
+-- ---- the lines that have a sign
+
+pub relu-rows-are : (s : Known) (v place at b k : ℕ) → placeOf s v ≡ place → s .cells ≡ at
+    → reluLine s v b k .rows ≡ signRows (cell place) (at + 1) b k (λ f. f ⊗ cell place ≅ cell at)
+unfolding reluLine
+relu-rows-are s v place at b k e h = rw (e, h, add-one) refl
+
+pub which-rows-are : (s : Known) (u v place-u place-v at b k : ℕ) → placeOf s u ≡ place-u → placeOf s v ≡ place-v → s .cells ≡ at
+    → whichLine s u v b k .rows ≡ signRows (cell place-u ⊖ cell place-v) (at + 1) b k (λ f. cell at ≅ constant (pos 1) ⊖ f)
+unfolding whichLine
+which-rows-are s u v place-u place-v at b k d e h = rw (d, e, h, add-one) refl

@@ -1,0 +1,119 @@
+-- The row of a sum line: the terms one after another.
+use mathlib.Core.Path.{_≡_, refl, sym, ap, _∙_}
+use mathlib.Core.Bool.{cond}
+use mathlib.Core.List.{List, [], _∷_}
+use mathlib.Core.Option.{Option, none, some}
+use Prim.Native.Nat.{ℕ, suc, _+_, _%_, _≤_, _<_}
+use native.Mathlib.Omega.{arith}
+use lib.Dec.{T, eqb}
+use lib.IntN.{ℤ, pos, negsuc, natAbs, _+ℤ_, _*ℤ_}
+use lib.Signed.{_≤ℤ_, nonNeg}
+use lib.ListN.{length, getD, take, drop}
+use lib.Seq.{drop-cons, drop-length, length-take-le, getD-take}
+use mir.Syntax.{w64}
+use mir.Val.{Fits, SFits}
+use Rattle.algebra.proofs.Integer.Order.{integer}
+use Rattle.meaning.specs.Number.{remainder}
+use Rattle.meaning.specs.Line.{numberAt, withoutFirst}
+use Rattle.meaning.specs.Known.{Known, placeOf}
+use Rattle.meaning.specs.Row.{Form, cell, constant, _⊕_, _⊗_, _≅_, holds}
+use Rattle.meaning.specs.Reply.{firstFail}
+use Rattle.meaning.specs.Gadget.Sum.{termsOf, sumForm, sumLine}
+use Rattle.table.specs.Rows.{Leaves, NamesBelow, PlacesInside}
+use Rattle.table.proofs.RowsFirst.{first-none, first-row}
+use Rattle.table.proofs.RowsForm.{leaves-whole, leaves-⊕, leaves-⊗, row-test}
+
+-- ---- the terms of a list of numbers, from the one of number i on
+
+terms-next : (xs : List ℤ) (i : ℕ) → i + 1 < length xs
+    → termsOf (drop i xs) ≡ record { coefficient = getD xs i (pos 0); value = natAbs (getD xs (i + 1) (pos 0)) } ∷ termsOf (drop (i + 2) xs)
+unfolding termsOf
+terms-next xs i h =
+    let e : i + 1 ≡ suc i = omega arith in
+    let f : i + 2 ≡ suc (suc i) = omega arith in
+    rw (drop-cons xs i (pos 0) (omega arith), drop-cons xs (suc i) (pos 0) (omega arith), e, f) refl
+
+terms-end : (xs : List ℤ) (i : ℕ) → i ≡ length xs → termsOf (drop i xs) ≡ []
+unfolding termsOf
+terms-end xs i h = rw (h, drop-length xs) refl
+
+without-first : (xs : List ℤ) → withoutFirst xs ≡ drop 1 xs
+unfolding withoutFirst
+without-first [] = refl
+without-first (x ∷ xs) = refl
+
+-- ---- the sum so far
+
+module _ (p : ℕ) (t : List ℕ) (ns : List ℤ) (count : ℕ) (places : List ℕ) where
+  -- the terms before the one of number i are in the form f, whose remainder is the total
+  pub record Partial (s : Known) (total i : ℕ) : Type 0 where
+    pub form : Form
+    pub leaves : Leaves p t total form
+    pub same : sumForm s (constant (numberAt (take count ns) 0)) (termsOf (withoutFirst (take count ns)))
+        ≡ sumForm s form (termsOf (drop i (take count ns)))
+
+  abbrev pub SoFar : (total i : ℕ) → Type 0
+  SoFar total i = (s : Known) (n : ℕ) → s .places ≡ take n places → NamesBelow n ns count → Partial s total i
+
+  pub sum-start : (total : ℕ) → 0 < p → 0 < count → total ≡ remainder p (getD ns 0 (pos 0)) → SoFar total 1
+  unfolding numberAt
+  sum-start total h l e s n _ _ = record {
+    form = constant (getD ns 0 (pos 0));
+    leaves = leaves-whole p t (getD ns 0 (pos 0)) h e;
+    same = rw (without-first (take count ns), getD-take count ns 0 (pos 0) l) refl;
+  }
+
+  pub sum-next : {total factor part next place : ℕ} (i : ℕ) → 0 < p → count ≤ length ns → SoFar total i → i + 1 < count → i % 2 ≡ 1
+      → factor ≡ remainder p (getD ns i (pos 0)) → place ≡ getD places (natAbs (getD ns (i + 1) (pos 0))) 0
+      → Leaves p t (getD t place 0) (cell place)
+      → (part < p) × (part ≡ remainder p (pos factor *ℤ pos (getD t place 0))) → (next < p) × (next ≡ remainder p (pos total +ℤ pos part))
+      → SoFar next (i + 2)
+  unfolding sumForm placeOf
+  sum-next {total} {factor} {part} {next} {place} i h r before l o factor-is place-is cell-is part-is next-is s n known named =
+      let b = before s n known named in
+      let coefficient = getD ns i (pos 0) in
+      let value = natAbs (getD ns (i + 1) (pos 0)) in
+      let c : getD (take count ns) i (pos 0) ≡ coefficient = getD-take count ns i (pos 0) (omega arith) in
+      let d : getD (take count ns) (i + 1) (pos 0) ≡ getD ns (i + 1) (pos 0) = getD-take count ns (i + 1) (pos 0) l in
+      let v : value < n = named .below (i + 1) (omega arith) l (omega arith) in
+      let e : placeOf s value ≡ place = rw known (getD-take n places value 0 v ∙ sym place-is) in
+      record {
+        form = b .form ⊕ constant coefficient ⊗ cell place;
+        leaves = leaves-⊕ (b .leaves) (leaves-⊗ (leaves-whole p t coefficient h factor-is) cell-is part-is) next-is;
+        same = b .same ∙ rw (terms-next (take count ns) i (omega (arith, length-take-le count ns r)), c, d)
+            (ap (λ (q : ℕ). sumForm s (b .form ⊕ constant coefficient ⊗ cell q) (termsOf (drop (i + 2) (take count ns)))) e);
+      }
+
+  pub sum-end : {total : ℕ} {r : Option ℕ} (i at : ℕ) → count ≤ length ns → SoFar total i → i ≡ count → Leaves p t (getD t at 0) (cell at)
+      → r ≡ cond (eqb (getD t at 0) total) none (some 0)
+      → (s : Known) (n : ℕ) → s .cells ≡ at → s .places ≡ take n places → NamesBelow n ns count
+      → r ≡ firstFail (holds p t) 0 (sumLine s (numberAt (take count ns) 0) (termsOf (withoutFirst (take count ns))) .rows)
+  unfolding sumLine sumForm
+  sum-end {total} i at l before e cell-is r-is s n cells-is known named =
+      let b = before s n known named in
+      let end = terms-end (take count ns) i (e ∙ sym (length-take-le count ns l)) in
+      rw (b .same, end)
+      (first-row (holds p t) 0 1 (cell at ≅ b .form) [] (omega arith) (row-test cell-is (b .leaves)) r-is (first-none (holds p t) 1)
+      ∙ ap (λ (q : ℕ). firstFail (holds p t) 0 (cell q ≅ b .form ∷ [])) (sym cells-is))
+
+-- ---- the value that a pair names
+
+pub record Names (places : List ℕ) (cells : ℕ) (z : ℤ) : Type 0 where
+  pub natural : pos 0 ≤ℤ z
+  pub placed : natAbs z < length places
+  pub inside : getD places (natAbs z) 0 < cells
+
+pub pair-names : (ns : List ℤ) (count : ℕ) (places : List ℕ) (cells i : ℕ) → PlacesInside ns count places cells
+    → i + 1 < count → i % 2 ≡ 1 → Names places cells (getD ns (i + 1) (pos 0))
+pair-names ns count places cells i h l o =
+    let v = h .named .below (i + 1) (omega arith) l (omega arith) in
+    record {
+      natural = h .named .natural (i + 1) (omega arith) l (omega arith);
+      placed = omega (arith, v, h .placed);
+      inside = h .inside _ v;
+    }
+
+-- in a machine word
+pub name-fits : (z : ℤ) → SFits w64 z → pos 0 ≤ℤ z → T (nonNeg z) × Fits w64 (natAbs z)
+name-fits (pos n) f h = (tt, record { fits = omega (arith, f .sfits) })
+name-fits (negsuc n) f h = absurd (omega integer)

@@ -1,0 +1,71 @@
+-- `table::relu::relu_cells`: the value's cell, and the sign over v in the part after it.
+use mathlib.Core.Path.{_≡_, refl}
+use mathlib.Core.List.{[], _∷_}
+use Prim.Native.Nat.{_+_}
+use native.Mathlib.Omega.{arith}
+use lib.Dec.{lit≤}
+use lib.IntN.{pos}
+use mir.Syntax.{w64}
+use mir.Val.{SFits}
+use Rattle.meaning.specs.Number.{remainder}
+use Rattle.meaning.specs.Known.{larger}
+use Rattle.meaning.specs.Gadget.Sign.{signCells}
+use Rattle.number.proofs.Word.{back}
+use Rattle.number.proofs.Bounded.{bounded-more}
+use Rattle.table.proofs.CellsPart.{written-after}
+use borrow.Author.Needs.{needs}
+use Rattle.table.proofs.relu.relu_cells.Statement.{statement}
+use Rattle.table.proofs.relu.relu_cells.Tie as tie
+
+relu-value-requires : tie.Need-relu-value-requires
+relu-value-requires c κs = search needs
+
+value-cell-requires : tie.Need-value-cell-requires
+value-cell-requires c κs = search needs
+
+sub-sign-cells : tie.Need-sub-sign-cells
+sub-sign-cells c = search needs
+
+part-sign-cells-start : tie.Need-part-sign-cells-start
+part-sign-cells-start c = search needs
+
+part-sign-cells-end : tie.Need-part-sign-cells-end
+part-sign-cells-end c = search needs
+
+sign-cells-requires : tie.Need-sign-cells-requires
+sign-cells-requires c κs =
+    let s = c .before .before .before .before .before .before .before in
+    (s .pre .0, s .pre .1, search needs, rw (back (s .fits .v)) (bounded-more (s .pre .3) (lit≤ tt)))
+
+same-length : tie.Need-same-length
+same-length c = search needs
+
+returns : tie.Need-returns
+returns c =
+    let last = c .before .before in
+    let first = last .before .before .before .before in
+    let value = first .before in
+    let s = value .before .before .before in
+    let a = s .args in
+    let f : SFits w64 (value .relu-value .result) = search needs in
+    let y : value .relu-value .result ≡ larger (pos 0) (a .v) = rw (back (s .fits .v)) at (value .relu-value .ensures) in
+    written-after 1 (a .k + 2) (a .k + 3) (a .out .now) (first .value-cell .last .0) (last .sign-cells .last .0)
+    (remainder (a .p) (larger (pos 0) (a .v)) ∷ [])
+    (signCells (a .p) (a .b) (a .k) (a .v))
+    refl
+    (rw (back f, y) at (first .value-cell .ensures))
+    (rw (back (s .fits .v)) at (last .sign-cells .ensures))
+    (omega arith)
+
+pub relu-cells-spec : {M : Type 1} → statement M
+relu-cells-spec =
+    tie.close
+    (tie.spec
+    relu-value-requires
+    value-cell-requires
+    sub-sign-cells
+    part-sign-cells-start
+    part-sign-cells-end
+    sign-cells-requires
+    same-length
+    returns)

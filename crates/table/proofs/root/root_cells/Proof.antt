@@ -1,0 +1,132 @@
+-- `table::root::root_cells`: the cells of the root and its square, and the two pairs of groups in the parts after them.
+use mathlib.Core.Path.{_≡_, refl, ap, _∙_}
+use mathlib.Core.List.{[], _∷_, _++_}
+use Prim.Native.Nat.{_+_, _-_, _*_}
+use native.Mathlib.Omega.{arith}
+use lib.Dec.{lit≤}
+use lib.IntN.{pos, _*ℤ_}
+use lib.ListN.{length, drop}
+use mir.Syntax.{w64}
+use mir.Val.{SFits, toZ, ofZ}
+use borrow.Rule.Slice.PartMut.{putMid}
+use Rattle.meaning.specs.Number.{remainder}
+use Rattle.meaning.specs.Gadget.Digits.{groupCells}
+use Rattle.meaning.specs.Gadget.Root.{rootValue}
+use Rattle.number.proofs.Word.{back}
+use Rattle.number.proofs.Bounded.{bounded-more}
+use Rattle.table.specs.Cells.{restCells}
+use Rattle.table.proofs.WorksValue.{root-bounded}
+use Rattle.table.proofs.CellsPart.{written-after}
+use Rattle.table.proofs.CellsRoot.{rootStart, length-start, root-cells-are}
+use borrow.Author.Needs.{needs}
+use Rattle.table.proofs.root.root_cells.Statement.{statement}
+use Rattle.table.proofs.root.root_cells.Tie as tie
+
+root-value-requires : tie.Need-root-value-requires
+root-value-requires c κs = search needs
+
+-- the root, as it is handed on
+root : (c : tie.After-root-value) → toZ w64 (ofZ w64 (c .root-value .result)) ≡ rootValue (c .before .before .args .v)
+root c =
+    let s = c .before .before in
+    let f : SFits w64 (c .root-value .result) = search needs in
+    back f ∙ (rw (back (s .fits .v)) at (c .root-value .ensures))
+
+square-cells-requires : tie.Need-square-cells-requires
+square-cells-requires c κs =
+    let s = c .before .before .before in
+    (s .pre .0, search needs, rw (root (c .before)) (root-bounded (s .pre .3)))
+
+sub-two-groups : tie.Need-sub-two-groups
+sub-two-groups c = search needs
+
+part-two-groups-start : tie.Need-part-two-groups-start
+part-two-groups-start c = search needs
+
+part-two-groups-end : tie.Need-part-two-groups-end
+part-two-groups-end c = search needs
+
+two-groups-requires : tie.Need-two-groups-requires
+two-groups-requires c κs =
+    let r = c .before .before .before .before .before in
+    let s = r .before .before in (
+      s .pre .1,
+      search needs,
+      rw (back (s .fits .v)) (bounded-more (s .pre .3) (lit≤ tt)),
+      rw (root r) (bounded-more (root-bounded (s .pre .3)) (lit≤ tt)),
+    )
+
+mul-at : tie.Need-mul-at
+mul-at c = search needs
+
+add-at : tie.Need-add-at
+add-at c = search needs
+
+mul-rest-cells : tie.Need-mul-rest-cells
+mul-rest-cells c = search needs
+
+sub-rest-cells : tie.Need-sub-rest-cells
+sub-rest-cells c = search needs
+
+part-rest-cells-start : tie.Need-part-rest-cells-start
+part-rest-cells-start c = search needs
+
+part-rest-cells-end : tie.Need-part-rest-cells-end
+part-rest-cells-end c = search needs
+
+rest-cells-requires : tie.Need-rest-cells-requires
+rest-cells-requires c κs =
+    let r = c .before .before .before .before .before .before .before .before .before in
+    let s = r .before .before in
+    (s .pre .1, search needs, rw (back (s .fits .v)) (s .pre .3), rw (root r) (root-bounded (s .pre .3)))
+
+same-length : tie.Need-same-length
+same-length c = search needs
+
+returns : tie.Need-returns
+returns c =
+    let rest = c .before .before in
+    let groups = rest .before .before .before .before in
+    let squares = groups .before .before .before .before in
+    let r = squares .before .before in
+    let s = r .before .before in
+    let a = s .args in
+    let y = rootValue (a .v) in
+    let cells = squares .square-cells .last .0 in
+    let start : putMid 2 (length cells - 2) cells (groups .two-groups .last .0)
+    ≡ rootStart (a .p) (a .b) (a .k) (a .v) ++ drop (2 + 2 * a .k) (a .out .now) =
+    written-after 2 (a .k + a .k) (2 + 2 * a .k) (a .out .now) cells (groups .two-groups .last .0)
+    (remainder (a .p) y ∷ remainder (a .p) (y *ℤ y) ∷ [])
+    (groupCells (a .b) (a .k) (a .v) (pos 0) ++ groupCells (a .b) (a .k) y (pos 0))
+    refl
+    (rw (root r) at (squares .square-cells .ensures))
+    (rw (root r, back (s .fits .v)) at (groups .two-groups .ensures))
+    (omega arith) in
+    written-after (2 + 2 * a .k) (a .k + a .k) (2 + 4 * a .k) (a .out .now) _ (rest .rest-cells .last .0)
+    (rootStart (a .p) (a .b) (a .k) (a .v))
+    (restCells (a .b) (a .k) (a .v) y)
+    (length-start (a .p) (a .b) (a .k) (a .v))
+    start
+    (rw (root r, back (s .fits .v)) at (rest .rest-cells .ensures))
+    (omega arith)
+    ∙ ap (λ l. l ++ drop (2 + 4 * a .k) (a .out .now)) (root-cells-are (a .p) (a .b) (a .k) (a .v))
+
+pub root-cells-spec : {M : Type 1} → statement M
+root-cells-spec =
+    tie.close
+    (tie.spec
+    root-value-requires
+    square-cells-requires
+    sub-two-groups
+    part-two-groups-start
+    part-two-groups-end
+    two-groups-requires
+    mul-at
+    add-at
+    mul-rest-cells
+    sub-rest-cells
+    part-rest-cells-start
+    part-rest-cells-end
+    rest-cells-requires
+    same-length
+    returns)

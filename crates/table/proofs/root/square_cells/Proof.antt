@@ -1,0 +1,61 @@
+-- `table::root::square_cells`: the cell of r, and that of its square in the part after it.
+use mathlib.Core.Path.{refl}
+use mathlib.Core.List.{[], _∷_}
+use lib.IntN.{_*ℤ_}
+use Rattle.meaning.specs.Number.{remainder}
+use Rattle.number.proofs.Word.{back}
+use Rattle.table.proofs.CellsPart.{written-after}
+use Rattle.table.proofs.CellsRoot.{square-fits}
+use borrow.Author.Needs.{needs}
+use Rattle.table.proofs.root.square_cells.Statement.{statement}
+use Rattle.table.proofs.root.square_cells.Tie as tie
+
+value-cell-requires : tie.Need-value-cell-requires
+value-cell-requires c κs = search needs
+
+sub-value-cell : tie.Need-sub-value-cell
+sub-value-cell c = search needs
+
+part-value-cell-start : tie.Need-part-value-cell-start
+part-value-cell-start c = search needs
+
+part-value-cell-end : tie.Need-part-value-cell-end
+part-value-cell-end c = search needs
+
+mul-value-cell : tie.Need-mul-value-cell
+mul-value-cell c =
+    let s = c .before .before .before .before .before .before in
+    rw (back (s .fits .r)) (square-fits (s .pre .2))
+
+value-cell-requires-2 : tie.Need-value-cell-requires-2
+value-cell-requires-2 c κs = search needs
+
+same-length : tie.Need-same-length
+same-length c = search needs
+
+returns : tie.Need-returns
+returns c =
+    let last = c .before .before in
+    let first = last .before .before .before .before in
+    let s = first .before .before .before in
+    let a = s .args in
+    written-after 1 1 2 (a .out .now) (first .value-cell .last .0) (last .value-cell2 .last .0)
+    (remainder (a .p) (a .r) ∷ [])
+    (remainder (a .p) (a .r *ℤ a .r) ∷ [])
+    refl
+    (rw (back (s .fits .r)) at (first .value-cell .ensures))
+    (rw (back (s .fits .r), back (square-fits (s .pre .2))) at (last .value-cell2 .ensures))
+    refl
+
+pub square-cells-spec : {M : Type 1} → statement M
+square-cells-spec =
+    tie.close
+    (tie.spec
+    value-cell-requires
+    sub-value-cell
+    part-value-cell-start
+    part-value-cell-end
+    mul-value-cell
+    value-cell-requires-2
+    same-length
+    returns)

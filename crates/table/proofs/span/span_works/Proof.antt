@@ -1,0 +1,40 @@
+-- `table::span::span_works`: c - 1 is below 2 ^ 31, so the top fits, and `within` tests the definition's range.
+use mathlib.Core.Path.{ap, _∙_}
+use Prim.Native.Nat.{_-_, _^_}
+use native.Mathlib.Omega.{arith}
+use lib.IntN.{pos, _+ℤ_}
+use Rattle.meaning.specs.Number.{between}
+use Rattle.meaning.specs.Gadget.Span.{spanTop}
+use Rattle.number.proofs.Word.{back, small}
+use Rattle.number.proofs.Bounded.{sum-fits}
+use Rattle.table.proofs.WorksWhole.{pos-bounded}
+use borrow.Author.Needs.{needs}
+use Rattle.table.proofs.span.span_works.Statement.{statement}
+use Rattle.table.proofs.span.span_works.Tie as tie
+
+sub-top : tie.Need-sub-top
+sub-top c = search needs
+
+cast-top : tie.Need-cast-top
+cast-top c = search needs
+
+add-top : tie.Need-add-top
+add-top c =
+    let n = c .args .c - 1 in
+    rw (back (c .fits .shift), small n (omega arith))
+    (sum-fits (c .args .shift) (pos n) (c .pre .2) (pos-bounded n (2 ^ 31) (omega arith)) tt)
+
+within-requires : tie.Need-within-requires
+within-requires c κs = search needs
+
+returns : tie.Need-returns
+unfolding spanTop
+returns c b k e =
+    let s = c .before in
+    let n = s .args .c - 1 in
+    c .within .ensures
+    ∙ rw (back (add-top s), back (s .fits .shift), back (s .fits .v), small n (omega arith))
+    (ap (λ m. between (s .args .shift) (s .args .v) (s .args .shift +ℤ pos (m - 1))) e)
+
+pub span-works-spec : {M : Type 1} → statement M
+span-works-spec = tie.close (tie.spec sub-top cast-top add-top within-requires returns)

@@ -1,0 +1,17 @@
+-- `table::sum::sum_cells`: the cell of the value.
+use Rattle.number.proofs.Word.{back}
+use borrow.Author.Needs.{needs}
+use Rattle.table.proofs.sum.sum_cells.Statement.{statement}
+use Rattle.table.proofs.sum.sum_cells.Tie as tie
+
+value-cell-requires : tie.Need-value-cell-requires
+value-cell-requires c κs = search needs
+
+same-length : tie.Need-same-length
+same-length c = search needs
+
+returns : tie.Need-returns
+returns c = rw (back (c .before .before .before .before .before .fits .x)) at (c .before .before .value-cell .ensures)
+
+pub sum-cells-spec : {M : Type 1} → statement M
+sum-cells-spec = tie.close (tie.spec value-cell-requires same-length returns)

@@ -1,0 +1,84 @@
+// A line `max u v b k`: u and v are less than c = b^k apart; the value y is the greater. Its cells are y's and the groups over
+// y - u and y - v with shift 0.
+//
+// The rows of a max line: (y-u)·(y-v) ≡ 0, and then the groups over y-u and y-v.
+use super::group::apart;
+use super::group::group_rows;
+use super::group::two_groups;
+use super::rows::Rows;
+use super::rows::row_before;
+use super::rows::rows_before;
+use super::value::Worked;
+use super::value::value_cell;
+use number::Residue;
+use number::Whole;
+use number::residue::difference;
+use number::residue::product;
+use number::whole::larger;
+ghost use mathlib.Core.Path.{_≡_};
+ghost use mathlib.Core.Bool.{cond};
+ghost use mathlib.Core.List.{_++_};
+ghost use mathlib.Core.Option.{some, none};
+ghost use Prim.Native.Nat.{ℕ, suc, _*_, _^_, _≤_, _<_, _+_};
+ghost use lib.Dec.{ltb};
+ghost use lib.IntN.{natAbs, _-ℤ_};
+ghost use lib.ListN.{length, drop};
+ghost use Rattle.meaning.specs.Known.{larger, Known, placeOf};
+ghost use Rattle.number.specs.Bounded.{Bounded};
+ghost use Rattle.table.specs.Cells.{workedSeen, maxCells};
+ghost use Rattle.algebra.specs.Digits.{Below};
+ghost use Rattle.meaning.specs.Row.{holds};
+ghost use Rattle.meaning.specs.Reply.{firstFail};
+ghost use Rattle.meaning.specs.Gadget.Max.{maxLine};
+ghost use Rattle.table.specs.Rows.{rowsSeen};
+
+pub fn max_value(u: i64, v: i64) -> i64
+    ensures { λ r. ⌜ r ≡ larger u v ⌝ }
+{
+    let y = larger(Whole(u), Whole(v));
+    y.0
+}
+
+pub fn max_works(u: i64, v: i64, c: u64) -> Worked
+    requires { ⌜ Bounded (2 ^ 30) u × Bounded (2 ^ 30) v ⌝ }
+    ensures { λ r. ⌜ ((b k : ℕ) → c ≡ b ^ k → workedSeen r ≡ cond (ltb (natAbs (u -ℤ v)) (b ^ k)) (some (larger u v)) none) ⌝ }
+{
+    if apart(u, v) < c {
+        Worked::Value(max_value(u, v))
+    } else {
+        Worked::False
+    }
+}
+
+pub fn max_cells(out: &mut [u32], p: u32, u: i64, v: i64, b: u32, k: usize)
+    requires { ⌜ (0 < p) × (0 < b) × (suc (2 * k) ≤ length (now out)) × Bounded (2 ^ 30) u × Bounded (2 ^ 30) v ⌝ }
+    ensures { λ _. ⌜ now (out .exit) ≡ maxCells p b k u v ++ drop (suc (2 * k)) (now (out .entry)) ⌝ }
+{
+    let y = max_value(u, v);
+    value_cell(out, p, y);
+    two_groups(&mut out[1..], y - u, y - v, b, k);
+}
+
+// ---- rows
+
+pub fn max_rows(
+    table: &[u32],
+    p: u32,
+    place_u: usize,
+    place_v: usize,
+    at: usize,
+    b: u32,
+    k: usize,
+) -> Rows
+    requires { ⌜ (0 < p) × Below p (now table) × («place_u» < length (now table)) × («place_v» < length (now table))
+        × (at + 1 + 2 * k ≤ length (now table)) ⌝ }
+    ensures { λ r. ⌜ ((s : Known) (u v : ℕ) → s .p ≡ p → placeOf s u ≡ «place_u» → placeOf s v ≡ «place_v» → s .cells ≡ at
+        → rowsSeen r ≡ firstFail (holds p (now (table .entry))) 0 (maxLine s u v b k .rows)) ⌝ }
+{
+    let over_u = difference(Residue(table[at]), Residue(table[place_u]), p);
+    let over_v = difference(Residue(table[at]), Residue(table[place_v]), p);
+    let either = product(over_u, over_v, p);
+    let group_u = group_rows(table, p, over_u, 1, at + 1, b, k);
+    let group_v = group_rows(table, p, over_v, k + 2, at + 1 + k, b, k);
+    row_before(either.0 == 0, 0, rows_before(group_u, group_v))
+}

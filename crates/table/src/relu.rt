@@ -1,0 +1,74 @@
+// A line `relu v b k`: the statement of the sign over v; the value is the greater of 0 and v. Its cells are the value's and those of
+// the sign over v.
+//
+// The rows of a relu line: those of its sign, and then f·v ≡ y.
+use super::rows::Rows;
+use super::sign::sign_cells;
+use super::sign::sign_rows;
+use super::sign::sign_works;
+use super::sign::top_part;
+use super::value::Worked;
+use super::value::value_cell;
+use number::Residue;
+use number::Whole;
+use number::residue::product;
+use number::residue::sum;
+use number::whole::larger;
+ghost use mathlib.Core.Path.{_≡_};
+ghost use mathlib.Core.Bool.{cond};
+ghost use mathlib.Core.List.{_∷_, _++_};
+ghost use mathlib.Core.Option.{some, none};
+ghost use Prim.Native.Nat.{ℕ, _+_, _^_, _≤_, _<_};
+ghost use lib.IntN.{pos};
+ghost use lib.ListN.{length, drop};
+ghost use Rattle.meaning.specs.Number.{remainder};
+ghost use Rattle.meaning.specs.Known.{larger, Known, placeOf};
+ghost use Rattle.meaning.specs.Gadget.Sign.{signStatement, signCells};
+ghost use Rattle.meaning.proofs.Number.{OddPrime};
+ghost use Rattle.number.specs.Bounded.{Bounded};
+ghost use Rattle.table.specs.Cells.{workedSeen, GroupOf};
+ghost use Rattle.algebra.specs.Digits.{Below};
+ghost use Rattle.meaning.specs.Row.{holds};
+ghost use Rattle.meaning.specs.Reply.{firstFail};
+ghost use Rattle.meaning.specs.Gadget.Relu.{reluLine};
+ghost use Rattle.table.specs.Rows.{rowsSeen};
+
+pub fn relu_value(v: i64) -> i64
+    ensures { λ r. ⌜ r ≡ larger (pos 0) v ⌝ }
+{
+    let y = larger(Whole(0), Whole(v));
+    y.0
+}
+
+pub fn relu_works(v: i64, b: u32, c: u64) -> Worked
+    requires { ⌜ (0 < b) × (c ≤ 2 ^ 31) ⌝ }
+    ensures { λ r. ⌜ ((k : ℕ) → 1 ≤ k → c ≡ b ^ k → workedSeen r ≡ cond (signStatement b k v) (some (larger (pos 0) v)) none) ⌝ }
+{
+    if sign_works(v, b, c) {
+        Worked::Value(relu_value(v))
+    } else {
+        Worked::False
+    }
+}
+
+pub fn relu_cells(out: &mut [u32], p: u32, v: i64, b: u32, k: usize, c: u64)
+    requires { ⌜ OddPrime p × GroupOf b k c × (k + 3 ≤ length (now out)) × Bounded (2 ^ 30) v ⌝ }
+    ensures { λ _. ⌜ now (out .exit) ≡ (remainder p (larger (pos 0) v) ∷ signCells p b k v) ++ drop (k + 3) (now (out .entry)) ⌝ }
+{
+    value_cell(out, p, relu_value(v));
+    sign_cells(&mut out[1..], p, v, b, k, c);
+}
+
+// ---- rows
+
+pub fn relu_rows(table: &[u32], p: u32, place: usize, at: usize, b: u32, k: usize) -> Rows
+    requires { ⌜ (1 < p) × Below p (now table) × (place < length (now table)) × (at + k + 3 ≤ length (now table)) × (0 < b) × (0 < k) ⌝ }
+    ensures { λ r. ⌜ ((s : Known) (v : ℕ) → s .p ≡ p → placeOf s v ≡ place → s .cells ≡ at
+        → rowsSeen r ≡ firstFail (holds p (now (table .entry))) 0 (reluLine s v b k .rows)) ⌝ }
+{
+    let value = Residue(table[place]);
+    let number = sum(value, top_part(p, b, k), p);
+    let kept = product(Residue(table[at + 1 + k]), value, p);
+    let last = kept.0 == table[at];
+    sign_rows(table, p, number, last, at + 1, b, k)
+}

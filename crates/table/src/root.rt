@@ -1,0 +1,128 @@
+// A line `root v b k`: 0 ≤ v < c = b^k; the value r is the floor of the square root. Its cells are those of r and of its square q,
+// then the groups over v, r, v - q and q + 2r - v with shift 0.
+//
+// The rows of a root line: y·y ≡ q, and then the groups over v, y, v-q and q+2y-v.
+use super::group::apart;
+use super::group::group_rows;
+use super::group::two_groups;
+use super::rows::Rows;
+use super::rows::row_before;
+use super::rows::rows_before;
+use super::value::Worked;
+use super::value::value_cell;
+use number::Residue;
+use number::Whole;
+use number::residue::difference;
+use number::residue::product;
+use number::residue::sum;
+use number::root::square_root;
+use number::whole::within;
+ghost use mathlib.Core.Path.{_≡_};
+ghost use mathlib.Core.Bool.{cond};
+ghost use mathlib.Core.List.{_∷_, _++_};
+ghost use mathlib.Core.Option.{some, none};
+ghost use Prim.Native.Nat.{ℕ, _+_, _*_, _^_, _≤_, _<_};
+ghost use lib.IntN.{pos, _-ℤ_, _*ℤ_};
+ghost use lib.ListN.{length, drop};
+ghost use Rattle.meaning.specs.Number.{between, remainder};
+ghost use Rattle.meaning.specs.Gadget.Root.{rootValue, rootLine};
+ghost use Rattle.number.specs.Bounded.{Bounded};
+ghost use Rattle.table.specs.Cells.{workedSeen, restCells, rootCells};
+ghost use Rattle.algebra.specs.Digits.{Below};
+ghost use Rattle.meaning.specs.Known.{Known, placeOf};
+ghost use Rattle.meaning.specs.Row.{Form, holds};
+ghost use Rattle.meaning.specs.Reply.{firstFail};
+ghost use Rattle.table.specs.Rows.{rowsSeen, Leaves, fourGroups};
+
+pub fn root_value(v: i64) -> i64
+    requires { ⌜ Bounded (2 ^ 30) v ⌝ }
+    ensures { λ r. ⌜ r ≡ rootValue v ⌝ }
+{
+    square_root(apart(v, 0)) as i64
+}
+
+pub fn root_works(v: i64, c: u64) -> Worked
+    requires { ⌜ Bounded (2 ^ 30) v × (c ≤ 2 ^ 31) ⌝ }
+    ensures { λ r. ⌜ ((b k : ℕ) → c ≡ b ^ k → workedSeen r ≡ cond (between (pos 0) v (pos (b ^ k) -ℤ pos 1)) (some (rootValue v)) none) ⌝ }
+{
+    let top = c as i64 - 1;
+    if within(Whole(0), Whole(v), Whole(top)) {
+        Worked::Value(root_value(v))
+    } else {
+        Worked::False
+    }
+}
+
+pub fn root_cells(out: &mut [u32], p: u32, v: i64, b: u32, k: usize)
+    requires { ⌜ (0 < p) × (0 < b) × (2 + 4 * k ≤ length (now out)) × Bounded (2 ^ 30) v ⌝ }
+    ensures { λ _. ⌜ now (out .exit) ≡ rootCells p b k v ++ drop (2 + 4 * k) (now (out .entry)) ⌝ }
+{
+    let r = root_value(v);
+    square_cells(out, p, r);
+    two_groups(&mut out[2..], v, r, b, k);
+    let at = 2 + 2 * k;
+    rest_cells(&mut out[at..], v, r, b, k);
+}
+
+// The cells of r and of its square.
+fn square_cells(out: &mut [u32], p: u32, r: i64)
+    requires { ⌜ (0 < p) × (2 ≤ length (now out)) × Bounded (2 ^ 30) r ⌝ }
+    ensures { λ _. ⌜ now (out .exit) ≡ remainder p r ∷ remainder p (r *ℤ r) ∷ drop 2 (now (out .entry)) ⌝ }
+{
+    value_cell(out, p, r);
+    value_cell(&mut out[1..], p, r * r);
+}
+
+// The groups over v less the square of r, and over what is left from v up to the last number before the next square.
+fn rest_cells(out: &mut [u32], v: i64, r: i64, b: u32, k: usize)
+    requires { ⌜ (0 < b) × (k + k ≤ length (now out)) × Bounded (2 ^ 30) v × Bounded (2 ^ 30) r ⌝ }
+    ensures { λ _. ⌜ now (out .exit) ≡ restCells b k v r ++ drop (k + k) (now (out .entry)) ⌝ }
+{
+    let q = r * r;
+    let above = v - q;
+    let below = q + 2 * r - v;
+    two_groups(out, above, below, b, k);
+}
+
+// ---- rows
+
+pub fn root_rows(table: &[u32], p: u32, place: usize, at: usize, b: u32, k: usize) -> Rows
+    requires { ⌜ (2 < p) × Below p (now table) × (place < length (now table)) × (at + 2 + 4 * k ≤ length (now table)) ⌝ }
+    ensures { λ r. ⌜ ((s : Known) (v : ℕ) → s .p ≡ p → placeOf s v ≡ place → s .cells ≡ at
+        → rowsSeen r ≡ firstFail (holds p (now (table .entry))) 0 (rootLine s v b k .rows)) ⌝ }
+{
+    let value = Residue(table[place]);
+    let root = Residue(table[at]);
+    let square = Residue(table[at + 1]);
+    let squared = product(root, root, p);
+    let over = difference(value, square, p);
+    let twice = product(Residue(2), root, p);
+    let under = difference(sum(square, twice, p), value, p);
+    let later = four_groups(table, p, value, root, over, under, at + 2, b, k);
+    row_before(squared.0 == square.0, 0, later)
+}
+
+// The four groups, after one row, over the forms A to D that leave these remainders.
+fn four_groups(
+    table: &[u32],
+    p: u32,
+    value: Residue,
+    root: Residue,
+    over: Residue,
+    under: Residue,
+    at: usize,
+    b: u32,
+    k: usize,
+) -> Rows
+    requires { ⌜ (0 < p) × (at + 4 * k ≤ length (now table)) ⌝ }
+    ensures { λ r. ⌜ ((A B C D : Form) → Leaves p (now (table .entry)) (value .0) A → Leaves p (now (table .entry)) (root .0) B
+        → Leaves p (now (table .entry)) (over .0) C → Leaves p (now (table .entry)) (under .0) D
+        → rowsSeen r ≡ firstFail (holds p (now (table .entry))) 1 (fourGroups A B C D at b k)) ⌝ }
+{
+    let first = group_rows(table, p, value, 1, at, b, k);
+    let second = group_rows(table, p, root, k + 2, at + k, b, k);
+    let third = group_rows(table, p, over, 2 * k + 3, at + 2 * k, b, k);
+    let fourth = group_rows(table, p, under, 3 * k + 4, at + 3 * k, b, k);
+    let last_two = rows_before(third, fourth);
+    rows_before(first, rows_before(second, last_two))
+}

@@ -1,0 +1,60 @@
+// A line `span v b k L`: L ≤ v ≤ L + c - 1 with c = b ^ k. It makes no value, and its cells are the group over v with shift L.
+//
+// The rows of a span line: the digit group over the value, counted from the span's lowest number.
+use super::group::form_cells;
+use super::group::group_rows;
+use super::rows::Rows;
+use number::Residue;
+use number::Whole;
+use number::residue::difference;
+use number::residue::remainder_of;
+use number::whole::within;
+ghost use mathlib.Core.Path.{_≡_};
+ghost use mathlib.Core.List.{_++_};
+ghost use Prim.Native.Nat.{ℕ, _^_, _≤_, _<_, _+_};
+ghost use lib.ListN.{length, drop};
+ghost use Rattle.meaning.specs.Number.{between};
+ghost use Rattle.meaning.specs.Gadget.Digits.{groupCells};
+ghost use Rattle.meaning.specs.Gadget.Span.{spanTop, spanLine};
+ghost use Rattle.number.specs.Bounded.{Bounded};
+ghost use Rattle.algebra.specs.Digits.{Below};
+ghost use Rattle.meaning.specs.Known.{Known, placeOf};
+ghost use Rattle.meaning.specs.Row.{holds};
+ghost use Rattle.meaning.specs.Reply.{firstFail};
+ghost use Rattle.table.specs.Rows.{rowsSeen};
+
+// Whether the line's statement is true, of every b and k with the power c.
+pub fn span_works(v: i64, c: u64, shift: i64) -> bool
+    requires { ⌜ (0 < c) × (c ≤ 2 ^ 31) × Bounded (2 ^ 31) shift ⌝ }
+    ensures { λ r. ⌜ ((b k : ℕ) → c ≡ b ^ k → r ≡ between shift v (spanTop b k shift)) ⌝ }
+{
+    let top = shift + (c - 1) as i64;
+    within(Whole(shift), Whole(v), Whole(top))
+}
+
+pub fn span_cells(out: &mut [u32], v: i64, b: u32, k: usize, shift: i64)
+    requires { ⌜ (0 < b) × (k ≤ length (now out)) × Bounded (2 ^ 30) v × Bounded (2 ^ 31) shift ⌝ }
+    ensures { λ _. ⌜ now (out .exit) ≡ groupCells b k v shift ++ drop k (now (out .entry)) ⌝ }
+{
+    form_cells(out, v, shift, b, k);
+}
+
+// ---- rows
+
+pub fn span_rows(
+    table: &[u32],
+    p: u32,
+    place: usize,
+    at: usize,
+    b: u32,
+    k: usize,
+    shift: i64,
+) -> Rows
+    requires { ⌜ (0 < p) × Below p (now table) × (place < length (now table)) × (at + k ≤ length (now table)) ⌝ }
+    ensures { λ r. ⌜ ((s : Known) (v : ℕ) → s .p ≡ p → placeOf s v ≡ place → s .cells ≡ at
+        → rowsSeen r ≡ firstFail (holds p (now (table .entry))) 0 (spanLine s v b k shift .rows)) ⌝ }
+{
+    let lowest = remainder_of(Whole(shift), p);
+    let number = difference(Residue(table[place]), lowest, p);
+    group_rows(table, p, number, 0, at, b, k)
+}

@@ -1,0 +1,76 @@
+// A line `sum c0 c1 v1 c2 v2 ..`: the value is c0 + c1·v1 + c2·v2 + .., and its one cell is the value's.
+//
+// The row of a sum line: its value is c0 + c1·v1 + .. modulo p. Its numbers are c0, c1, v1, c2, v2, .., the first `count` of `numbers`;
+// `places` has the cell of each value that a pair can name.
+use super::rows::Rows;
+use super::rows::row_before;
+use super::value::value_cell;
+use number::Residue;
+use number::Whole;
+use number::residue::product;
+use number::residue::remainder_of;
+use number::residue::sum;
+ghost use mathlib.Core.Path.{_≡_};
+ghost use mathlib.Core.List.{_∷_};
+ghost use Prim.Native.Nat.{_<_, ℕ, _%_, _≤_};
+ghost use lib.ListN.{length, take, drop};
+ghost use Rattle.meaning.specs.Number.{remainder};
+ghost use Rattle.table.specs.Cells.{sumOf, SumAsked};
+ghost use Rattle.algebra.specs.Digits.{Below};
+ghost use Rattle.meaning.specs.Line.{numberAt, withoutFirst};
+ghost use Rattle.meaning.specs.Known.{Known};
+ghost use Rattle.meaning.specs.Row.{holds};
+ghost use Rattle.meaning.specs.Reply.{firstFail};
+ghost use Rattle.meaning.specs.Gadget.Sum.{termsOf, sumLine};
+ghost use Rattle.table.specs.Rows.{rowsSeen, NamesBelow, PlacesInside};
+
+// The first count numbers are the line's, and the first n values are those before it.
+pub fn sum_works(numbers: &[i64], count: usize, values: &[i64], n: usize) -> i64
+    requires { ⌜ SumAsked (now numbers) count (now values) n ⌝ }
+    ensures { λ r. ⌜ r ≡ sumOf (take count (now (numbers .entry))) (take n (now (values .entry))) ⌝ }
+{
+    let mut total = numbers[0];
+    let mut i: usize = 1;
+    while i < count - 1 {
+        let at = numbers[i + 1] as usize;
+        total += numbers[i] * values[at];
+        i += 2;
+    }
+    total
+}
+
+pub fn sum_cells(out: &mut [u32], p: u32, x: i64)
+    requires { ⌜ (0 < p) × (0 < length (now out)) ⌝ }
+    ensures { λ _. ⌜ now (out .exit) ≡ remainder p x ∷ drop 1 (now (out .entry)) ⌝ }
+{
+    value_cell(out, p, x);
+}
+
+// ---- rows
+
+pub fn sum_rows(
+    table: &[u32],
+    p: u32,
+    at: usize,
+    numbers: &[i64],
+    count: usize,
+    places: &[usize],
+) -> Rows
+    requires { ⌜ (0 < p) × Below p (now table) × (at < length (now table)) × (count % 2 ≡ 1) × (count ≤ length (now numbers))
+        × PlacesInside (now numbers) count (now places) (length (now table)) ⌝ }
+    ensures { λ r. ⌜ ((s : Known) (n : ℕ) → s .p ≡ p → s .cells ≡ at → s .places ≡ take n (now (places .entry))
+        → NamesBelow n (now (numbers .entry)) count → rowsSeen r ≡ firstFail (holds p (now (table .entry))) 0
+        (sumLine s (numberAt (take count (now (numbers .entry))) 0) (termsOf (withoutFirst (take count (now (numbers .entry))))) .rows)) ⌝ }
+{
+    let mut total = remainder_of(Whole(numbers[0]), p).0;
+    let mut i: usize = 1;
+    while i < count {
+        let factor = remainder_of(Whole(numbers[i]), p);
+        let value = numbers[i + 1] as usize;
+        let place = places[value];
+        let part = product(factor, Residue(table[place]), p);
+        total = sum(Residue(total), part, p).0;
+        i += 2;
+    }
+    row_before(table[at] == total, 0, Rows::AllHold)
+}

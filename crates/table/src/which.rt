@@ -1,0 +1,80 @@
+// A line `which u v b k`: the statement of the sign over u - v; the value is 0 where u is at least v, else 1. Its cells are the
+// value's and those of the sign over u - v.
+//
+// The rows of a which line: those of the sign of u-v, and then y ≡ 1-f.
+use super::rows::Rows;
+use super::sign::sign_cells;
+use super::sign::sign_rows;
+use super::sign::sign_works;
+use super::sign::top_part;
+use super::value::Worked;
+use super::value::value_cell;
+use number::Residue;
+use number::residue::difference;
+use number::residue::sum;
+ghost use mathlib.Core.Path.{_≡_};
+ghost use mathlib.Core.Bool.{cond};
+ghost use mathlib.Core.List.{_∷_, _++_};
+ghost use mathlib.Core.Option.{some, none};
+ghost use Prim.Native.Nat.{ℕ, _+_, _^_, _≤_, _<_};
+ghost use lib.IntN.{_-ℤ_};
+ghost use lib.ListN.{length, drop};
+ghost use Rattle.meaning.specs.Number.{remainder};
+ghost use Rattle.meaning.specs.Gadget.Sign.{signStatement, signCells};
+ghost use Rattle.meaning.specs.Gadget.Which.{whichValue, whichLine};
+ghost use Rattle.meaning.proofs.Number.{OddPrime};
+ghost use Rattle.number.specs.Bounded.{Bounded};
+ghost use Rattle.table.specs.Cells.{workedSeen, GroupOf};
+ghost use Rattle.algebra.specs.Digits.{Below};
+ghost use Rattle.meaning.specs.Known.{Known, placeOf};
+ghost use Rattle.meaning.specs.Row.{holds};
+ghost use Rattle.meaning.specs.Reply.{firstFail};
+ghost use Rattle.table.specs.Rows.{rowsSeen};
+
+pub fn which_value(u: i64, v: i64) -> i64
+    ensures { λ r. ⌜ r ≡ whichValue u v ⌝ }
+{
+    if v <= u { 0 } else { 1 }
+}
+
+pub fn which_works(u: i64, v: i64, b: u32, c: u64) -> Worked
+    requires { ⌜ (0 < b) × (c ≤ 2 ^ 31) × Bounded (2 ^ 30) u × Bounded (2 ^ 30) v ⌝ }
+    ensures { λ r. ⌜ ((k : ℕ) → 1 ≤ k → c ≡ b ^ k → workedSeen r ≡ cond (signStatement b k (u -ℤ v)) (some (whichValue u v)) none) ⌝ }
+{
+    if sign_works(u - v, b, c) {
+        Worked::Value(which_value(u, v))
+    } else {
+        Worked::False
+    }
+}
+
+pub fn which_cells(out: &mut [u32], p: u32, u: i64, v: i64, b: u32, k: usize, c: u64)
+    requires { ⌜ OddPrime p × GroupOf b k c × (k + 3 ≤ length (now out)) × Bounded (2 ^ 30) u × Bounded (2 ^ 30) v ⌝ }
+    ensures { λ _. ⌜ now (out .exit) ≡ (remainder p (whichValue u v) ∷ signCells p b k (u -ℤ v)) ++ drop (k + 3) (now (out .entry)) ⌝ }
+{
+    value_cell(out, p, which_value(u, v));
+    sign_cells(&mut out[1..], p, u - v, b, k, c);
+}
+
+// ---- rows
+
+pub fn which_rows(
+    table: &[u32],
+    p: u32,
+    place_u: usize,
+    place_v: usize,
+    at: usize,
+    b: u32,
+    k: usize,
+) -> Rows
+    requires { ⌜ (1 < p) × Below p (now table) × («place_u» < length (now table)) × («place_v» < length (now table))
+        × (at + k + 3 ≤ length (now table)) × (0 < b) × (0 < k) ⌝ }
+    ensures { λ r. ⌜ ((s : Known) (u v : ℕ) → s .p ≡ p → placeOf s u ≡ «place_u» → placeOf s v ≡ «place_v» → s .cells ≡ at
+        → rowsSeen r ≡ firstFail (holds p (now (table .entry))) 0 (whichLine s u v b k .rows)) ⌝ }
+{
+    let apart = difference(Residue(table[place_u]), Residue(table[place_v]), p);
+    let number = sum(apart, top_part(p, b, k), p);
+    let other = difference(Residue(1), Residue(table[at + 1 + k]), p);
+    let last = table[at] == other.0;
+    sign_rows(table, p, number, last, at + 1, b, k)
+}
