@@ -1,0 +1,89 @@
+//! Digit tables over Z/p: the public calls of the service, over bytes, i64 inputs and u32 cells.
+//!
+//! Written from the paper `01-scope.md` alone, as directly as its sentences allow, to be run
+//! against another program that does the same. A reply is a pair (number, place); 0, 0 says
+//! that a table was accepted or made.
+
+mod check;
+mod desk;
+mod ends;
+#[cfg(test)]
+mod exhaustive;
+pub mod generate;
+mod line;
+mod plan;
+mod prime;
+mod program;
+mod work;
+
+pub use desk::Desk;
+pub use program::respond;
+
+use plan::Plan;
+
+/// What a read list returns: its prime, and its counts of values, cells and rows.
+#[derive(Clone, Copy, Debug, PartialEq, Eq)]
+pub struct Counts {
+    pub p: u64,
+    pub values: u64,
+    pub cells: u64,
+    pub rows: u64,
+}
+
+/// A refusal: its number in the paper's table of replies, and its place.
+#[derive(Clone, Copy, Debug, PartialEq, Eq)]
+pub struct Refusal {
+    pub number: u64,
+    pub place: u64,
+}
+
+impl Refusal {
+    fn new(number: u64, place: usize) -> Refusal {
+        Refusal { number, place: place as u64 }
+    }
+}
+
+/// Reads a list: its counts, or the first refusal of 1 to 12.
+pub fn read(list: &[u8]) -> Result<Counts, Refusal> {
+    let plan = Plan::read(list)?;
+    Ok(Counts {
+        p: plan.p as u64,
+        values: plan.value_cells.len() as u64,
+        cells: plan.cells as u64,
+        rows: plan.rows as u64,
+    })
+}
+
+/// Checks an offered table: all its cells, then the rows in order.
+pub fn check(list: &[u8], table: &[u32]) -> (u64, u64) {
+    reply(Plan::read(list).and_then(|plan| check::check(&plan, table)))
+}
+
+/// Makes the table of these inputs; a refusal leaves the table as it was.
+pub fn make(list: &[u8], inputs: &[i64], table: &mut [u32]) -> (u64, u64) {
+    reply(Plan::read(list).and_then(|plan| work::make(&plan, inputs, table)))
+}
+
+/// Hands back the stretch of the table that holds the cells of a line.
+///
+/// It is empty for the field line, for a line that is not there, for a refused list and for a
+/// wrong table length.
+pub fn show<'a>(list: &[u8], table: &'a [u32], line: usize) -> &'a [u32] {
+    let Ok(plan) = Plan::read(list) else {
+        return &[];
+    };
+    match plan.steps.get(line) {
+        Some(step) if table.len() == plan.cells => {
+            &table[step.first_cell..step.first_cell + step.line.cells()]
+        }
+        _ => &[],
+    }
+}
+
+/// The pair that a call returns.
+fn reply(outcome: Result<(), Refusal>) -> (u64, u64) {
+    match outcome {
+        Ok(()) => (0, 0),
+        Err(refusal) => (refusal.number, refusal.place),
+    }
+}

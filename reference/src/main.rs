@@ -1,0 +1,12 @@
+//! The program itself, over standard input and output.
+
+use std::io::{copy, sink, stdin, stdout, Read, Result, Write};
+
+fn main() -> Result<()> {
+    let mut source = stdin().lock();
+    let mut input = Vec::new();
+    // One byte over the limit decides refusal 1; what is left is read but not kept.
+    source.by_ref().take(65_537).read_to_end(&mut input)?;
+    copy(&mut source, &mut sink())?;
+    stdout().lock().write_all(&reference::respond(&input))
+}
