@@ -1,2 +1,4 @@
 pub mod Cells
 pub mod Rows
+pub mod Line
+pub mod LineRows

@@ -1,0 +1,37 @@
+-- A line of a list that was read, as the code has it when it walks the list again: its word, its numbers, and what is known before it.
+use mathlib.Core.Path.{_≡_}
+use mathlib.Core.Bool.{true, false}
+use mathlib.Core.List.{List}
+use Prim.Native.Nat.{ℕ, _≤_}
+use lib.IntN.{ℤ}
+use lib.ListN.{length, take}
+use Rattle.meaning.specs.Line.{Word, isCount}
+use Rattle.meaning.specs.Known.{Known}
+use Rattle.meaning.specs.Meaning.{gadget}
+use Rattle.meaning.specs.Gadget.Interface.{Gadget}
+use Rattle.meaning.specs.Refusal.{isField}
+use Rattle.meaning.proofs.Kept.{Keeps}
+use Rattle.meaning.proofs.Lines.{Sound}
+use Rattle.reader.specs.State.{greatest, Small}
+use Rattle.reader.specs.Told.{lineWith}
+
+-- a line with this word, whose numbers are the first count of numbers; it keeps the rules in the state before it
+pub record KeptLine (w : Word) (numbers : List ℤ) (count : ℕ) : Type 0 where
+  -- its number in the list, and what is known before it
+  pub line : ℕ
+  pub state : Known
+  pub sound : Sound line state
+  pub keeps : Keeps line state (lineWith w (take count numbers))
+  pub p-most : isField w ≡ false → state .p ≤ greatest
+  pub numbers-long : length numbers ≡ 33
+  pub counted : isCount w count ≡ true
+  pub few : count ≤ 33
+  pub small : Small count numbers
+
+module _ {w : Word} {numbers : List ℤ} {count : ℕ} (l : KeptLine w numbers count) where
+  abbrev pub gadgetOf : Gadget
+  gadgetOf = gadget (l .state) (lineWith w (take count numbers))
+
+  -- how many values there are before the line
+  abbrev pub knownCount : ℕ
+  knownCount = length (l .state .known)

@@ -1,0 +1,31 @@
+-- What the rows of a line are asked with, and what is then told: the first of them that fails.
+use mathlib.Core.Path.{_≡_}
+use mathlib.Core.Bool.{false}
+use mathlib.Core.List.{List}
+use Prim.Native.Nat.{ℕ, _+_, _≤_, _<_}
+use lib.IntN.{ℤ}
+use lib.ListN.{length, getD, take}
+use Rattle.algebra.specs.Digits.{Below}
+use Rattle.meaning.specs.Line.{Word}
+use Rattle.meaning.specs.Row.{holds}
+use Rattle.meaning.specs.Refusal.{isField}
+use Rattle.meaning.specs.Reply.{firstFail}
+use Rattle.table.specs.Rows.{rowsSeen}
+use Rattle.table.specs.Line.{KeptLine, gadgetOf, knownCount}
+use Rattle.table.specs.declared.rows.Rows.{Rows}
+
+-- a table with room for the line's cells, which start at the one called cells; places has the cell of each value before the line
+pub record RowsAsked (p : ℕ) (w : Word) (numbers : List ℤ) (count : ℕ) (table : List ℕ) (cells : ℕ) (places : List ℕ) : Type 0 where
+  pub kept : KeptLine w numbers count
+  pub prime : isField w ≡ false → kept .state .p ≡ p
+  pub below : Below p table
+  pub cells-are : kept .state .cells ≡ cells
+  pub room : cells + gadgetOf kept .width ≤ length table
+  pub places-long : length places ≡ 256
+  pub places-are : kept .state .places ≡ take (knownCount kept) places
+  pub inside : (v : ℕ) → v < knownCount kept → getD places v 0 < length table
+
+-- the answer is the first of the line's rows that fails
+abbrev pub RowsTold : (p : ℕ) (w : Word) (numbers : List ℤ) (count : ℕ) (table : List ℕ) (cells : ℕ) (places : List ℕ) → Rows → Type 0
+RowsTold p w numbers count table cells places r =
+    (a : RowsAsked p w numbers count table cells places) → rowsSeen r ≡ firstFail (holds p table) 0 (gadgetOf (a .kept) .rows)
