@@ -9,7 +9,36 @@ use Rattle.meaning.specs.Known.{Known}
 use Rattle.meaning.specs.Refusal.{Reading, refused, read, onReading, reading}
 use Rattle.meaning.specs.Reply.{Answer, Reply, reply, counts, refusal, readReply}
 use Rattle.meaning.proofs.Reading.{reads-exactly}
-use Rattle.reader.specs.Read.{replyOf, Exact}
+use Rattle.reader.specs.Read.{Survey, surveyOf, surveySeen, replyOf, Exact}
+use Rattle.reader.specs.declared.state.Counts.{Counts}
+use Rattle.reader.specs.declared.read.Surveyed.{Surveyed}
+use Rattle.reader.specs.declared.read.Surveyed.the-variants.{Counted, NotRead}
+
+-- ---- the reply to what was found
+
+-- what is replied of a reading
+unfoldable repliedTo : Reading → Answer
+repliedTo r = onReading r (λ n at. refusal (reply n at)) (λ ls s. counts (s .p) (length (s .known)) (s .cells) (s .rows))
+
+survey-replied : (r : Reading) → replyOf (surveyOf r) ≡ repliedTo r
+unfolding replyOf surveyOf repliedTo onReading
+survey-replied (refused n i) = refl
+survey-replied (read ls s) = refl
+
+module _ (text : List ℕ) (x : Surveyed) (told : surveySeen x ≡ surveyOf (reading text)) where
+  found-replied : replyOf (surveySeen x) ≡ readReply text
+  unfolding readReply repliedTo
+  found-replied = ap replyOf told ∙ survey-replied (reading text)
+
+  pub refused-replied : (n i : ℕ) → x ≡ NotRead n i → refusal (reply n i) ≡ readReply text
+  unfolding replyOf surveySeen
+  refused-replied n i is = ap (λ (y : Surveyed). replyOf (surveySeen y)) (sym is) ∙ found-replied
+
+  pub counts-replied : (p : ℕ) (c : Counts) → x ≡ Counted p c → counts p (c .values) (c .cells) (c .rows) ≡ readReply text
+  unfolding replyOf surveySeen
+  counts-replied p c is = ap (λ (y : Surveyed). replyOf (surveySeen y)) (sym is) ∙ found-replied
+
+-- ---- a reply and the claim
 
 abbrev IsCounts : Answer → Type 0
 IsCounts (counts p v c w) = Unit {0}
@@ -24,29 +53,29 @@ placeOf (counts p v c w) = 0
 placeOf (refusal r) = r .place
 
 module _ (q : Reading) where
-  abbrev Counted : Type 0
-  Counted = (p : ℕ) × (values : ℕ) × (cells : ℕ) × (rows : ℕ) × (replyOf q ≡ counts p values cells rows)
+  abbrev IsCounted : Type 0
+  IsCounted = (p : ℕ) × (values : ℕ) × (cells : ℕ) × (rows : ℕ) × (repliedTo q ≡ counts p values cells rows)
 
-counts-read : (q : Reading) → Counted q → (ls : List Line) × (s : Known) × (q ≡ read ls s)
-unfolding replyOf onReading
+counts-read : (q : Reading) → IsCounted q → (ls : List Line) × (s : Known) × (q ≡ read ls s)
+unfolding repliedTo onReading
 counts-read (refused n i) c = absurd (subst IsCounts (sym (c .4)) tt)
 counts-read (read ls s) c = (ls, s, refl)
 
-read-counts : (q : Reading) (ls : List Line) (s : Known) → q ≡ read ls s → Counted q
-unfolding replyOf onReading
-read-counts q ls s e = (s .p, length (s .known), s .cells, s .rows, ap replyOf e)
+read-counts : (q : Reading) (ls : List Line) (s : Known) → q ≡ read ls s → IsCounted q
+unfolding repliedTo onReading
+read-counts q ls s e = (s .p, length (s .known), s .cells, s .rows, ap repliedTo e)
 
-refusal-refused : (q : Reading) (n i : ℕ) → replyOf q ≡ refusal (reply n i) → q ≡ refused n i
-unfolding replyOf onReading
+refusal-refused : (q : Reading) (n i : ℕ) → repliedTo q ≡ refusal (reply n i) → q ≡ refused n i
+unfolding repliedTo onReading
 refusal-refused (refused m j) n i e = ap₂ refused (ap numberOf e) (ap placeOf e)
 refusal-refused (read ls s) n i e = absurd (subst IsCounts e tt)
 
-refused-refusal : (q : Reading) (n i : ℕ) → q ≡ refused n i → replyOf q ≡ refusal (reply n i)
-unfolding replyOf onReading
-refused-refusal q n i e = ap replyOf e
+refused-refusal : (q : Reading) (n i : ℕ) → q ≡ refused n i → repliedTo q ≡ refusal (reply n i)
+unfolding repliedTo onReading
+refused-refusal q n i e = ap repliedTo e
 
 exact-reply : (text : List ℕ) → Exact text (readReply text)
-unfolding readReply replyOf
+unfolding readReply repliedTo
 exact-reply text =
     let q = reading text in
     let claim = reads-exactly text in (

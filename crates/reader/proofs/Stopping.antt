@@ -1,4 +1,4 @@
--- A line that reading stops at or goes past: what is replied, and what is known after it.
+-- A line that reading stops at or goes past: what is found then, and what is known after it.
 use mathlib.Core.Path.{_≡_, refl, sym, ap, _∙_, subst}
 use mathlib.Core.Option.{Option, none, some}
 use Prim.Native.Nat.{ℕ, zero, suc, _≤_}
@@ -7,9 +7,8 @@ use Rattle.meaning.specs.Line.{Line}
 use Rattle.meaning.specs.Known.{Known, fresh}
 use Rattle.meaning.specs.Meaning.{after}
 use Rattle.meaning.specs.Refusal.{Reading, refused, read, onSome, onReading, isPlaced, rulesWithin, rules, firstBroken, consLine, readLine}
-use Rattle.meaning.specs.Reply.{reply, refusal}
 use Rattle.reader.specs.Step.{Step, stops, goes, stepOf, stepOption}
-use Rattle.reader.specs.Read.{firstOption, replyOf}
+use Rattle.reader.specs.Read.{firstOption, refusedAt, surveyOf}
 
 -- the step of line n
 unfoldable pub stepAt : ℕ → Known → Option Line → Step
@@ -45,31 +44,31 @@ abbrev Goes : Step → Type 0
 Goes (stops n) = ⊥
 Goes (goes s) = Unit {0}
 
-reply-cons : (l : Line) (r : Reading) → replyOf (consLine l r) ≡ replyOf r
-unfolding replyOf consLine onReading
-reply-cons l (refused n i) = refl
-reply-cons l (read ls z) = refl
+survey-cons : (l : Line) (r : Reading) → surveyOf (consLine l r) ≡ surveyOf r
+unfolding surveyOf consLine onReading
+survey-cons l (refused n i) = refl
+survey-cons l (read ls z) = refl
 
 module _ (n : ℕ) (s : Known) (rest : Known → Reading) where
   stopped-by : (o : Option ℕ) (l : Line) (r : ℕ) (a : Known) → stops r ≡ onSome o stops (goes a)
-      → replyOf (onSome o (λ r. refused r n) (consLine l (rest a))) ≡ refusal (reply r n)
-  unfolding onSome replyOf onReading
+      → surveyOf (onSome o (λ r. refused r n) (consLine l (rest a))) ≡ refusedAt r n
+  unfolding onSome surveyOf onReading
   stopped-by none l r a e = absurd (subst Goes (sym e) tt)
-  stopped-by (some q) l r a e = ap (λ (i : ℕ). refusal (reply i n)) (sym (ap numberIn e))
+  stopped-by (some q) l r a e = ap (λ (i : ℕ). refusedAt i n) (sym (ap numberIn e))
 
   gone-by : (o : Option ℕ) (l : Line) (a b : Known) → goes b ≡ onSome o stops (goes a)
-      → (o ≡ none) × (b ≡ a) × (replyOf (onSome o (λ r. refused r n) (consLine l (rest a))) ≡ replyOf (rest b))
+      → (o ≡ none) × (b ≡ a) × (surveyOf (onSome o (λ r. refused r n) (consLine l (rest a))) ≡ surveyOf (rest b))
   unfolding onSome
-  gone-by none l a b e = (refl, ap knownIn e, reply-cons l (rest a) ∙ ap (λ (z : Known). replyOf (rest z)) (sym (ap knownIn e)))
+  gone-by none l a b e = (refl, ap knownIn e, survey-cons l (rest a) ∙ ap (λ (z : Known). surveyOf (rest z)) (sym (ap knownIn e)))
   gone-by (some q) l a b e = absurd (subst Goes e tt)
 
-  pub stopped-at : (o : Option Line) (r : ℕ) → stops r ≡ stepAt n s o → replyOf (readLine rules n s o rest) ≡ refusal (reply r n)
-  unfolding stepAt readLine replyOf onReading
-  stopped-at none r e = ap (λ (i : ℕ). refusal (reply i n)) (sym (ap numberIn e))
+  pub stopped-at : (o : Option Line) (r : ℕ) → stops r ≡ stepAt n s o → surveyOf (readLine rules n s o rest) ≡ refusedAt r n
+  unfolding stepAt readLine surveyOf onReading
+  stopped-at none r e = ap (λ (i : ℕ). refusedAt i n) (sym (ap numberIn e))
   stopped-at (some l) r e = stopped-by (firstBroken rules n s l) l r (after s l) e
 
   pub gone-at : (o : Option Line) (b : Known) → goes b ≡ stepAt n s o
-      → (l : Line) × (firstBroken rules n s l ≡ none) × (b ≡ after s l) × (replyOf (readLine rules n s o rest) ≡ replyOf (rest b))
+      → (l : Line) × (firstBroken rules n s l ≡ none) × (b ≡ after s l) × (surveyOf (readLine rules n s o rest) ≡ surveyOf (rest b))
   unfolding stepAt readLine
   gone-at none b e = absurd (subst Goes e tt)
   gone-at (some l) b e = let g = gone-by (firstBroken rules n s l) l (after s l) b e in (l, g .0, g .1, g .2)

@@ -1,4 +1,4 @@
--- Walking the lines of a list: what holds before each line, that it holds again after a line that is not refused, and what the reply is
+-- Walking the lines of a list: what holds before each line, that it holds again after a line that is not refused, and what is found
 -- where the walk ends.
 use mathlib.Core.Path.{_≡_, refl, sym, ap, ap₂, _∙_, subst}
 use mathlib.Core.Bool.{true, false}
@@ -20,7 +20,6 @@ use Rattle.meaning.specs.Line.{Line, lineOf}
 use Rattle.meaning.specs.Known.{Known}
 use Rattle.meaning.specs.Meaning.{gadget, after}
 use Rattle.meaning.specs.Refusal.{valueLimit, cellLimit, Reading, onReading, rules, firstBroken, readLine, readFrom}
-use Rattle.meaning.specs.Reply.{reply, counts, refusal, Answer}
 use Rattle.meaning.proofs.Number.{OddPrime}
 use Rattle.meaning.proofs.Law.{Ranged}
 use Rattle.meaning.proofs.Kept.{Keeps, keeps-all}
@@ -29,7 +28,7 @@ use Rattle.text.specs.Place.{Found, linesFrom}
 use Rattle.text.proofs.Places.{lines-none, line-within, lines-next}
 use Rattle.reader.specs.State.{greatest, endsFrom, stateOf, Small, Ready}
 use Rattle.reader.specs.Step.{stepBytes, stepSeen, valuesIn, Sized}
-use Rattle.reader.specs.Read.{only, replyOf}
+use Rattle.reader.specs.Read.{only, counted, refusedAt, surveyOf}
 use Rattle.reader.specs.declared.state.Counts.{Counts}
 use Rattle.reader.specs.declared.state.Stepped.{Stepped}
 use Rattle.reader.specs.declared.state.Stepped.the-variants.{Next, Refused}
@@ -47,7 +46,7 @@ pub record Walked (list : List ℕ) (start p : ℕ) (numbers lows highs : List �
   pub sized : Sized c (length lows) (length highs) (length places)
   pub sound : Sound n (stateOf p c lows highs places)
   pub ordered : Ordered (stateOf p c lows highs places .known)
-  pub reply-left : replyOf (readFrom rules 1 (only p) (linesFrom list start)) ≡ replyOf (readFrom rules n (stateOf p c lows highs places) (linesFrom list at))
+  pub survey-left : surveyOf (readFrom rules 1 (only p) (linesFrom list start)) ≡ surveyOf (readFrom rules n (stateOf p c lows highs places) (linesFrom list at))
 
 -- ---- the ends fit the arrays
 
@@ -125,15 +124,15 @@ walk-start list start p numbers lows highs places h k odd n l m o = record {
   };
   sound = record { start = λ e. absurd (omega arith); prime = λ _. odd; ranged = tt };
   ordered = tt;
-  reply-left = refl;
+  survey-left = refl;
 }
 
 module _ {list : List ℕ} {start p : ℕ} {numbers lows highs : List ℤ} {places : List ℕ} {c : Counts} {at n : ℕ}
     (w : Walked list start p numbers lows highs places c at n) where
   pub walk-end : length list ≤ at
-      → counts p (c .values) (c .cells) (c .rows) ≡ replyOf (readFrom rules 1 (only p) (linesFrom list start))
-  unfolding replyOf readFrom onReading stateOf
-  walk-end h = sym (w .reply-left ∙ rw (lines-none list at h) (ap (λ (v : ℕ). counts p v (c .cells) (c .rows)) (known-count p c lows highs places (w .sized))))
+      → counted p (c .values) (c .inputs) (c .cells) (c .rows) ≡ surveyOf (readFrom rules 1 (only p) (linesFrom list start))
+  unfolding surveyOf readFrom onReading stateOf
+  walk-end h = sym (w .survey-left ∙ rw (lines-none list at h) (ap (λ (v : ℕ). counted p v (c .inputs) (c .cells) (c .rows)) (known-count p c lows highs places (w .sized))))
 
   module _ (ended : isEnded list ≡ true) {end : ℕ} (h : at < length list) (found : Found 10 list at end) where
     abbrev line : List ℕ
@@ -142,17 +141,17 @@ module _ {list : List ℕ} {start p : ℕ} {numbers lows highs : List ℤ} {plac
     abbrev rest : Known → Reading
     rest z = readFrom rules (suc n) z (linesFrom list (end + 1))
 
-    reply-here : replyOf (readFrom rules 1 (only p) (linesFrom list start)) ≡ replyOf (readLine rules n (state p c lows highs places (w .sized)) (lineOf line) rest)
+    survey-here : surveyOf (readFrom rules 1 (only p) (linesFrom list start)) ≡ surveyOf (readLine rules n (state p c lows highs places (w .sized)) (lineOf line) rest)
     unfolding readFrom
-    reply-here = w .reply-left ∙ rw (lines-next list ended h found) refl
+    survey-here = w .survey-left ∙ rw (lines-next list ended h found) refl
 
     pub walk-stopped : (x : Stepped) (r : ℕ) (ls hs : List ℤ) (ps : List ℕ) → x ≡ Refused r
         → stepSeen p x ls hs ps ≡ stepBytes (stateOf p c lows highs places) line
-        → refusal (reply r n) ≡ replyOf (readFrom rules 1 (only p) (linesFrom list start))
+        → refusedAt r n ≡ surveyOf (readFrom rules 1 (only p) (linesFrom list start))
     unfolding stepSeen stepBytes
     walk-stopped x r ls hs ps is e =
         let stopped : stepSeen p (Refused r) ls hs ps ≡ stepBytes (stateOf p c lows highs places) line = ap (λ (y : Stepped). stepSeen p y ls hs ps) (sym is) ∙ e in
-        sym (reply-here ∙ stopped-at n (stateOf p c lows highs places) rest (lineOf line) r (stopped ∙ step-later n (w .later) (stateOf p c lows highs places) (lineOf line)))
+        sym (survey-here ∙ stopped-at n (stateOf p c lows highs places) rest (lineOf line) r (stopped ∙ step-later n (w .later) (stateOf p c lows highs places) (lineOf line)))
 
     -- the walk goes on with the next line
     module _ (x : Stepped) (next : Counts) (numbers′ ls hs : List ℤ) (ps : List ℕ) (is : x ≡ Next next)
@@ -168,7 +167,7 @@ module _ {list : List ℕ} {start p : ℕ} {numbers lows highs : List ℤ} {plac
       unfolding valuesIn
       few-values = subst (λ (y : Stepped). valuesIn y ≤ 256) is few-in
 
-      gone : (l : Line) × (firstBroken rules n s l ≡ none) × (t ≡ after s l) × (replyOf (readLine rules n s (lineOf line) rest) ≡ replyOf (rest t))
+      gone : (l : Line) × (firstBroken rules n s l ≡ none) × (t ≡ after s l) × (surveyOf (readLine rules n s (lineOf line) rest) ≡ surveyOf (rest t))
       unfolding stepSeen stepBytes
       gone = gone-at n s rest (lineOf line) t (ap (λ (y : Stepped). stepSeen p y ls hs ps) (sym is) ∙ e ∙ step-later n (w .later) s (lineOf line))
 
@@ -205,5 +204,5 @@ module _ {list : List ℕ} {start p : ℕ} {numbers lows highs : List ℤ} {plac
         sized = room;
         sound = rw (add-one n) (subst (λ (z : Known). Sound (suc n) z) (sym (gone .2)) (sound-after n s (gone .0) (w .sound) keeps));
         ordered = subst (λ (z : Known). Ordered (z .known)) (sym (gone .2)) (ordered-after n s (gone .0) keeps (w .ordered));
-        reply-left = reply-here ∙ gone .3 ∙ ap (λ (i : ℕ). replyOf (readFrom rules i t (linesFrom list (end + 1)))) (sym (add-one n));
+        survey-left = survey-here ∙ gone .3 ∙ ap (λ (i : ℕ). surveyOf (readFrom rules i t (linesFrom list (end + 1)))) (sym (add-one n));
       }

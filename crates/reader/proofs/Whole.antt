@@ -1,4 +1,4 @@
--- The reply for a whole list: refusals 1 and 2, then line 0, then the lines after it.
+-- What is found of a whole list: refusals 1 and 2, then line 0, then the lines after it.
 use mathlib.Core.Path.{_≡_, refl, sym, ap, _∙_, subst}
 use mathlib.Core.Bool.{true, false}
 use mathlib.Core.List.{List, [], _∷_}
@@ -12,13 +12,12 @@ use Rattle.meaning.specs.Line.{Line, lineOf}
 use Rattle.meaning.specs.Known.{Known, fresh}
 use Rattle.meaning.specs.Meaning.{after}
 use Rattle.meaning.specs.Refusal.{textLimit, Reading, onReading, rules, firstBroken, readLine, readFrom, readingBy, reading}
-use Rattle.meaning.specs.Reply.{reply, refusal, readReply}
 use Rattle.meaning.proofs.Number.{OddPrime}
 use Rattle.meaning.proofs.Kept.{keeps-all}
 use Rattle.meaning.proofs.Lines.{sound-after, sound-fresh}
 use Rattle.text.specs.Place.{Found, linesFrom}
 use Rattle.text.proofs.Places.{line-within, lines-next}
-use Rattle.reader.specs.Read.{only, firstOption, firstSeen, replyOf}
+use Rattle.reader.specs.Read.{only, firstOption, firstSeen, refusedAt, surveyOf}
 use Rattle.reader.specs.declared.read.First.{First}
 use Rattle.reader.specs.declared.read.First.the-variants.{Prime, NotFirst}
 use Rattle.reader.proofs.Stopping.{step-first, stopped-at, gone-at}
@@ -29,14 +28,14 @@ ended-some [] e = let z : _≡_ {A = ℕ} 0 1 = cc in omega arith
 ended-some (x ∷ xs) e = omega arith
 
 module _ (text : List ℕ) where
-  pub reply-too-long : 65536 < length text → refusal (reply 1 0) ≡ readReply text
-  unfolding readReply reading readingBy onReading textLimit
-  reply-too-long h = rw (lt-leb (length text) 65536 h) refl
+  pub survey-too-long : 65536 < length text → refusedAt 1 0 ≡ surveyOf (reading text)
+  unfolding surveyOf reading readingBy onReading textLimit
+  survey-too-long h = rw (lt-leb (length text) 65536 h) refl
 
   module _ (short : length text ≤ 65536) where
-    pub reply-not-ended : isEnded text ≡ false → refusal (reply 2 0) ≡ readReply text
-    unfolding readReply reading readingBy onReading textLimit
-    reply-not-ended e = rw (le-leb (length text) 65536 short, e) refl
+    pub survey-not-ended : isEnded text ≡ false → refusedAt 2 0 ≡ surveyOf (reading text)
+    unfolding surveyOf reading readingBy onReading textLimit
+    survey-not-ended e = rw (le-leb (length text) 65536 short, e) refl
 
     module _ (ended : isEnded text ≡ true) {end : ℕ} (found : Found 10 text 0 end) where
       abbrev line : List ℕ
@@ -48,18 +47,18 @@ module _ (text : List ℕ) where
       abbrev rest : Known → Reading
       rest z = readFrom rules 1 z (linesFrom text (end + 1))
 
-      reply-here : readReply text ≡ replyOf (readLine rules 0 fresh (lineOf line) rest)
-      unfolding readReply reading readingBy replyOf textLimit readFrom
-      reply-here = rw (le-leb (length text) 65536 short, ended, lines-next text ended (ended-some text ended) found) refl
+      survey-here : surveyOf (reading text) ≡ surveyOf (readLine rules 0 fresh (lineOf line) rest)
+      unfolding reading readingBy textLimit readFrom
+      survey-here = rw (le-leb (length text) 65536 short, ended, lines-next text ended (ended-some text ended) found) refl
 
       module _ (x : First) (told : firstSeen x ≡ firstOption (lineOf line)) where
-        pub first-stopped : (n : ℕ) → x ≡ NotFirst n → refusal (reply n 0) ≡ readReply text
+        pub first-stopped : (n : ℕ) → x ≡ NotFirst n → refusedAt n 0 ≡ surveyOf (reading text)
         unfolding firstSeen
         first-stopped n is =
-            sym (reply-here ∙ stopped-at 0 fresh rest (lineOf line) n (ap firstSeen (sym is) ∙ told ∙ step-first (lineOf line)))
+            sym (survey-here ∙ stopped-at 0 fresh rest (lineOf line) n (ap firstSeen (sym is) ∙ told ∙ step-first (lineOf line)))
 
         module _ (p : ℕ) (is : x ≡ Prime p) where
-          gone : (l : Line) × (firstBroken rules 0 fresh l ≡ none) × (only p ≡ after fresh l) × (replyOf (readLine rules 0 fresh (lineOf line) rest) ≡ replyOf (rest (only p)))
+          gone : (l : Line) × (firstBroken rules 0 fresh l ≡ none) × (only p ≡ after fresh l) × (surveyOf (readLine rules 0 fresh (lineOf line) rest) ≡ surveyOf (rest (only p)))
           unfolding firstSeen
           gone = gone-at 0 fresh rest (lineOf line) (only p) (ap firstSeen (sym is) ∙ told ∙ step-first (lineOf line))
 
@@ -70,5 +69,5 @@ module _ (text : List ℕ) where
               let sound = sound-after 0 fresh l sound-fresh (keeps-all 0 fresh l (gone .1)) in
               subst OddPrime (sym (ap (λ (z : Known). z .p) (gone .2))) (sound .prime (omega arith))
 
-          pub reply-after : replyOf (readFrom rules 1 (only p) (linesFrom text (end + 1))) ≡ readReply text
-          reply-after = sym (reply-here ∙ gone .3)
+          pub survey-after : surveyOf (readFrom rules 1 (only p) (linesFrom text (end + 1))) ≡ surveyOf (reading text)
+          survey-after = sym (survey-here ∙ gone .3)

@@ -16,6 +16,9 @@ use Rattle.reader.specs.State.{stateOf}
 use Rattle.reader.specs.Step.{Step, stops, goes}
 use Rattle.reader.specs.declared.read.First.{First}
 use Rattle.reader.specs.declared.read.First.the-variants.{Prime, NotFirst}
+use Rattle.reader.specs.declared.state.Counts.{Counts}
+use Rattle.reader.specs.declared.read.Surveyed.{Surveyed}
+use Rattle.reader.specs.declared.read.Surveyed.the-variants.{Counted, NotRead}
 use Rattle.reader.specs.declared.read.Answer.{Answer}
 use Rattle.reader.specs.declared.read.Answer.the-variants.{Read, Refused}
 
@@ -36,9 +39,26 @@ unfoldable pub primeIn : First → ℕ
 primeIn (Prime p) = p
 primeIn (NotFirst n) = 0
 
--- what reading replies
-unfoldable pub replyOf : Reading → Meant
-replyOf r = onReading r (λ n at. refusal (reply n at)) (λ ls s. counts (s .p) (length (s .known)) (s .cells) (s .rows))
+-- what a list has, in counts, or its refusal
+pub data Survey : Type 0 where
+  counted : (p values inputs cells rows : ℕ) → Survey
+  refusedAt : (number place : ℕ) → Survey
+
+unfoldable pub surveyOf : Reading → Survey
+surveyOf r = onReading r refusedAt (λ ls s. counted (s .p) (length (s .known)) (s .inputs) (s .cells) (s .rows))
+
+unfoldable pub surveySeen : Surveyed → Survey
+surveySeen (Counted p c) = counted p (c .values) (c .inputs) (c .cells) (c .rows)
+surveySeen (NotRead number place) = refusedAt number place
+
+unfoldable pub primeSeen : Surveyed → ℕ
+primeSeen (Counted p c) = p
+primeSeen (NotRead number place) = 0
+
+-- what is replied of it
+unfoldable pub replyOf : Survey → Meant
+replyOf (counted p values inputs cells rows) = counts p values cells rows
+replyOf (refusedAt number place) = refusal (reply number place)
 
 unfoldable pub answerSeen : Answer → Meant
 answerSeen (Read p values cells rows) = counts p values cells rows

@@ -14,18 +14,24 @@ ghost use lib.ListN.{length};
 ghost use Rattle.meaning.specs.Line.{lineOf};
 ghost use mathlib.Core.Bool.{true};
 ghost use Rattle.meaning.specs.Text.{isEnded};
-ghost use Rattle.meaning.specs.Refusal.{isField, rules, readFrom};
+ghost use Rattle.meaning.specs.Refusal.{isField, rules, readFrom, reading};
 ghost use Rattle.meaning.proofs.Number.{OddPrime};
 ghost use Rattle.text.specs.Place.{linesFrom};
 ghost use Rattle.meaning.specs.Reply.{readReply};
 ghost use Rattle.text.specs.Word.{wordOf};
 ghost use Rattle.reader.specs.State.{greatest};
-ghost use Rattle.reader.specs.Read.{only, replyOf, primeIn, firstOption, firstSeen, answerSeen, Exact};
+ghost use Rattle.reader.specs.Read.{only, surveyOf, surveySeen, primeSeen, primeIn, firstOption, firstSeen, answerSeen, Exact};
 
 // p of line 0, or the number of its refusal.
 pub enum First {
     Prime(u32),
     NotFirst(u32),
+}
+
+// A read list's p and all its counts, or its refusal.
+pub enum Surveyed {
+    Counted(u32, Counts),
+    NotRead(u32, usize),
 }
 
 // A read list's p and its counts of values, cells and rows, or its refusal.
@@ -77,25 +83,38 @@ pub fn read(list: &[u8]) -> Answer
     ensures replied { λ r. ⌜ answerSeen r ≡ readReply (now (list .entry)) ⌝ }
     ensures exact { λ r. ⌜ Exact (now (list .entry)) (answerSeen r) ⌝ }
 {
+    let found = survey(list);
+    match found {
+        Surveyed::NotRead(number, place) => Answer::Refused(number, place),
+        Surveyed::Counted(p, counts) => Answer::Read(p, counts.values, counts.cells, counts.rows),
+    }
+}
+
+// The same with the count of inputs, which making asks for.
+pub fn survey(list: &[u8]) -> Surveyed
+    ensures told { λ r. ⌜ surveySeen r ≡ surveyOf (reading (now (list .entry))) ⌝ }
+    ensures small { λ r. ⌜ primeSeen r ≤ greatest ⌝ }
+{
     if 65536 < list.len() {
-        return Answer::Refused(1, 0);
+        return Surveyed::NotRead(1, 0);
     }
     if !is_ended(list) {
-        return Answer::Refused(2, 0);
+        return Surveyed::NotRead(2, 0);
     }
     let mut numbers: [i64; 33] = [0; 33];
     let end = line_end(list, 0);
     let first = first_line(&list[0..end], &mut numbers);
     match first {
-        First::NotFirst(n) => Answer::Refused(n, 0),
-        First::Prime(p) => read_from(list, end + 1, p),
+        First::NotFirst(n) => Surveyed::NotRead(n, 0),
+        First::Prime(p) => survey_from(list, end + 1, p),
     }
 }
 
 // The lines after line 0, from the place where line 1 starts.
-fn read_from(list: &[u8], start: usize, p: u32) -> Answer
+fn survey_from(list: &[u8], start: usize, p: u32) -> Surveyed
     requires { ⌜ (isEnded (now list) ≡ true) × (1 ≤ start) × (start ≤ length (now list)) × OddPrime p × (p ≤ greatest) ⌝ }
-    ensures { λ r. ⌜ answerSeen r ≡ replyOf (readFrom rules 1 (only p) (linesFrom (now (list .entry)) start)) ⌝ }
+    ensures told { λ r. ⌜ surveySeen r ≡ surveyOf (readFrom rules 1 (only p) (linesFrom (now (list .entry)) start)) ⌝ }
+    ensures small { λ r. ⌜ primeSeen r ≤ greatest ⌝ }
 {
     let mut numbers: [i64; 33] = [0; 33];
     let mut lows: [i64; 256] = [0; 256];
@@ -122,7 +141,7 @@ fn read_from(list: &[u8], start: usize, p: u32) -> Answer
         );
         match stepped {
             Stepped::Refused(number) => {
-                return Answer::Refused(number, n);
+                return Surveyed::NotRead(number, n);
             }
             Stepped::Next(next) => {
                 counts = next;
@@ -131,5 +150,5 @@ fn read_from(list: &[u8], start: usize, p: u32) -> Answer
         at = end + 1;
         n += 1;
     }
-    Answer::Read(p, counts.values, counts.cells, counts.rows)
+    Surveyed::Counted(p, counts)
 }

@@ -1,130 +1,44 @@
--- `reader::read::read`: the text as a whole, line 0, then the lines after it.
-use mathlib.Core.Path.{_≡_, sym, _∙_}
+-- `reader::read::read`: the reply to what `survey` found.
+use mathlib.Core.Path.{_≡_}
 use mathlib.Core.List.{List}
 use Prim.Native.Nat.{ℕ}
-use native.Mathlib.Omega.{arith}
 use denote.Ref.{now}
-use borrow.Author.Tests.{not-true, not-false}
-use Rattle.reader.specs.Read.{answerSeen, primeIn, Exact}
 use Rattle.meaning.specs.Reply.{Answer, readReply}
-use Rattle.reader.proofs.Exact.{reads-exactly-as-replied}
-use Rattle.reader.proofs.Whole.{reply-too-long, reply-not-ended, first-within, first-stopped, first-is-prime, reply-after}
+use Rattle.reader.specs.Read.{answerSeen, Exact}
+use Rattle.reader.proofs.Exact.{refused-replied, counts-replied, reads-exactly-as-replied}
 use borrow.Author.Needs.{needs}
 use Rattle.reader.proofs.read.read.Statement.{statement}
 use Rattle.reader.proofs.read.read.Tie as tie
 use Rattle.reader.proofs.read.read.Reads as reads
 use Rattle.reader.proofs.read.read.Lts as lts
-use Rattle.reader.proofs.read.first_line.Reads as first-line-reads
-use Rattle.reader.proofs.read.read_from.Reads as read-from-reads
-use Rattle.text.proofs.is_ended.Reads as is-ended-reads
-use Rattle.text.proofs.line_end.Reads as line-end-reads
+use Rattle.reader.proofs.read.survey.Reads as survey-reads
+
+-- src/read.rt:86:9
+survey-requires : tie.Need-survey-requires
+survey-requires c κs = search needs
+
+-- src/read.rt:88:27
+enum-known-found : tie.Need-enum-known-found
+enum-known-found c = search needs
+
+-- src/read.rt:89:27
+enum-known-found-2 : tie.Need-enum-known-found-2
+enum-known-found-2 c = search needs
 
 -- a reply that is the definitions' is exact
 answered : {text : List ℕ} (a : Answer) → a ≡ readReply text → (a ≡ readReply text) × Exact text a
 answered {text} a e = (e, reads-exactly-as-replied text a e)
 
--- src/read.rt:79:9
 returns : tie.Need-returns
 unfolding answerSeen
 returns c =
-    answered _ (reply-too-long (now (c .before .before .args .list)) (c .if1 .taken))
+    answered _ (refused-replied (now (c .before .before .before .before .before .args .list)) _ (c .before .before .before .survey .ensures .0) _ _ (c .before .found .given .1))
 
--- src/read.rt:81:9
-is-ended-requires : tie.Need-is-ended-requires
-is-ended-requires c κs = search needs
-
--- src/read.rt:82:9
 returns-2 : tie.Need-returns-2
 unfolding answerSeen
 returns-2 c =
-    answered _ (reply-not-ended (now (c .before .before .before .before .args .list)) (c .before .before .if1 .left) (sym (c .before .is-ended .ensures) ∙ not-true _ (c .if2 .taken)))
-
--- src/read.rt:85:9
-line-end-requires : tie.Need-line-end-requires
-line-end-requires c κs = search needs
-
--- src/read.rt:86:28
-sub-first-line : tie.Need-sub-first-line
-sub-first-line c = search needs
-
--- src/read.rt:86:28
-part-first-line-start : tie.Need-part-first-line-start
-part-first-line-start c = search needs
-
--- src/read.rt:86:28
-part-first-line-end : tie.Need-part-first-line-end
-part-first-line-end c = search needs
-
--- src/read.rt:86:43
-slice-aggregate-first-line : tie.Need-slice-aggregate-first-line
-slice-aggregate-first-line c = search needs
-
--- src/read.rt:86:9
-first-line-requires : tie.Need-first-line-requires
-first-line-requires c κs = search needs
-
--- src/read.rt:88:25
-enum-known-first : tie.Need-enum-known-first
-enum-known-first c = search needs
-
--- src/read.rt:89:22
-enum-known-first-2 : tie.Need-enum-known-first-2
-enum-known-first-2 c = search needs
-
--- src/read.rt:89:44
-add-read-from : tie.Need-add-read-from
-add-read-from c = search needs
-
--- src/read.rt:89:28
-read-from-requires : tie.Need-read-from-requires
-unfolding primeIn
-read-from-requires c κs =
-    let text = now (c .before .before .before .before .before .before .before .before .before .before .before .before .args .list) in
-    let short = c .before .before .before .before .before .before .before .before .before .before .if1 .left in
-    let ended = sym (c .before .before .before .before .before .before .before .before .before .is-ended .ensures) ∙ not-false _ (c .before .before .before .before .before .before .before .before .if2 .left) in
-    let found = c .before .before .before .before .before .before .before .line-end .ensures in
-    let told = c .before .before .before .before .first-line .ensures in
-    let prime = c .before .first2 .given in
-    let within = first-within text short ended found in
-    (ended, omega arith, omega (arith, within), first-is-prime text short ended found _ (told .0) _ (prime .1), rw (prime .1) at (told .1 .0))
-
--- src/read.rt:75:1
-returns-3 : tie.Need-returns-3
-unfolding answerSeen
-returns-3 c =
-    let text = now (c .before .before .before .before .before .before .before .before .before .before .before .before .args .list) in
-    let short = c .before .before .before .before .before .before .before .before .before .before .if1 .left in
-    let ended = sym (c .before .before .before .before .before .before .before .before .before .is-ended .ensures) ∙ not-false _ (c .before .before .before .before .before .before .before .before .if2 .left) in
-    let found = c .before .before .before .before .before .before .before .line-end .ensures in
-    let told = c .before .before .before .before .first-line .ensures in
-    answered _ (first-stopped text short ended found _ (told .0) _ (c .before .first .given .1))
-
--- src/read.rt:75:1
-returns-4 : tie.Need-returns-4
-returns-4 c =
-    let text = now (c .before .before .before .before .before .before .before .before .before .before .before .before .before .args .list) in
-    let short = c .before .before .before .before .before .before .before .before .before .before .before .if1 .left in
-    let ended = sym (c .before .before .before .before .before .before .before .before .before .before .is-ended .ensures) ∙ not-false _ (c .before .before .before .before .before .before .before .before .before .if2 .left) in
-    let found = c .before .before .before .before .before .before .before .before .line-end .ensures in
-    let told = c .before .before .before .before .before .first-line .ensures in
-    answered _ (c .read-from .ensures ∙ reply-after text short ended found _ (told .0) _ (c .before .before .first2 .given .1))
+    answered _ (counts-replied (now (c .before .before .before .before .before .args .list)) _ (c .before .before .before .survey .ensures .0) _ _ (c .before .found2 .given .1))
 
 pub read-spec : {M : Type 1} → statement M
 read-spec =
-    tie.close
-    (tie.spec
-    returns
-    is-ended-requires
-    returns-2
-    line-end-requires
-    sub-first-line
-    part-first-line-start
-    part-first-line-end
-    slice-aggregate-first-line
-    first-line-requires
-    enum-known-first
-    enum-known-first-2
-    add-read-from
-    read-from-requires
-    returns-3
-    returns-4)
+    tie.close (tie.spec survey-requires enum-known-found enum-known-found-2 returns returns-2)

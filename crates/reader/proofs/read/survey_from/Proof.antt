@@ -1,17 +1,18 @@
--- `reader::read::read_from`: the walk over the lines, with what holds before each of them as the invariant.
+-- `reader::read::survey_from`: the walk over the lines, with what holds before each of them as the invariant.
 use mathlib.Core.Path.{refl, sym, ap, _∙_}
 use Prim.Native.Nat.{_-_}
 use lib.ListN.{length}
+use native.Mathlib.Omega.{arith}
 use denote.Ref.{now}
 use borrow.Author.Needs.{needs}
 use Rattle.reader.specs.Step.{valuesIn, stepSeen}
-use Rattle.reader.specs.Read.{answerSeen}
+use Rattle.reader.specs.Read.{surveySeen, primeSeen}
 use Rattle.reader.specs.declared.state.Stepped.{Stepped}
 use Rattle.reader.proofs.Walk.{Walked, walk-ready, walk-start, walk-end, walk-stopped, walk-next}
-use Rattle.reader.proofs.read.read_from.Statement.{statement}
-use Rattle.reader.proofs.read.read_from.Tie as tie
-use Rattle.reader.proofs.read.read_from.Reads as reads
-use Rattle.reader.proofs.read.read_from.Lts as lts
+use Rattle.reader.proofs.read.survey_from.Statement.{statement}
+use Rattle.reader.proofs.read.survey_from.Tie as tie
+use Rattle.reader.proofs.read.survey_from.Reads as reads
+use Rattle.reader.proofs.read.survey_from.Lts as lts
 use Rattle.reader.proofs.step.step_line.Reads as step-line-reads
 use Rattle.text.proofs.line_end.Reads as line-end-reads
 
@@ -74,12 +75,14 @@ enum-known-stepped c = search needs
 
 -- src/read.rt:120:17
 returns : tie.Need-returns Inv-loop μ-loop
-unfolding answerSeen
+unfolding surveySeen primeSeen
 returns c =
     let S = c .before .before .before .before .before .before .before .before .before .before .before .before .before .before .before .before .before in
-    let w = c .before .before .before .before .before .before .before .before .before .before .before .before .before .before .before .loop .inv in
-    walk-stopped w (S .pre .0) (c .before .before .before .before .before .before .before .before .before .before .before .before .before .before .loop-test .taken) (c .before .before .before .before .before .before .before .before .before .before .before .before .before .line-end .ensures)
-    _ (c .before .stepped .given .0 .0) _ _ _ (c .before .stepped .given .1) (c .before .before .before .before .before .before .before .step-line .ensures .0 _ refl)
+    let w = c .before .before .before .before .before .before .before .before .before .before .before .before .before .before .before .loop .inv in (
+      walk-stopped w (S .pre .0) (c .before .before .before .before .before .before .before .before .before .before .before .before .before .before .loop-test .taken) (c .before .before .before .before .before .before .before .before .before .before .before .before .before .line-end .ensures)
+          _ (c .before .stepped .given .0 .0) _ _ _ (c .before .stepped .given .1) (c .before .before .before .before .before .before .before .step-line .ensures .0 _ refl),
+      omega arith,
+    )
 
 -- src/read.rt:122:27
 enum-known-stepped-2 : tie.Need-enum-known-stepped-2 Inv-loop μ-loop
@@ -109,11 +112,11 @@ loop-again c =
 
 -- src/read.rt:94:1
 returns-2 : tie.Need-returns-2 Inv-loop μ-loop
-unfolding answerSeen
-returns-2 c = walk-end (c .before .loop .inv) (c .loop-test .left)
+unfolding surveySeen primeSeen
+returns-2 c = (walk-end (c .before .loop .inv) (c .loop-test .left), c .before .before .before .pre .4)
 
-pub read-from-spec : {M : Type 1} → statement M
-read-from-spec =
+pub survey-from-spec : {M : Type 1} → statement M
+survey-from-spec =
     tie.close
     (tie.spec
     Inv-loop

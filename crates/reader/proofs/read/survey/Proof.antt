@@ -1,0 +1,122 @@
+-- `reader::read::survey`: the text as a whole, line 0, then the lines after it.
+use mathlib.Core.Path.{_≡_, sym, _∙_}
+use native.Mathlib.Omega.{arith}
+use denote.Ref.{now}
+use borrow.Author.Tests.{not-true, not-false}
+use Rattle.reader.specs.Read.{surveySeen, primeSeen, primeIn}
+use Rattle.reader.proofs.Whole.{survey-too-long, survey-not-ended, first-within, first-stopped, first-is-prime, survey-after}
+use borrow.Author.Needs.{needs}
+use Rattle.reader.proofs.read.survey.Statement.{statement}
+use Rattle.reader.proofs.read.survey.Tie as tie
+use Rattle.reader.proofs.read.survey.Reads as reads
+use Rattle.reader.proofs.read.survey.Lts as lts
+use Rattle.reader.proofs.read.first_line.Reads as first-line-reads
+use Rattle.reader.proofs.read.survey_from.Reads as survey-from-reads
+use Rattle.text.proofs.is_ended.Reads as is-ended-reads
+use Rattle.text.proofs.line_end.Reads as line-end-reads
+
+-- src/read.rt:79:9
+returns : tie.Need-returns
+unfolding surveySeen primeSeen
+returns c =
+    (survey-too-long (now (c .before .before .args .list)) (c .if1 .taken), omega arith)
+
+-- src/read.rt:81:9
+is-ended-requires : tie.Need-is-ended-requires
+is-ended-requires c κs = search needs
+
+-- src/read.rt:82:9
+returns-2 : tie.Need-returns-2
+unfolding surveySeen primeSeen
+returns-2 c =
+    (survey-not-ended (now (c .before .before .before .before .args .list)) (c .before .before .if1 .left) (sym (c .before .is-ended .ensures) ∙ not-true _ (c .if2 .taken)), omega arith)
+
+-- src/read.rt:85:9
+line-end-requires : tie.Need-line-end-requires
+line-end-requires c κs = search needs
+
+-- src/read.rt:86:28
+sub-first-line : tie.Need-sub-first-line
+sub-first-line c = search needs
+
+-- src/read.rt:86:28
+part-first-line-start : tie.Need-part-first-line-start
+part-first-line-start c = search needs
+
+-- src/read.rt:86:28
+part-first-line-end : tie.Need-part-first-line-end
+part-first-line-end c = search needs
+
+-- src/read.rt:86:43
+slice-aggregate-first-line : tie.Need-slice-aggregate-first-line
+slice-aggregate-first-line c = search needs
+
+-- src/read.rt:86:9
+first-line-requires : tie.Need-first-line-requires
+first-line-requires c κs = search needs
+
+-- src/read.rt:88:25
+enum-known-first : tie.Need-enum-known-first
+enum-known-first c = search needs
+
+-- src/read.rt:89:22
+enum-known-first-2 : tie.Need-enum-known-first-2
+enum-known-first-2 c = search needs
+
+-- src/read.rt:89:44
+add-survey-from : tie.Need-add-survey-from
+add-survey-from c = search needs
+
+-- src/read.rt:89:28
+survey-from-requires : tie.Need-survey-from-requires
+unfolding primeIn
+survey-from-requires c κs =
+    let text = now (c .before .before .before .before .before .before .before .before .before .before .before .before .args .list) in
+    let short = c .before .before .before .before .before .before .before .before .before .before .if1 .left in
+    let ended = sym (c .before .before .before .before .before .before .before .before .before .is-ended .ensures) ∙ not-false _ (c .before .before .before .before .before .before .before .before .if2 .left) in
+    let found = c .before .before .before .before .before .before .before .line-end .ensures in
+    let told = c .before .before .before .before .first-line .ensures in
+    let prime = c .before .first2 .given in
+    let within = first-within text short ended found in
+    (ended, omega arith, omega (arith, within), first-is-prime text short ended found _ (told .0) _ (prime .1), rw (prime .1) at (told .1 .0))
+
+-- src/read.rt:75:1
+returns-3 : tie.Need-returns-3
+unfolding surveySeen primeSeen
+returns-3 c =
+    let text = now (c .before .before .before .before .before .before .before .before .before .before .before .before .args .list) in
+    let short = c .before .before .before .before .before .before .before .before .before .before .if1 .left in
+    let ended = sym (c .before .before .before .before .before .before .before .before .before .is-ended .ensures) ∙ not-false _ (c .before .before .before .before .before .before .before .before .if2 .left) in
+    let found = c .before .before .before .before .before .before .before .line-end .ensures in
+    let told = c .before .before .before .before .first-line .ensures in
+    (first-stopped text short ended found _ (told .0) _ (c .before .first .given .1), omega arith)
+
+-- src/read.rt:75:1
+returns-4 : tie.Need-returns-4
+returns-4 c =
+    let text = now (c .before .before .before .before .before .before .before .before .before .before .before .before .before .args .list) in
+    let short = c .before .before .before .before .before .before .before .before .before .before .before .if1 .left in
+    let ended = sym (c .before .before .before .before .before .before .before .before .before .before .is-ended .ensures) ∙ not-false _ (c .before .before .before .before .before .before .before .before .before .if2 .left) in
+    let found = c .before .before .before .before .before .before .before .before .line-end .ensures in
+    let told = c .before .before .before .before .before .first-line .ensures in
+    (c .survey-from .ensures .0 ∙ survey-after text short ended found _ (told .0) _ (c .before .before .first2 .given .1), c .survey-from .ensures .1)
+
+pub survey-spec : {M : Type 1} → statement M
+survey-spec =
+    tie.close
+    (tie.spec
+    returns
+    is-ended-requires
+    returns-2
+    line-end-requires
+    sub-first-line
+    part-first-line-start
+    part-first-line-end
+    slice-aggregate-first-line
+    first-line-requires
+    enum-known-first
+    enum-known-first-2
+    add-survey-from
+    survey-from-requires
+    returns-3
+    returns-4)
