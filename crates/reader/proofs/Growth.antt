@@ -57,6 +57,9 @@ module _ (s : Known) (l : Line) where
   unfolding toldOf
   no-rule-broken es e = told-made (firstBroken rules 1 s l) (gadget s l .made) es e .0
 
+  pub rules-kept : (es : List Ends) → makes es ≡ toldOf s l → Keeps 1 s l
+  rules-kept es e = keeps-all 1 s l (no-rule-broken es e)
+
   pub ends-made : (es : List Ends) → makes es ≡ toldOf s l → gadget s l .made ≡ es
   unfolding toldOf
   ends-made es e = told-made (firstBroken rules 1 s l) (gadget s l .made) es e .1
@@ -123,7 +126,7 @@ module _ (p : ℕ) (s : Known) (l : Line) (c : Counts) (lows highs : List ℤ) (
     room : c .values < 256
     unfolding valueLimit
     room =
-        let k = keeps-all 1 s l (no-rule-broken s l (ends low high ∷ []) told) in
+        let k = rules-kept s l (ends low high ∷ []) told in
         let one : length (gadget s l .made) ≡ 1 = ap (λ (es : List Ends). length es) (ends-made s l (ends low high ∷ []) told) in
         omega (arith, leb→le (length (s .known) + length (gadget s l .made)) 256 (k .values-fit), values-are, one)
 

@@ -1,11 +1,40 @@
--- How many rows each kind of line has.
-use mathlib.Core.Path.{_≡_, refl, ap, _∙_}
+-- How many values, inputs, cells and rows each kind of line has, and that the code counts them from the line's word and digit count.
+use mathlib.Core.Path.{_≡_, refl, sym, ap, _∙_, subst}
+use mathlib.Core.Bool.{true, _&&_}
 use mathlib.Core.List.{List, [], _∷_, _++_}
-use Prim.Native.Nat.{ℕ, zero, suc, _+_}
+use Prim.Native.Nat.{ℕ, zero, suc, _+_, _*_, _<_, _≤_}
 use native.Mathlib.Omega.{arith}
-use lib.ListN.{length, length-append}
-use lib.IntN.{ℤ}
+use lib.Dec.{T, eqb, eqb→eq}
+use lib.ListN.{length, getD, take, length-append}
+use lib.Seq.{getD-take}
+use lib.IntN.{ℤ, pos, natAbs}
+use lib.Signed.{_≤ℤ_}
+use Rattle.algebra.proofs.Test.{left, right, ≡-test}
+use Rattle.meaning.specs.Number.{inRange}
+use Rattle.meaning.specs.Line.{field, input, span, sum, relu, which, max, root, isCount, numberAt, sizeAt, shiftsOf, coefficientsOf, digitsAt, digitsOf}
+use Rattle.meaning.specs.Line.{Word as Meant}
+use Rattle.meaning.specs.Known.{Known}
 use Rattle.meaning.specs.Row.{Row, Form, constant, _⊖_, _≅_, digitRows, placeValues, group}
+use Rattle.meaning.specs.Gadget.Sign.{signRows, signShift}
+use Rattle.meaning.specs.Gadget.Field.{fieldLine}
+use Rattle.meaning.specs.Gadget.Input.{inputLine}
+use Rattle.meaning.specs.Gadget.Span.{spanLine}
+use Rattle.meaning.specs.Gadget.Sum.{sumLine}
+use Rattle.meaning.specs.Gadget.Relu.{reluLine}
+use Rattle.meaning.specs.Gadget.Which.{whichLine}
+use Rattle.meaning.specs.Gadget.Max.{maxLine}
+use Rattle.meaning.specs.Gadget.Root.{rootLine}
+use Rattle.meaning.specs.Meaning.{byWord, gadget}
+use Rattle.meaning.specs.Refusal.{all, isDigits, isRanged}
+use Rattle.meaning.proofs.Kept.{Keeps}
+use Rattle.text.specs.Word.{wordOf}
+use Rattle.text.specs.declared.Word.{Word}
+use Rattle.text.specs.declared.Word.the-variants.{Field, In, Span, Sum, Relu, Which, Max, Root}
+use Rattle.reader.specs.Told.{lineWith}
+use Rattle.reader.specs.Size.{counted, Adds}
+use Rattle.reader.specs.declared.state.Counts.{Counts}
+
+-- ---- rows
 
 length-digitRows : (at b k : ℕ) → length (digitRows at b k) ≡ k
 unfolding digitRows
@@ -15,3 +44,194 @@ length-digitRows at b (suc k) = ap suc (length-digitRows (suc at) b k)
 pub length-groupRows : (f : Form) (L : ℤ) (at b k : ℕ) → length (group f L at b k) ≡ k + 1
 unfolding group
 length-groupRows f L at b k = length-append (digitRows at b k) (f ⊖ constant L ≅ placeValues 1 at b k ∷ []) ∙ ap (λ (n : ℕ). n + 1) (length-digitRows at b k)
+
+pub length-signRows : (f : Form) (at b k : ℕ) (last : Form → Row) → length (signRows f at b k last) ≡ k + 5
+unfolding signRows
+length-signRows f at b k last =
+    length-append (group f (signShift b k) at b k) (_ ∷ _ ∷ _ ∷ _ ∷ []) ∙ rw (length-groupRows f (signShift b k) at b k) (omega arith)
+
+pub two-groups : (f g : Form) (L : ℤ) (at at′ b k : ℕ) → suc (length (group f L at b k ++ group g L at′ b k)) ≡ 2 * k + 3
+two-groups f g L at at′ b k = ap suc (length-append (group f L at b k) (group g L at′ b k))
+    ∙ omega (arith, length-groupRows f L at b k, length-groupRows g L at′ b k)
+
+pub four-groups : (f g h l : Form) (L : ℤ) (a b c d base k : ℕ)
+    → suc (length (group f L a base k ++ group g L b base k ++ group h L c base k ++ group l L d base k)) ≡ 4 * k + 5
+four-groups f g h l L a b c d base k =
+    let one = group f L a base k in
+    let two = group g L b base k in
+    let three = group h L c base k in
+    let four = group l L d base k in
+    omega (
+      arith,
+      length-append (one ++ two ++ three) four,
+      length-append (one ++ two) three,
+      length-append one two,
+      length-groupRows f L a base k,
+      length-groupRows g L b base k,
+      length-groupRows h L c base k,
+      length-groupRows l L d base k,
+    )
+
+-- ---- digit counts
+
+-- where the rules hold, the number at place i + 1 is a digit count
+module _ (p i : ℕ) (w : Meant) (ns : List ℤ) (is : digitsOf w ns ≡ digitsAt ns i) (ranged : T (isRanged p w ns)) where
+  given : T (all isDigits (digitsAt ns i))
+  unfolding isRanged
+  given = rw is at (left (all isDigits (digitsOf w ns)) (all (inRange p) (shiftsOf w ns))
+      (left (all isDigits (digitsOf w ns) && all (inRange p) (shiftsOf w ns)) (all (inRange p) (coefficientsOf w ns)) ranged))
+
+  pub count-low : pos 1 ≤ℤ numberAt ns (suc i)
+  unfolding all digitsAt isDigits
+  count-low = let g = given in record { le = search (left, right, g) }
+
+  pub count-high : numberAt ns (suc i) ≤ℤ pos 31
+  unfolding all digitsAt isDigits
+  count-high = let g = given in record { le = search (left, right, g) }
+
+-- and the code's digit count is the line's
+module _ (s : Known) (w : Meant) (numbers : List ℤ) (n i k : ℕ) (inside : suc i < n)
+    (is : digitsOf w (take n numbers) ≡ digitsAt (take n numbers) i)
+    (counts : pos 1 ≤ℤ getD numbers (suc i) (pos 0) → getD numbers (suc i) (pos 0) ≤ℤ pos 31 → k ≡ natAbs (getD numbers (suc i) (pos 0))) where
+  number-is : numberAt (take n numbers) (suc i) ≡ getD numbers (suc i) (pos 0)
+  unfolding numberAt
+  number-is = getD-take n numbers (suc i) (pos 0) inside
+
+  pub digits-counted : {m : ℕ} → Keeps m s (lineWith w (take n numbers)) → sizeAt (take n numbers) (suc i) ≡ k
+  unfolding sizeAt
+  digits-counted kept =
+      let low = count-low (s .p) i w (take n numbers) is (kept .ranged) in
+      let high = count-high (s .p) i w (take n numbers) is (kept .ranged) in
+      ap natAbs number-is ∙ sym (counts (rw number-is at low) (rw number-is at high))
+
+-- ---- the counts of each kind
+
+module _ (s : Known) (ns : List ℤ) (k : ℕ) where
+  adds-field : Adds s (lineWith field ns) (counted 0 0 0 0)
+  unfolding gadget byWord fieldLine counted
+  adds-field = record { values-are = refl; inputs-are = refl; cells-are = refl; rows-are = refl }
+
+  adds-input : Adds s (lineWith input ns) (counted 1 1 1 0)
+  unfolding gadget byWord inputLine counted
+  adds-input = record { values-are = refl; inputs-are = refl; cells-are = refl; rows-are = refl }
+
+  adds-sum : Adds s (lineWith sum ns) (counted 1 0 1 1)
+  unfolding gadget byWord sumLine counted
+  adds-sum = record { values-are = refl; inputs-are = refl; cells-are = refl; rows-are = refl }
+
+  adds-span : sizeAt ns 2 ≡ k → Adds s (lineWith span ns) (counted 0 0 k (k + 1))
+  unfolding gadget byWord spanLine counted
+  adds-span e = record {
+    values-are = refl;
+    inputs-are = refl;
+    cells-are = e;
+    rows-are = length-groupRows _ _ _ _ (sizeAt ns 2) ∙ ap (λ (i : ℕ). i + 1) e;
+  }
+
+  adds-relu : sizeAt ns 2 ≡ k → Adds s (lineWith relu ns) (counted 1 0 (k + 3) (k + 5))
+  unfolding gadget byWord reluLine counted
+  adds-relu e = record {
+    values-are = refl;
+    inputs-are = refl;
+    cells-are = ap (λ (i : ℕ). i + 3) e;
+    rows-are = length-signRows _ _ _ (sizeAt ns 2) _ ∙ ap (λ (i : ℕ). i + 5) e;
+  }
+
+  adds-which : sizeAt ns 3 ≡ k → Adds s (lineWith which ns) (counted 1 0 (k + 3) (k + 5))
+  unfolding gadget byWord whichLine counted
+  adds-which e = record {
+    values-are = refl;
+    inputs-are = refl;
+    cells-are = ap (λ (i : ℕ). i + 3) e;
+    rows-are = length-signRows _ _ _ (sizeAt ns 3) _ ∙ ap (λ (i : ℕ). i + 5) e;
+  }
+
+  adds-max : sizeAt ns 3 ≡ k → Adds s (lineWith max ns) (counted 1 0 (2 * k + 1) (2 * k + 3))
+  unfolding gadget byWord maxLine counted
+  adds-max e = record {
+    values-are = refl;
+    inputs-are = refl;
+    cells-are = omega (arith, e);
+    rows-are = two-groups _ _ (pos 0) _ _ (sizeAt ns 2) (sizeAt ns 3) ∙ ap (λ (i : ℕ). 2 * i + 3) e;
+  }
+
+  adds-root : sizeAt ns 2 ≡ k → Adds s (lineWith root ns) (counted 1 0 (4 * k + 2) (4 * k + 5))
+  unfolding gadget byWord rootLine counted
+  adds-root e = record {
+    values-are = refl;
+    inputs-are = refl;
+    cells-are = omega (arith, e);
+    rows-are = four-groups _ _ _ _ (pos 0) _ _ _ _ (sizeAt ns 1) (sizeAt ns 2) ∙ ap (λ (i : ℕ). 4 * i + 5) e;
+  }
+
+-- ---- as the code counts them, from a word and numbers of which the line has the first
+
+-- a word that is followed by n numbers and no other count
+pub count-is : {v w : Word} (n m : ℕ) → v ≡ w → (isCount (wordOf w) m ≡ eqb m n) → isCount (wordOf v) m ≡ true → m ≡ n
+count-is {v} {w} n m q f e = eqb→eq m n (≡-test (eqb m n) (sym f ∙ ap (λ (u : Word). isCount (wordOf u) m) (sym q) ∙ e))
+
+-- what a count tells of the line: how much it adds, which is at most one value, one input, 126 cells and 129 rows
+abbrev pub Sizes : Word → List ℤ → Counts → Type 0
+Sizes v numbers c = (
+    (n count : ℕ) (s : Known) → isCount (wordOf v) count ≡ true → Keeps n s (lineWith (wordOf v) (take count numbers))
+    → Adds s (lineWith (wordOf v) (take count numbers)) c
+    ) × ((c .values ≤ 1) × (c .inputs ≤ 1) × (c .cells ≤ 126) × (c .rows ≤ 129))
+
+few : {c : Counts} (values inputs cells rows : ℕ) → c ≡ counted values inputs cells rows → values ≤ 1 → inputs ≤ 1 → cells ≤ 126 → rows ≤ 129
+    → (c .values ≤ 1) × (c .inputs ≤ 1) × (c .cells ≤ 126) × (c .rows ≤ 129)
+unfolding counted
+few values inputs cells rows e v i k r = rw e (v, i, k, r)
+
+module _ {v : Word} {c : Counts} (numbers : List ℤ) where
+  pub field-sizes : v ≡ Field → c ≡ counted 0 0 0 0 → Sizes v numbers c
+  unfolding wordOf
+  field-sizes q e = (λ n count s h k. rw (q, e) (adds-field s (take count numbers) 0), few 0 0 0 0 e (omega arith) (omega arith) (omega arith) (omega arith))
+
+  pub input-sizes : v ≡ In → c ≡ counted 1 1 1 0 → Sizes v numbers c
+  unfolding wordOf
+  input-sizes q e = (λ n count s h k. rw (q, e) (adds-input s (take count numbers) 0), few 1 1 1 0 e (omega arith) (omega arith) (omega arith) (omega arith))
+
+  pub sum-sizes : v ≡ Sum → c ≡ counted 1 0 1 1 → Sizes v numbers c
+  unfolding wordOf
+  sum-sizes q e = (λ n count s h k. rw (q, e) (adds-sum s (take count numbers) 0), few 1 0 1 1 e (omega arith) (omega arith) (omega arith) (omega arith))
+
+-- k is the code's digit count, from the number at this place
+abbrev pub Counted : List ℤ → (at k : ℕ) → Type 0
+Counted numbers at k = (k ≤ 31) × (pos 1 ≤ℤ getD numbers at (pos 0) → getD numbers at (pos 0) ≤ℤ pos 31 → k ≡ natAbs (getD numbers at (pos 0)))
+
+module _ {v : Word} {c : Counts} (numbers : List ℤ) (k : ℕ) where
+  digit-sizes : (w : Word) (m i values cells rows : ℕ) → v ≡ w → c ≡ counted values 0 cells rows → suc i < m → ((j : ℕ) → isCount (wordOf w) j ≡ eqb j m)
+      → (digitsOf (wordOf w) (take m numbers) ≡ digitsAt (take m numbers) i) → Counted numbers (suc i) k → values ≤ 1 → cells ≤ 126 → rows ≤ 129
+      → ((s : Known) → sizeAt (take m numbers) (suc i) ≡ k → Adds s (lineWith (wordOf w) (take m numbers)) (counted values 0 cells rows)) → Sizes v numbers c
+  digit-sizes w m i values cells rows q e inside only is counts few-values few-cells few-rows adds = (
+    λ n count s h kept.
+        let count-m : count ≡ m = count-is m count q (only count) h in
+        let here : Keeps n s (lineWith (wordOf w) (take m numbers)) = rw (q, count-m) at kept in
+        rw (q, e, count-m) (adds s (digits-counted s (wordOf w) numbers m i k inside is (counts .1) here)),
+    few values 0 cells rows e few-values (omega arith) few-cells few-rows,
+  )
+
+  pub span-sizes : v ≡ Span → c ≡ counted 0 0 k (k + 1) → Counted numbers 2 k → Sizes v numbers c
+  unfolding wordOf isCount digitsOf
+  span-sizes q e h = digit-sizes Span 4 1 0 k (k + 1) q e (omega arith) (λ j. refl) refl h (omega arith) (omega (arith, h .0)) (omega (arith, h .0))
+      (λ s. adds-span s (take 4 numbers) k)
+
+  pub relu-sizes : v ≡ Relu → c ≡ counted 1 0 (k + 3) (k + 5) → Counted numbers 2 k → Sizes v numbers c
+  unfolding wordOf isCount digitsOf
+  relu-sizes q e h = digit-sizes Relu 3 1 1 (k + 3) (k + 5) q e (omega arith) (λ j. refl) refl h (omega arith) (omega (arith, h .0)) (omega (arith, h .0))
+      (λ s. adds-relu s (take 3 numbers) k)
+
+  pub which-sizes : v ≡ Which → c ≡ counted 1 0 (k + 3) (k + 5) → Counted numbers 3 k → Sizes v numbers c
+  unfolding wordOf isCount digitsOf
+  which-sizes q e h = digit-sizes Which 4 2 1 (k + 3) (k + 5) q e (omega arith) (λ j. refl) refl h (omega arith) (omega (arith, h .0)) (omega (arith, h .0))
+      (λ s. adds-which s (take 4 numbers) k)
+
+  pub max-sizes : v ≡ Max → c ≡ counted 1 0 (2 * k + 1) (2 * k + 3) → Counted numbers 3 k → Sizes v numbers c
+  unfolding wordOf isCount digitsOf
+  max-sizes q e h = digit-sizes Max 4 2 1 (2 * k + 1) (2 * k + 3) q e (omega arith) (λ j. refl) refl h (omega arith) (omega (arith, h .0)) (omega (arith, h .0))
+      (λ s. adds-max s (take 4 numbers) k)
+
+  pub root-sizes : v ≡ Root → c ≡ counted 1 0 (4 * k + 2) (4 * k + 5) → Counted numbers 2 k → Sizes v numbers c
+  unfolding wordOf isCount digitsOf
+  root-sizes q e h = digit-sizes Root 3 1 1 (4 * k + 2) (4 * k + 5) q e (omega arith) (λ j. refl) refl h (omega arith) (omega (arith, h .0)) (omega (arith, h .0))
+      (λ s. adds-root s (take 3 numbers) k)

@@ -43,8 +43,8 @@ use Rattle.reader.specs.Step.{Step, stops, Grows, stepOf, stepOption, st
 use Rattle.reader.specs.declared.state.Counts.{Counts}
 use Rattle.reader.specs.declared.state.Stepped.{Stepped}
 use Rattle.reader.specs.declared.state.Stepped.the-variants.{Refused}
-use Rattle.reader.proofs.Growth.{told-made, no-rule-broken}
-use Rattle.reader.proofs.Sizes.{length-groupRows}
+use Rattle.reader.proofs.Growth.{told-made}
+use Rattle.reader.proofs.Sizes.{length-groupRows, length-signRows, two-groups, four-groups, count-low}
 
 -- ---- the arguments of a line's reader
 
@@ -56,10 +56,6 @@ seen-state p c lows highs places is = record {
   known = ap (λ (q : Known). q .known) is;
   cells-are = ap (λ (q : Known). q .cells) is;
 }
-
--- a word that is followed by n numbers and no other count
-pub count-is : {v w : Word} (n m : ℕ) → v ≡ w → (isCount (wordOf w) m ≡ eqb m n) → isCount (wordOf v) m ≡ true → m ≡ n
-count-is {v} {w} n m q f e = eqb→eq m n (≡-test (eqb m n) (sym f ∙ ap (λ (u : Word). isCount (wordOf u) m) (sym q) ∙ e))
 
 pub fewer : {n m : ℕ} (zs : List ℤ) → m ≡ n → Small m zs → Small n zs
 fewer zs e h = λ i l. h i (omega (arith, e))
@@ -82,23 +78,6 @@ pub field-later : {v : Word} (s : Known) (ns : List ℤ) → v ≡ Field → sto
 unfolding stepOf rules rulesWithin firstBroken onSome isPlaced isField wordOf
 field-later s ns q = rw q refl
 
--- ---- digit counts
-
--- where the rules hold, the number at place i + 1 is a digit count
-module _ (p i : ℕ) (w : Meant) (ns : List ℤ) (is : digitsOf w ns ≡ digitsAt ns i) (ranged : T (isRanged p w ns)) where
-  given : T (all isDigits (digitsAt ns i))
-  unfolding isRanged
-  given = rw is at (left (all isDigits (digitsOf w ns)) (all (inRange p) (shiftsOf w ns))
-      (left (all isDigits (digitsOf w ns) && all (inRange p) (shiftsOf w ns)) (all (inRange p) (coefficientsOf w ns)) ranged))
-
-  pub count-low : pos 1 ≤ℤ numberAt ns (suc i)
-  unfolding all digitsAt isDigits
-  count-low = let g = given in record { le = search (left, right, g) }
-
-  pub count-high : numberAt ns (suc i) ≤ℤ pos 31
-  unfolding all digitsAt isDigits
-  count-high = let g = given in record { le = search (left, right, g) }
-
 -- ---- how many cells and rows
 
 module _ (s : Known) where
@@ -109,11 +88,6 @@ module _ (s : Known) where
   pub grows-sum : (ns : List ℤ) → Grows s (lineWith sum ns) 0 1 1
   unfolding gadget byWord sumLine after primeAfter
   grows-sum ns = record { narrowed-is = refl; inputs-are = refl; cells-are = refl; rows-are = refl; prime-is = refl }
-
-  length-signRows : (f : Form) (at b k : ℕ) (last : Form → Row) → length (signRows f at b k last) ≡ k + 5
-  unfolding signRows
-  length-signRows f at b k last =
-      length-append (group f (signShift b k) at b k) (_ ∷ _ ∷ _ ∷ _ ∷ []) ∙ rw (length-groupRows f (signShift b k) at b k) (omega arith)
 
   pub grows-relu : (ns : List ℤ) (r : ℕ) → sizeAt ns 2 ≡ r → Grows s (lineWith relu ns) 0 (r + 3) (r + 5)
   unfolding gadget byWord reluLine after primeAfter
@@ -135,10 +109,6 @@ module _ (s : Known) where
     prime-is = refl;
   }
 
-  two-groups : (f g : Form) (L : ℤ) (at at′ b k : ℕ) → suc (length (group f L at b k ++ group g L at′ b k)) ≡ 2 * k + 3
-  two-groups f g L at at′ b k = ap suc (length-append (group f L at b k) (group g L at′ b k))
-      ∙ omega (arith, length-groupRows f L at b k, length-groupRows g L at′ b k)
-
   pub grows-max : (ns : List ℤ) (r : ℕ) → sizeAt ns 3 ≡ r → Grows s (lineWith max ns) 0 (2 * r + 1) (2 * r + 3)
   unfolding gadget byWord maxLine after primeAfter
   grows-max ns r e = record {
@@ -148,24 +118,6 @@ module _ (s : Known) where
     rows-are = two-groups _ _ (pos 0) _ _ (sizeAt ns 2) (sizeAt ns 3) ∙ ap (λ (k : ℕ). 2 * k + 3) e;
     prime-is = refl;
   }
-
-  four-groups : (f g h l : Form) (L : ℤ) (a b c d base k : ℕ)
-      → suc (length (group f L a base k ++ group g L b base k ++ group h L c base k ++ group l L d base k)) ≡ 4 * k + 5
-  four-groups f g h l L a b c d base k =
-      let one = group f L a base k in
-      let two = group g L b base k in
-      let three = group h L c base k in
-      let four = group l L d base k in
-      omega (
-        arith,
-        length-append (one ++ two ++ three) four,
-        length-append (one ++ two) three,
-        length-append one two,
-        length-groupRows f L a base k,
-        length-groupRows g L b base k,
-        length-groupRows h L c base k,
-        length-groupRows l L d base k,
-      )
 
   pub grows-root : (ns : List ℤ) (r : ℕ) → sizeAt ns 2 ≡ r → Grows s (lineWith root ns) 0 (4 * r + 2) (4 * r + 5)
   unfolding gadget byWord rootLine after primeAfter
@@ -177,23 +129,6 @@ module _ (s : Known) where
     prime-is = refl;
   }
 
--- ---- the digit count that the code takes from the numbers
-
-module _ (s : Known) (w : Meant) (numbers : List ℤ) (n i r : ℕ) (inside : suc i < n)
-    (is : digitsOf w (take n numbers) ≡ digitsAt (take n numbers) i)
-    (told : pos 1 ≤ℤ getD numbers (suc i) (pos 0) → getD numbers (suc i) (pos 0) ≤ℤ pos 31 → r ≡ natAbs (getD numbers (suc i) (pos 0))) where
-  number-is : numberAt (take n numbers) (suc i) ≡ getD numbers (suc i) (pos 0)
-  unfolding numberAt
-  number-is = getD-take n numbers (suc i) (pos 0) inside
-
-  pub digits-counted : firstBroken rules 1 s (lineWith w (take n numbers)) ≡ none → sizeAt (take n numbers) (suc i) ≡ r
-  unfolding sizeAt
-  digits-counted kept =
-      let k = keeps-all 1 s (lineWith w (take n numbers)) kept in
-      let low = count-low (s .p) i w (take n numbers) is (k .ranged) in
-      let high = count-high (s .p) i w (take n numbers) is (k .ranged) in
-      ap natAbs number-is ∙ sym (told (rw number-is at low) (rw number-is at high))
-
 -- ---- a sum, whose count is odd; a span, which names a value
 
 pub sum-count : {v : Word} → v ≡ Sum → (m : ℕ) → isCount (wordOf v) m ≡ true → m % 2 ≡ 1
@@ -202,19 +137,18 @@ sum-count q m e =
     let counted : isCount sum m ≡ true = ap (λ (u : Word). isCount (wordOf u) m) (sym q) ∙ e in
     eqb→eq (m % 2) 1 (left (eqb (m % 2) 1) (leb m 33) (≡-test (isCount sum m) counted))
 
-pub span-kept : (s : Known) (ns : List ℤ) (es : List Ends) → makes es ≡ spanTold s (lineWith span ns) → firstBroken rules 1 s (lineWith span ns) ≡ none
+pub span-kept : (s : Known) (ns : List ℤ) (es : List Ends) → makes es ≡ spanTold s (lineWith span ns) → Keeps 1 s (lineWith span ns)
 unfolding spanTold
-span-kept s ns es e = told-made (firstBroken rules 1 s (lineWith span ns)) _ es e .0
+span-kept s ns es e = keeps-all 1 s (lineWith span ns) (told-made (firstBroken rules 1 s (lineWith span ns)) _ es e .0)
 
-pub name-counted : (s : Known) (numbers : List ℤ) (n r : ℕ) → 0 < n → (pos 0 ≤ℤ getD numbers 0 (pos 0) → r ≡ natAbs (getD numbers 0 (pos 0)))
-    → firstBroken rules 1 s (lineWith span (take n numbers)) ≡ none → sizeAt (take n numbers) 0 ≡ r
+pub name-counted : {m : ℕ} (s : Known) (numbers : List ℤ) (n r : ℕ) → 0 < n → (pos 0 ≤ℤ getD numbers 0 (pos 0) → r ≡ natAbs (getD numbers 0 (pos 0)))
+    → Keeps m s (lineWith span (take n numbers)) → sizeAt (take n numbers) 0 ≡ r
 unfolding sizeAt numberAt namesOf all isMade
 name-counted s numbers n r h told kept =
     let is : getD (take n numbers) 0 (pos 0) ≡ getD numbers 0 (pos 0) = getD-take n numbers 0 (pos 0) h in
-    let k = keeps-all 1 s (lineWith span (take n numbers)) kept in
     let m : ℕ = length (s .known) in
     let z : ℤ = getD (take n numbers) 0 (pos 0) in
-    let made : T (nonNeg z && ltb (natAbs z) m) = left (nonNeg z && ltb (natAbs z) m) true (k .names-made) in
+    let made : T (nonNeg z && ltb (natAbs z) m) = left (nonNeg z && ltb (natAbs z) m) true (kept .names-made) in
     ap natAbs is ∙ sym (told (rw is at (not-below z (left (nonNeg z) (ltb (natAbs z) m) made))))
   where
     not-below : (z : ℤ) → T (nonNeg z) → pos 0 ≤ℤ z
@@ -251,14 +185,14 @@ module _ (n : ℕ) (s : Known) where
       let h = size-positive (numberAt ns 2) (count-low (s .p) 1 span ns refl (k .ranged)) in
       (omega arith, at-most (length-groupRows _ _ _ _ (natAbs (numberAt ns 2))) (omega arith), length-set (s .known) (natAbs (numberAt ns 0)) _)
   few-by-word sum ns k = (omega arith, omega arith, refl)
-  few-by-word relu ns k = (omega arith, at-most (length-signRows s _ _ _ (natAbs (numberAt ns 2)) _) (omega arith), refl)
-  few-by-word which ns k = (omega arith, at-most (length-signRows s _ _ _ (natAbs (numberAt ns 3)) _) (omega arith), refl)
+  few-by-word relu ns k = (omega arith, at-most (length-signRows _ _ _ (natAbs (numberAt ns 2)) _) (omega arith), refl)
+  few-by-word which ns k = (omega arith, at-most (length-signRows _ _ _ (natAbs (numberAt ns 3)) _) (omega arith), refl)
   few-by-word max ns k =
       let h = size-positive (numberAt ns 3) (count-low (s .p) 2 max ns refl (k .ranged)) in
-      (omega arith, at-most (two-groups s _ _ (pos 0) _ _ _ (natAbs (numberAt ns 3))) (omega arith), refl)
+      (omega arith, at-most (two-groups _ _ (pos 0) _ _ _ (natAbs (numberAt ns 3))) (omega arith), refl)
   few-by-word root ns k =
       let h = size-positive (numberAt ns 2) (count-low (s .p) 1 root ns refl (k .ranged)) in
-      (omega arith, at-most (four-groups s _ _ _ _ (pos 0) _ _ _ _ _ (natAbs (numberAt ns 2))) (omega arith), refl)
+      (omega arith, at-most (four-groups _ _ _ _ (pos 0) _ _ _ _ _ (natAbs (numberAt ns 2))) (omega arith), refl)
 
 pub few : (n : ℕ) (s : Known) (l : Line) → Keeps n s l → Few s (gadget s l)
 unfolding gadget

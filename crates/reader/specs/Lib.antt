@@ -4,3 +4,4 @@ pub mod Step
 pub mod Read
 pub mod Rule
 pub mod Sum
+pub mod Size

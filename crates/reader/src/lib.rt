@@ -5,6 +5,7 @@ pub mod read;
 pub mod relu;
 pub mod root;
 pub mod rule;
+pub mod size;
 pub mod span;
 pub mod state;
 pub mod step;

@@ -4,6 +4,8 @@ use super::input::read_input;
 use super::max::read_max;
 use super::relu::read_relu;
 use super::root::read_root;
+use super::size::digit_count;
+use super::size::natural;
 use super::span::read_span;
 use super::state::Counts;
 use super::state::Stepped;
@@ -18,32 +20,12 @@ ghost use mathlib.Core.Path.{_≡_};
 ghost use mathlib.Core.Bool.{true};
 ghost use Prim.Native.Nat.{_≤_};
 ghost use lib.ListN.{length, take};
-ghost use lib.IntN.{pos, natAbs};
-ghost use lib.Signed.{_≤ℤ_};
 ghost use Rattle.meaning.specs.Line.{isCount};
 ghost use Rattle.meaning.specs.Known.{Known};
 ghost use Rattle.text.specs.Word.{wordOf};
 ghost use Rattle.reader.specs.State.{Small, Ready, stateOf};
 ghost use Rattle.reader.specs.Told.{lineWith};
 ghost use Rattle.reader.specs.Step.{Sized, valuesIn, stepSeen, stepOf, stepBytes};
-
-// A number that is not negative, as a count: 0 where it is negative.
-fn natural(z: i64) -> usize
-    ensures { λ r. ⌜ (pos 0 ≤ℤ z → r ≡ natAbs z) ⌝ }
-{
-    if z < 0 {
-        return 0;
-    }
-    z as usize
-}
-
-// A digit count that a line may have, and 31 in the place of a larger one.
-fn digit_count(k: i64) -> usize
-    ensures { λ r. ⌜ (r ≤ 31) × (pos 1 ≤ℤ k → k ≤ℤ pos 31 → r ≡ natAbs k) ⌝ }
-{
-    let count = natural(k);
-    if 31 < count { 31 } else { count }
-}
 
 // What a line with this word and these numbers does to what is known.
 pub fn step(

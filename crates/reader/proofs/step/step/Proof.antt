@@ -10,9 +10,10 @@ use Rattle.text.specs.declared.Word.the-variants.{Sum}
 use Rattle.reader.specs.Told.{lineWith}
 use Rattle.reader.specs.Step.{valuesIn, stepSeen}
 use Rattle.number.proofs.Word.{back}
-use Rattle.reader.proofs.Growth.{no-rule-broken}
-use Rattle.reader.proofs.Steps.{seen-state, number-fits, count-is, sum-count, fewer, at-word, field-later, digits-counted, span-kept, name-counted}
+use Rattle.reader.proofs.Growth.{rules-kept}
+use Rattle.reader.proofs.Steps.{seen-state, number-fits, sum-count, fewer, at-word, field-later, span-kept, name-counted}
 use Rattle.reader.proofs.Steps.{grows-input, grows-sum, grows-relu, grows-which, grows-max, grows-root}
+use Rattle.reader.proofs.Sizes.{count-is, digits-counted}
 use borrow.Author.Needs.{needs}
 use Rattle.reader.proofs.step.step.Statement.{statement}
 use Rattle.reader.proofs.step.step.Tie as tie
@@ -25,8 +26,8 @@ use Rattle.reader.proofs.root.read_root.Reads as read-root-reads
 use Rattle.reader.proofs.span.read_span.Reads as read-span-reads
 use Rattle.reader.proofs.state.grow.Reads as grow-reads
 use Rattle.reader.proofs.state.narrow.Reads as narrow-reads
-use Rattle.reader.proofs.step.digit_count.Reads as digit-count-reads
-use Rattle.reader.proofs.step.natural.Reads as natural-reads
+use Rattle.reader.proofs.size.digit_count.Reads as digit-count-reads
+use Rattle.reader.proofs.size.natural.Reads as natural-reads
 use Rattle.reader.proofs.sum.read_sum.Reads as read-sum-reads
 use Rattle.reader.proofs.which.read_which.Reads as read-which-reads
 
@@ -343,7 +344,7 @@ returns-5 c =
       λ s is. at-word s numbers _ word-is q (c .before .before .before .before .grow3 .ensures .0 (S .args .p) s (lineWith relu (take 3 numbers)) is
           (λ es e. grows-relu s (take 3 numbers) (c .before .before .before .before .before .before .before .before .before .before .before .digit-count2 .result)
           (digits-counted s relu numbers 3 1 (c .before .before .before .before .before .before .before .before .before .before .before .digit-count2 .result) (omega arith) refl (rw (back (number-fits numbers (S .pre .5) 2 (omega (arith, q)))) at (c .before .before .before .before .before .before .before .before .before .before .before .digit-count2 .ensures .1))
-          (no-rule-broken s (lineWith relu (take 3 numbers)) es e)))
+          (rules-kept s (lineWith relu (take 3 numbers)) es e)))
           (c .before .before .before .before .before .before .before .before .read-relu .ensures s (seen-state (S .args .p) (S .args .counts) (now (S .args .lows)) (now (S .args .highs)) (now (S .args .places)) is))),
       c .before .before .before .before .grow3 .ensures .1,
     )
@@ -371,7 +372,7 @@ returns-6 c =
       λ s is. at-word s numbers _ word-is q (c .before .before .before .before .grow4 .ensures .0 (S .args .p) s (lineWith which (take 4 numbers)) is
           (λ es e. grows-which s (take 4 numbers) (c .before .before .before .before .before .before .before .before .before .before .before .digit-count3 .result)
           (digits-counted s which numbers 4 2 (c .before .before .before .before .before .before .before .before .before .before .before .digit-count3 .result) (omega arith) refl (rw (back (number-fits numbers (S .pre .5) 3 (omega (arith, q)))) at (c .before .before .before .before .before .before .before .before .before .before .before .digit-count3 .ensures .1))
-          (no-rule-broken s (lineWith which (take 4 numbers)) es e)))
+          (rules-kept s (lineWith which (take 4 numbers)) es e)))
           (c .before .before .before .before .before .before .before .before .read-which .ensures s (seen-state (S .args .p) (S .args .counts) (now (S .args .lows)) (now (S .args .highs)) (now (S .args .places)) is))),
       c .before .before .before .before .grow4 .ensures .1,
     )
@@ -399,7 +400,7 @@ returns-7 c =
       λ s is. at-word s numbers _ word-is q (c .before .before .before .before .grow5 .ensures .0 (S .args .p) s (lineWith max (take 4 numbers)) is
           (λ es e. grows-max s (take 4 numbers) (c .before .before .before .before .before .before .before .before .before .before .before .digit-count4 .result)
           (digits-counted s max numbers 4 2 (c .before .before .before .before .before .before .before .before .before .before .before .digit-count4 .result) (omega arith) refl (rw (back (number-fits numbers (S .pre .5) 3 (omega (arith, q)))) at (c .before .before .before .before .before .before .before .before .before .before .before .digit-count4 .ensures .1))
-          (no-rule-broken s (lineWith max (take 4 numbers)) es e)))
+          (rules-kept s (lineWith max (take 4 numbers)) es e)))
           (c .before .before .before .before .before .before .before .before .read-max .ensures s (seen-state (S .args .p) (S .args .counts) (now (S .args .lows)) (now (S .args .highs)) (now (S .args .places)) is))),
       c .before .before .before .before .grow5 .ensures .1,
     )
@@ -427,7 +428,7 @@ returns-8 c =
       λ s is. at-word s numbers _ word-is q (c .before .before .before .before .grow6 .ensures .0 (S .args .p) s (lineWith root (take 3 numbers)) is
           (λ es e. grows-root s (take 3 numbers) (c .before .before .before .before .before .before .before .before .before .before .before .digit-count5 .result)
           (digits-counted s root numbers 3 1 (c .before .before .before .before .before .before .before .before .before .before .before .digit-count5 .result) (omega arith) refl (rw (back (number-fits numbers (S .pre .5) 2 (omega (arith, q)))) at (c .before .before .before .before .before .before .before .before .before .before .before .digit-count5 .ensures .1))
-          (no-rule-broken s (lineWith root (take 3 numbers)) es e)))
+          (rules-kept s (lineWith root (take 3 numbers)) es e)))
           (c .before .before .before .before .before .before .before .before .read-root .ensures s (seen-state (S .args .p) (S .args .counts) (now (S .args .lows)) (now (S .args .highs)) (now (S .args .places)) is))),
       c .before .before .before .before .grow6 .ensures .1,
     )

@@ -1,4 +1,4 @@
--- `reader::step::digit_count`: from 1 to 31 a number is its own size, which is not above 31.
+-- `reader::size::digit_count`: from 1 to 31 a number is its own size, which is not above 31.
 use native.Mathlib.Omega.{arith}
 use mir.Syntax.{w64}
 use mir.Val.{SFits}
@@ -6,20 +6,20 @@ use Rattle.number.proofs.Word.{back}
 use Rattle.algebra.proofs.Integer.Order.{natAbs-parts, negativePart-zero}
 use Rattle.algebra.proofs.Integer.Linear.{linear}
 use borrow.Author.Needs.{needs}
-use Rattle.reader.proofs.step.digit_count.Statement.{statement}
-use Rattle.reader.proofs.step.digit_count.Tie as tie
-use Rattle.reader.proofs.step.digit_count.Reads as reads
-use Rattle.reader.proofs.step.digit_count.Lts as lts
-use Rattle.reader.proofs.step.natural.Reads as natural-reads
+use Rattle.reader.proofs.size.digit_count.Statement.{statement}
+use Rattle.reader.proofs.size.digit_count.Tie as tie
+use Rattle.reader.proofs.size.digit_count.Reads as reads
+use Rattle.reader.proofs.size.digit_count.Lts as lts
+use Rattle.reader.proofs.size.natural.Reads as natural-reads
 
 fits : (c : tie.Start) → SFits w64 (c .args .k)
 fits c = search needs
 
--- src/step.rt:42:9
+-- src/size.rt:42:9
 natural-requires : tie.Need-natural-requires
 natural-requires c κs = search needs
 
--- src/step.rt:39:1
+-- src/size.rt:39:1
 returns : tie.Need-returns
 returns c = (
   omega arith,
@@ -29,7 +29,7 @@ returns c = (
       absurd (omega (linear, c .if1 .taken, is, natAbs-parts k, negativePart-zero k (omega linear))),
 )
 
--- src/step.rt:39:1
+-- src/size.rt:39:1
 returns-2 : tie.Need-returns-2
 returns-2 c = (omega (arith, c .if1 .left), λ l h. (rw (back (fits (c .before .before))) at (c .before .natural .ensures)) (omega linear))
 

@@ -1,30 +1,30 @@
--- `reader::step::natural`: a number that is not negative is its own size.
+-- `reader::size::natural`: a number that is not negative is its own size.
 use native.Mathlib.Omega.{arith}
 use mir.Syntax.{w64}
 use mir.Val.{SFits}
 use Rattle.algebra.proofs.Integer.Linear.{linear}
 use Rattle.number.proofs.Word.{back, negative, not-negative}
 use borrow.Author.Needs.{needs}
-use Rattle.reader.proofs.step.natural.Statement.{statement}
-use Rattle.reader.proofs.step.natural.Tie as tie
-use Rattle.reader.proofs.step.natural.Reads as reads
-use Rattle.reader.proofs.step.natural.Lts as lts
+use Rattle.reader.proofs.size.natural.Statement.{statement}
+use Rattle.reader.proofs.size.natural.Tie as tie
+use Rattle.reader.proofs.size.natural.Reads as reads
+use Rattle.reader.proofs.size.natural.Lts as lts
 
 fits : (c : tie.Start) → SFits w64 (c .args .z)
 fits c = search needs
 
--- src/step.rt:33:9
+-- src/size.rt:33:9
 returns : tie.Need-returns
 returns c = λ h. let n = negative (fits (c .before)) (c .if1 .taken) in absurd (omega (linear, n .0, n .1))
 
--- src/step.rt:35:5
+-- src/size.rt:35:5
 cast-result : tie.Need-cast-result
 cast-result c =
     let s = c .before in
     let is = not-negative (fits s) (c .if1 .left) in
     rw (back (fits s), is) (tt, record { fits = omega (arith, fits s .sfits) })
 
--- src/step.rt:29:1
+-- src/size.rt:29:1
 returns-2 : tie.Need-returns-2
 returns-2 c = search needs
 

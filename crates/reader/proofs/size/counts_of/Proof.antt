@@ -1,0 +1,15 @@
+-- `reader::size::counts_of`: the struct of these counts.
+use mathlib.Core.Path.{refl}
+use Rattle.reader.specs.Size.{counted}
+use Rattle.reader.proofs.size.counts_of.Statement.{statement}
+use Rattle.reader.proofs.size.counts_of.Tie as tie
+use Rattle.reader.proofs.size.counts_of.Reads as reads
+use Rattle.reader.proofs.size.counts_of.Lts as lts
+
+-- src/size.rt:36:1
+returns : tie.Need-returns
+unfolding counted
+returns c = refl
+
+pub counts-of-spec : {M : Type 1} → statement M
+counts-of-spec = tie.close (tie.spec returns)
