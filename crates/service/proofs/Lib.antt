@@ -1,0 +1,3 @@
+pub mod Listed
+pub mod Standing
+pub mod Shown

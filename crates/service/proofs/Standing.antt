@@ -1,0 +1,181 @@
+-- The laws of walking a list that was read once more: the first line, the line that is read at a place, the next, and the end.
+use mathlib.Core.Path.{_≡_, refl, sym, ap, _∙_, subst}
+use mathlib.Core.Bool.{Bool, true, false}
+use mathlib.Core.List.{List, [], _∷_, _++_, map}
+use mathlib.Core.Option.{Option, none, some, Option·some-injective, Option·none-ne-some}
+use Prim.Native.Nat.{ℕ, zero, suc, _+_, _-_, _*_, _≤_, _<_}
+use native.Mathlib.Omega.{arith}
+use native.Mathlib.Numerals.{add-one}
+use lib.Dec.{T, leb→le}
+use lib.IntN.{ℤ}
+use lib.ListN.{length, take, drop, length-append}
+use Rattle.meaning.specs.Text.{linesOf, isEnded}
+use Rattle.meaning.specs.Line.{Line, lineOf}
+use Rattle.meaning.specs.Line.{Word as Meant}
+use Rattle.meaning.specs.Known.{Known, fresh}
+use Rattle.meaning.specs.Meaning.{gadget, after}
+use Rattle.meaning.specs.Refusal.{valueLimit, cellLimit, isField, isPlaced, read, reading}
+use Rattle.meaning.proofs.Kept.{Kept, Keeps, keeps-all}
+use Rattle.meaning.proofs.Lines.{Sound, sound-fresh, sound-after}
+use Rattle.meaning.proofs.Induction.{prime-kept}
+use Rattle.meaning.proofs.Reading.{reads-exactly, read-kept}
+use Rattle.text.specs.Word.{wordOf}
+use Rattle.text.specs.Place.{Found, linesFrom}
+use Rattle.text.specs.Parsed.{LineRead}
+use Rattle.text.specs.declared.Word.{Word}
+use Rattle.text.specs.declared.Parsed.{Parsed}
+use Rattle.text.specs.declared.Parsed.the-variants.{NoLine}
+use Rattle.text.specs.declared.Parsed.the-variants.{Line as Spelt}
+use Rattle.text.proofs.Answers.{no-line-seen, line-seen, line-most, line-counted, line-small}
+use Rattle.text.proofs.Places.{lines-none, line-within, lines-next}
+use Rattle.reader.specs.State.{greatest, Small}
+use Rattle.reader.specs.Told.{lineWith}
+use Rattle.reader.specs.Size.{Adds}
+use Rattle.reader.specs.declared.state.Counts.{Counts}
+use Rattle.reader.proofs.Steps.{few}
+use Rattle.table.specs.Line.{KeptLine}
+use Rattle.service.specs.Walk.{Counted, Few, Stands}
+
+none-some : {l : Line} → _≡_ {A = Option Line} none (some l) → ⊥
+none-some e = Option·none-ne-some _ e
+
+-- ---- the lines that are left
+
+none-left : (left : List Line) → [] ≡ map some left → left ≡ []
+none-left [] e = refl
+none-left (l ∷ ls) e = let z : _≡_ {A = ℕ} 0 1 = cc in absurd (omega arith)
+
+-- the first line that is left, and those after it
+next-left : (line : List ℕ) (lines : List (List ℕ)) (left : List Line) → map lineOf (line ∷ lines) ≡ map some left
+    → (l : Line) × (rest : List Line) × (left ≡ l ∷ rest) × (lineOf line ≡ some l) × (map lineOf lines ≡ map some rest)
+next-left line lines [] e = let z : _≡_ {A = ℕ} 1 0 = cc in absurd (omega arith)
+next-left line lines (l ∷ ls) e = (l, ls, refl, cc, cc)
+
+-- ---- p
+
+-- a line that is not a field line comes after line 0
+later-line : (n : ℕ) (w : Meant) → isField w ≡ false → T (isPlaced n w) → 1 ≤ n
+unfolding isPlaced
+later-line zero w e t = absurd (subst T e t)
+later-line (suc n) w e t = omega arith
+
+-- from line 1 on, p is that of the list
+pub same-prime : (n : ℕ) (s last : Known) (left : List Line) → 1 ≤ n → Kept n s left last → s .p ≡ last .p
+same-prime zero s last left h k = absurd (omega arith)
+same-prime (suc n) s last left h k = prime-kept left n s last k
+
+-- ---- the counts after a line
+
+pub counted-after : (n : ℕ) (s : Known) (l : Line) (c d : Counts) → Keeps n s l → Counted s c → Adds s l d
+    → Counted (after s l) (record { values = c .values + d .values; inputs = c .inputs + d .inputs; cells = c .cells + d .cells; rows = c .rows + d .rows })
+unfolding after
+counted-after n s l c d keeps was adds =
+    let g = gadget s l in
+    record {
+      values-are = omega (arith, length-append (g .narrowed) (g .made), few n s l keeps .2, was .values-are, adds .values-are);
+      inputs-are = omega (arith, was .inputs-are, adds .inputs-are);
+      cells-are = omega (arith, was .cells-are, adds .cells-are);
+      rows-are = omega (arith, was .rows-are, adds .rows-are);
+    }
+
+-- ---- the first line
+
+pub stands-first : (list : List ℕ) (ls : List Line) (last : Known) → reading list ≡ read ls last → last .p ≤ greatest
+    → Stands list last fresh ls (record { values = 0; inputs = 0; cells = 0; rows = 0 }) 0 0
+unfolding fresh
+stands-first list ls last e h = record {
+  inside = omega arith;
+  numbered = omega arith;
+  spells = reads-exactly list .2 ls last e .0;
+  kept = read-kept list ls last e;
+  sound = sound-fresh;
+  p-most = h;
+  counted = record { values-are = refl; inputs-are = refl; cells-are = refl; rows-are = refl };
+  few = record { values-most = omega arith; inputs-most = omega arith; cells-most = omega arith; rows-most = omega arith };
+}
+
+module _ {list : List ℕ} {last s : Known} {left : List Line} {c : Counts} {at n : ℕ} (stands : Stands list last s left c at n) where
+  -- ---- the end
+
+  pub nothing-left : length list ≤ at → left ≡ []
+  nothing-left h = none-left left (sym (ap (map lineOf) (lines-none list at h)) ∙ stands .spells)
+
+  pub known-last : length list ≤ at → s ≡ last
+  known-last h = subst (λ (ls : List Line). Kept n s ls last) (nothing-left h) (stands .kept)
+
+  -- ---- a line that is read
+
+  module _ (ended : isEnded list ≡ true) {end : ℕ} (inside : at < length list) (found : Found 10 list at end) {before numbers : List ℤ} {r : Parsed}
+      (parsed : LineRead (take (end - at) (drop at list)) before numbers r) (long : length before ≡ 33) where
+    next : (l : Line) × (rest : List Line) × (left ≡ l ∷ rest) × (lineOf (take (end - at) (drop at list)) ≡ some l)
+        × (map lineOf (linesFrom list (end + 1)) ≡ map some rest)
+    next = next-left (take (end - at) (drop at list)) (linesFrom list (end + 1)) left
+        (sym (ap (map lineOf) (lines-next list ended inside found)) ∙ stands .spells)
+
+    -- the lines after it
+    pub rest : List Line
+    rest = next .1
+
+    -- the bytes spell a line, as the list was read
+    pub line-there : r ≡ NoLine → ⊥
+    line-there is = none-some (sym (no-line-seen parsed is) ∙ next .3)
+
+    module _ {word : Word} {count : ℕ} (is : r ≡ Spelt word count) where
+      abbrev line : Line
+      line = lineWith (wordOf word) (take count numbers)
+
+      pub left-is : left ≡ line ∷ rest
+      unfolding rest
+      left-is = next .2 ∙ ap (λ (l : Line). l ∷ rest) (Option·some-injective _ _ (sym (next .3) ∙ line-seen parsed is))
+
+      kept-here : Kept n s (line ∷ rest) last
+      kept-here = subst (λ (ls : List Line). Kept n s ls last) left-is (stands .kept)
+
+      pub keeps : Keeps n s line
+      keeps = keeps-all n s line (kept-here .0)
+
+      pub prime-here : isField (wordOf word) ≡ false → s .p ≡ last .p
+      prime-here plain = same-prime n s last left (later-line n (wordOf word) plain (keeps .placed)) (stands .kept)
+
+      pub numbers-small : Small count numbers
+      unfolding greatest
+      numbers-small = line-small parsed is
+
+      abbrev pub line-kept : KeptLine (wordOf word) numbers count
+      line-kept = record {
+        line = n;
+        state = s;
+        sound = stands .sound;
+        keeps = keeps;
+        p-most = λ plain. subst (λ (q : ℕ). q ≤ greatest) (sym (prime-here plain)) (stands .p-most);
+        numbers-long = parsed .kept ∙ long;
+        counted = line-counted parsed is long;
+        few = line-most parsed is;
+        small = numbers-small;
+      }
+
+      few-after : (d : Counts) → Counted (after s line) d → Few d
+      unfolding after valueLimit cellLimit
+      few-after d now-counted =
+          let g = gadget s line in
+          let f = few n s line keeps in
+          let was = stands .counted in
+          record {
+            values-most = omega (arith, now-counted .values-are, length-append (g .narrowed) (g .made), f .2, leb→le (length (s .known) + length (g .made)) 256 (keeps .values-fit));
+            inputs-most = omega (arith, now-counted .inputs-are, now-counted .values-are, length-append (g .narrowed) (g .made), f .0, f .2, was .inputs-are, was .values-are, stands .few .inputs-most);
+            cells-most = omega (arith, now-counted .cells-are, leb→le (s .cells + g .width) 4096 (keeps .cells-fit));
+            rows-most = omega (arith, now-counted .rows-are, now-counted .cells-are, f .1, was .rows-are, was .cells-are, stands .few .rows-most);
+          }
+
+      pub stands-next : (d : Counts) → Counted (after s line) d → Stands list last (after s line) rest d (end + 1) (n + 1)
+      unfolding rest
+      stands-next d now-counted = record {
+        inside = omega (arith, line-within list ended inside found);
+        numbered = omega (arith, stands .numbered, found .low);
+        spells = next .4;
+        kept = rw (add-one n) (kept-here .1);
+        sound = rw (add-one n) (sound-after n s line (stands .sound) keeps);
+        p-most = stands .p-most;
+        counted = now-counted;
+        few = few-after d now-counted;
+      }

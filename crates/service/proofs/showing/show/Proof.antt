@@ -1,0 +1,134 @@
+-- `service::showing::show`: the part of the table that `stretch_of` names, where the list is read and the length is right.
+use mathlib.Core.Path.{_≡_, sym, _∙_}
+use Prim.Native.Nat.{_≤_}
+use native.Mathlib.Omega.{arith}
+use lib.ListN.{length}
+use denote.Ref.{now}
+use Rattle.service.proofs.Listed.{Listed, survey-refused, survey-counted}
+use Rattle.service.proofs.Shown.{shown-refused, shown-wrong-length, shown-stretch}
+use borrow.Author.Needs.{needs}
+use Rattle.service.proofs.showing.show.Statement.{statement}
+use Rattle.service.proofs.showing.show.Tie as tie
+use Rattle.service.proofs.showing.show.Reads as reads
+use Rattle.service.proofs.showing.show.Lts as lts
+use Rattle.reader.proofs.read.survey.Reads as survey-reads
+use Rattle.service.proofs.showing.stretch_of.Reads as stretch-of-reads
+
+-- src/showing.rt:25:9
+survey-requires : tie.Need-survey-requires
+survey-requires c κs = search needs
+
+-- src/showing.rt:27:36
+enum-told : tie.Need-enum-told
+enum-told c = search needs
+
+-- src/showing.rt:27:36
+sub-result : tie.Need-sub-result
+sub-result c = search needs
+
+-- src/showing.rt:27:36
+part-result-start : tie.Need-part-result-start
+part-result-start c = search needs
+
+-- src/showing.rt:27:36
+part-result-end : tie.Need-part-result-end
+part-result-end c = search needs
+
+-- src/showing.rt:28:30
+enum-known-found : tie.Need-enum-known-found
+enum-known-found c = search needs
+
+-- src/showing.rt:31:24
+sub-result-2 : tie.Need-sub-result-2
+sub-result-2 c = search needs
+
+-- src/showing.rt:31:24
+part-result-start-2 : tie.Need-part-result-start-2
+part-result-start-2 c = search needs
+
+-- src/showing.rt:31:24
+part-result-end-2 : tie.Need-part-result-end-2
+part-result-end-2 c = search needs
+
+-- src/showing.rt:31:17
+returns : tie.Need-returns
+returns c =
+    let S = c .before .before .before .before .before .before .before .before in
+    let l = survey-counted (now (S .args .list)) _ (c .before .before .before .before .before .survey .ensures .0) (c .before .before .before .before .before .survey .ensures .1) _ _ (c .before .before .before .found .given .1) in
+    shown-wrong-length _ (now (S .args .table)) (S .args .line) (l .listed) (λ e. c .before .if1 .taken (e ∙ l .counts-are .cells-are))
+
+-- src/showing.rt:33:17
+stretch-of-requires : tie.Need-stretch-of-requires
+stretch-of-requires c κs =
+    survey-counted (now (c .before .before .before .before .before .before .before .args .list)) _ (c .before .before .before .before .survey .ensures .0) (c .before .before .before .before .survey .ensures .1) _ _ (c .before .before .found .given .1) .listed
+
+-- the part lies in the table
+inside : (c : tie.After-stretch-of) → (c .stretch-of .result .from ≤ c .stretch-of .result .to) × (c .stretch-of .result .to ≤ length (now (c .before .before .before .before .before .before .before .before .args .table)))
+inside c =
+    let l = survey-counted (now (c .before .before .before .before .before .before .before .before .args .list)) _ (c .before .before .before .before .before .survey .ensures .0) (c .before .before .before .before .before .survey .ensures .1) _ _ (c .before .before .before .found .given .1) in
+    let s = c .stretch-of .ensures (l .listed) in
+    (s .ordered, omega (arith, s .inside, l .counts-are .cells-are, c .before .if1 .left))
+
+-- src/showing.rt:36:13
+mul-result : tie.Need-mul-result
+mul-result c =
+    let ordered = inside c .0 in
+    let within = inside c .1 in
+    search (needs, ordered, within)
+
+-- src/showing.rt:36:13
+sub-result-3 : tie.Need-sub-result-3
+sub-result-3 c =
+    let ordered = inside c .0 in
+    let within = inside c .1 in
+    search (needs, ordered, within)
+
+-- src/showing.rt:36:13
+part-result-start-3 : tie.Need-part-result-start-3
+part-result-start-3 c =
+    let ordered = inside c .0 in
+    let within = inside c .1 in
+    search (needs, ordered, within)
+
+-- src/showing.rt:36:13
+part-result-end-3 : tie.Need-part-result-end-3
+part-result-end-3 c =
+    let ordered = inside c .0 in
+    let within = inside c .1 in
+    search (needs, ordered, within)
+
+-- src/showing.rt:22:1
+returns-2 : tie.Need-returns-2
+returns-2 c =
+    let S = c .before .before .before .before .before .before in
+    shown-refused (now (S .args .list)) (now (S .args .table)) (S .args .line) _ _
+    (survey-refused _ _ (c .before .before .before .survey .ensures .0) _ _ (c .before .enum-told .given .1))
+
+-- src/showing.rt:22:1
+returns-3 : tie.Need-returns-3
+returns-3 c =
+    let S = c .before .before .before .before .before .before .before .before .before in
+    let l = survey-counted (now (S .args .list)) _ (c .before .before .before .before .before .before .survey .ensures .0) (c .before .before .before .before .before .before .survey .ensures .1) _ _ (c .before .before .before .before .found .given .1) in
+    shown-stretch _ (now (S .args .table)) (S .args .line) (l .listed) (omega (arith, l .counts-are .cells-are, c .before .before .if1 .left)) _ (c .before .stretch-of .ensures (l .listed))
+
+pub show-spec : {M : Type 1} → statement M
+show-spec =
+    tie.close
+    (tie.spec
+    survey-requires
+    enum-told
+    sub-result
+    part-result-start
+    part-result-end
+    enum-known-found
+    sub-result-2
+    part-result-start-2
+    part-result-end-2
+    returns
+    stretch-of-requires
+    mul-result
+    sub-result-3
+    part-result-start-3
+    part-result-end-3
+    returns-2
+    returns-3)

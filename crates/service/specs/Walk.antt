@@ -1,0 +1,46 @@
+-- Walking a list that was read once more, line by line: what the counts are of, and what holds before a line.
+use mathlib.Core.Path.{_≡_}
+use mathlib.Core.List.{List, map}
+use mathlib.Core.Option.{some}
+use Prim.Native.Nat.{ℕ, _*_, _≤_}
+use lib.ListN.{length}
+use Rattle.meaning.specs.Line.{Line, lineOf}
+use Rattle.meaning.specs.Known.{Known}
+use Rattle.meaning.specs.Refusal.{read, reading}
+use Rattle.meaning.proofs.Kept.{Kept}
+use Rattle.meaning.proofs.Lines.{Sound}
+use Rattle.text.specs.Place.{linesFrom}
+use Rattle.reader.specs.State.{greatest}
+use Rattle.reader.specs.declared.state.Counts.{Counts}
+
+-- the counts are those of what is known
+pub record Counted (s : Known) (c : Counts) : Type 0 where
+  pub values-are : length (s .known) ≡ c .values
+  pub inputs-are : s .inputs ≡ c .inputs
+  pub cells-are : s .cells ≡ c .cells
+  pub rows-are : s .rows ≡ c .rows
+
+-- counts that no sum overflows
+pub record Few (c : Counts) : Type 0 where
+  pub values-most : c .values ≤ 256
+  pub inputs-most : c .inputs ≤ c .values
+  pub cells-most : c .cells ≤ 4096
+  pub rows-most : c .rows ≤ 2 * c .cells
+
+-- the list is read: its lines, and what is known at its end
+pub record ListRead (list : List ℕ) : Type 0 where
+  pub lines : List Line
+  pub last : Known
+  pub is-read : reading list ≡ read lines last
+  pub p-most : last .p ≤ greatest
+
+-- before line n, which starts at `at`: s is known, the lines in left are still to come, and last is known at the end of the list
+pub record Stands (list : List ℕ) (last s : Known) (left : List Line) (c : Counts) (at n : ℕ) : Type 0 where
+  pub inside : at ≤ length list
+  pub numbered : n ≤ at
+  pub spells : map lineOf (linesFrom list at) ≡ map some left
+  pub kept : Kept n s left last
+  pub sound : Sound n s
+  pub p-most : last .p ≤ greatest
+  pub counted : Counted s c
+  pub few : Few c

@@ -1,0 +1,7 @@
+// The public calls of the product: checking, making and showing, each promised by equations with the definitions of `meaning`.
+pub mod reply;
+pub mod showing;
+mod walk;
+
+pub use reply::Reply;
+pub use showing::show;

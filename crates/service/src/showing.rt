@@ -1,0 +1,72 @@
+// Showing a line: the part of the lent table that holds its cells.
+use super::walk::counts_after;
+use reader::read::Surveyed;
+use reader::read::survey;
+use reader::state::Counts;
+use text::Parsed;
+use text::line_end;
+use text::line_of;
+ghost use mathlib.Core.Path.{_≡_};
+ghost use Rattle.meaning.specs.Reply.{shown};
+ghost use Rattle.service.specs.Walk.{ListRead};
+ghost use Rattle.service.specs.Show.{IsStretch};
+
+// The cells from one up to another, which is not among them.
+struct Stretch {
+    pub from: usize,
+    pub to: usize,
+}
+
+// The public call: a part of the caller's slice, empty for the field line, for a line that is not there, for a refused list and for a
+// wrong table length.
+pub fn show<'a>(list: &[u8], table: &'a [u32], line: usize) -> &'a [u32]
+    ensures { λ r. ⌜ now r ≡ shown (now (list .entry)) (now (table .entry)) line ⌝ }
+{
+    let found = survey(list);
+    match found {
+        Surveyed::NotRead(_, _) => &table[0..0],
+        Surveyed::Counted(_, counts) => {
+            let cells = counts.cells;
+            if table.len() != cells {
+                return &table[0..0];
+            }
+            let stretch = stretch_of(list, line);
+            let from = stretch.from;
+            let to = stretch.to;
+            &table[from..to]
+        }
+    }
+}
+
+// Where the cells of a line stand in a table of the list's length.
+fn stretch_of(list: &[u8], line: usize) -> Stretch
+    requires { ⌜ ListRead (now list) ⌝ }
+    ensures { λ r. ⌜ ((l : ListRead (now (list .entry))) → IsStretch (now (list .entry)) line l r) ⌝ }
+{
+    let mut numbers: [i64; 33] = [0; 33];
+    let mut counts = Counts {
+        values: 0,
+        inputs: 0,
+        cells: 0,
+        rows: 0,
+    };
+    let mut at: usize = 0;
+    let mut n: usize = 0;
+    while at < list.len() {
+        let end = line_end(list, at);
+        let Parsed::Line(word, _) = line_of(&list[at..end], &mut numbers) else {
+            return Stretch { from: 0, to: 0 };
+        };
+        let next = counts_after(counts, word, &numbers);
+        if n == line {
+            return Stretch {
+                from: counts.cells,
+                to: next.cells,
+            };
+        }
+        counts = next;
+        at = end + 1;
+        n += 1;
+    }
+    Stretch { from: 0, to: 0 }
+}
