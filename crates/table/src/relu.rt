@@ -16,7 +16,7 @@ use number::residue::sum;
 use number::whole::larger;
 ghost use mathlib.Core.Path.{_≡_};
 ghost use mathlib.Core.Bool.{cond};
-ghost use mathlib.Core.List.{_∷_, _++_};
+ghost use mathlib.Core.List.{[], _∷_, _++_};
 ghost use mathlib.Core.Option.{some, none};
 ghost use Prim.Native.Nat.{ℕ, _+_, _^_, _≤_, _<_};
 ghost use lib.IntN.{pos};
@@ -42,7 +42,7 @@ pub fn relu_value(v: i64) -> i64
 
 pub fn relu_works(v: i64, b: u32, c: u64) -> Worked
     requires { ⌜ (0 < b) × (c ≤ 2 ^ 31) ⌝ }
-    ensures { λ r. ⌜ ((k : ℕ) → 1 ≤ k → c ≡ b ^ k → workedSeen r ≡ cond (signStatement b k v) (some (larger (pos 0) v)) none) ⌝ }
+    ensures { λ r. ⌜ ((k : ℕ) → 1 ≤ k → c ≡ b ^ k → workedSeen r ≡ cond (signStatement b k v) (some (larger (pos 0) v ∷ [])) none) ⌝ }
 {
     if sign_works(v, b, c) {
         Worked::Value(relu_value(v))

@@ -7,9 +7,10 @@ ghost use Prim.Native.Nat.{_<_};
 ghost use lib.ListN.{length, drop};
 ghost use Rattle.meaning.specs.Number.{remainder};
 
-// What working a line that makes a value answers: the value, or that the line's statement is false.
+// What working a line answers: the value that it makes, or that it makes none and its statement is true, or that its statement is false.
 pub enum Worked {
     Value(i64),
+    NoValue,
     False,
 }
 
