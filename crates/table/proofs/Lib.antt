@@ -3,6 +3,7 @@ pub mod CellsGroup
 pub mod CellsSign
 pub mod CellsRoot
 pub mod CellsLine
+pub mod LineWord
 pub mod WorksWhole
 pub mod WorksValue
 pub mod WorksAnswer
