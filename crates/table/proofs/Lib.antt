@@ -11,6 +11,8 @@ pub mod WorksSign
 pub mod WorksSum
 pub mod WorksSumFits
 pub mod LineNumbers
+pub mod LineValues
+pub mod WorksLine
 pub mod RowsFirst
 pub mod RowsForm
 pub mod RowsGroup
