@@ -3,12 +3,16 @@ pub mod CellsGroup
 pub mod CellsSign
 pub mod CellsRoot
 pub mod CellsLine
+pub mod LineWord
 pub mod WorksWhole
 pub mod WorksValue
 pub mod WorksAnswer
 pub mod WorksSign
 pub mod WorksSum
 pub mod WorksSumFits
+pub mod LineNumbers
+pub mod LineValues
+pub mod WorksLine
 pub mod RowsFirst
 pub mod RowsForm
 pub mod RowsGroup

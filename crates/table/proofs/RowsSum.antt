@@ -5,14 +5,11 @@ use mathlib.Core.List.{List, [], _∷_}
 use mathlib.Core.Option.{Option, none, some}
 use Prim.Native.Nat.{ℕ, suc, _+_, _%_, _≤_, _<_}
 use native.Mathlib.Omega.{arith}
-use lib.Dec.{T, eqb}
-use lib.IntN.{ℤ, pos, negsuc, natAbs, _+ℤ_, _*ℤ_}
-use lib.Signed.{_≤ℤ_, nonNeg}
+use lib.Dec.{eqb}
+use lib.IntN.{ℤ, pos, natAbs, _+ℤ_, _*ℤ_}
+use lib.Signed.{_≤ℤ_}
 use lib.ListN.{length, getD, take, drop}
 use lib.Seq.{drop-cons, drop-length, length-take-le, getD-take}
-use mir.Syntax.{w64}
-use mir.Val.{Fits, SFits}
-use Rattle.algebra.proofs.Integer.Order.{integer}
 use Rattle.meaning.specs.Number.{remainder}
 use Rattle.meaning.specs.Line.{numberAt, withoutFirst}
 use Rattle.meaning.specs.Known.{Known, placeOf}
@@ -112,8 +109,3 @@ pair-names ns count places cells i h l o =
       placed = omega (arith, v, h .placed);
       inside = h .inside _ v;
     }
-
--- in a machine word
-pub name-fits : (z : ℤ) → SFits w64 z → pos 0 ≤ℤ z → T (nonNeg z) × Fits w64 (natAbs z)
-name-fits (pos n) f h = (tt, record { fits = omega (arith, f .sfits) })
-name-fits (negsuc n) f h = absurd (omega integer)

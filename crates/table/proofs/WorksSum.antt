@@ -5,13 +5,13 @@ use mathlib.Core.Bool.{Bool}
 use mathlib.Core.List.{List, [], _∷_}
 use Prim.Native.Nat.{ℕ, suc, _+_, _-_, _^_, _≤_, _<_}
 use native.Mathlib.Omega.{arith}
-use lib.Dec.{T, ltb, ltb→lt}
-use lib.IntN.{ℤ, pos, negsuc, natAbs, _+ℤ_, _-ℤ_, _*ℤ_}
+use lib.Dec.{T}
+use lib.IntN.{ℤ, pos, natAbs, _+ℤ_, _-ℤ_, _*ℤ_}
 use lib.ListN.{length, getD, take, drop, length-drop}
 use lib.Seq.{getD-take, drop-cons, length-take-le}
-use lib.Signed.{_≤ℤ_, nonNeg}
+use lib.Signed.{_≤ℤ_}
 use Rattle.algebra.proofs.Test.{left, right}
-use Rattle.algebra.proofs.Integer.Order.{plus, integer}
+use Rattle.algebra.proofs.Integer.Order.{plus}
 use Rattle.algebra.proofs.Integer.Linear.{linear}
 use Rattle.meaning.specs.Line.{numberAt, withoutFirst, alternate, namesOf}
 use Rattle.meaning.specs.Refusal.{all, isMade}
@@ -20,6 +20,7 @@ use Rattle.meaning.specs.Gadget.Sum.{Term, termsOf, sumValue}
 use Rattle.number.specs.Bounded.{Bounded}
 use Rattle.number.proofs.Bounded.{bounded-difference}
 use Rattle.table.specs.Cells.{sumOf, SumSmall, SumAsked}
+use Rattle.table.proofs.LineNumbers.{made-is}
 
 -- x is the sum up to place i
 pub record Summing (numbers : List ℤ) (count : ℕ) (values : List ℤ) (n i : ℕ) (x : ℤ) : Type 0 where
@@ -44,14 +45,6 @@ without-first : (ns : List ℤ) → withoutFirst ns ≡ drop 1 ns
 unfolding withoutFirst
 without-first [] = refl
 without-first (n ∷ ns) = refl
-
-not-negative : (v : ℤ) → T (nonNeg v) → pos 0 ≤ℤ v
-not-negative (pos n) t = omega integer
-not-negative (negsuc n) t = absurd t
-
-made-is : (n : ℕ) (v : ℤ) → T (isMade n v) → (pos 0 ≤ℤ v) × (natAbs v < n)
-unfolding isMade
-made-is n v t = (not-negative v (left (nonNeg v) (ltb (natAbs v) n) t), ltb→lt (natAbs v) n (right (nonNeg v) (ltb (natAbs v) n) t))
 
 names-split : (n : ℕ) (v : ℤ) (rest : List ℤ) → T (all (isMade n) (alternate (v ∷ rest)))
     → T (isMade n v) × T (all (isMade n) (alternate (withoutFirst rest)))

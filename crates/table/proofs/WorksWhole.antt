@@ -1,11 +1,11 @@
 -- Whole numbers on the way to machine words: distances, and the casts and tests of what is known to be small.
 use mathlib.Core.Path.{_≡_, refl, ap, _∙_}
-use Prim.Native.Nat.{ℕ, _^_, _≤_}
+use Prim.Native.Nat.{ℕ, _^_, _≤_, _<_}
 use native.Mathlib.Omega.{arith}
 use lib.Dec.{T}
 use lib.IntN.{ℤ, pos, negsuc, negℤ, natAbs, _-ℤ_, +ℤ-idr}
 use lib.Signed.{_≤ℤ_, nonNeg}
-use mir.Syntax.{w64}
+use mir.Syntax.{w32, w64}
 use mir.Val.{Fits, SFits, toZ, ofZ}
 use Rattle.algebra.proofs.Integer.Order.{minus, natAbs-parts, positivePart-negation, negativePart-negation, integer}
 use Rattle.algebra.proofs.Integer.Linear.{linear}
@@ -17,6 +17,11 @@ use Rattle.number.proofs.Bounded.{bounded-difference, bounded-fits, difference-
 pub cast-fits : (z : ℤ) → SFits w64 z → pos 0 ≤ℤ z → T (nonNeg z) × Fits w64 (natAbs z)
 cast-fits (pos n) f h = (tt, record { fits = omega (arith, f .sfits) })
 cast-fits (negsuc n) f h = absurd (omega integer)
+
+-- and a small one into a u32
+pub cast-narrow : (z : ℤ) → pos 0 ≤ℤ z → natAbs z < 2 ^ 32 → T (nonNeg z) × Fits w32 (natAbs z)
+cast-narrow (pos n) h l = (tt, record { fits = l })
+cast-narrow (negsuc n) h l = absurd (omega integer)
 
 natAbs-negation : (z : ℤ) → natAbs (negℤ z) ≡ natAbs z
 natAbs-negation z = omega (arith, natAbs-parts z, natAbs-parts (negℤ z), positivePart-negation z, negativePart-negation z)

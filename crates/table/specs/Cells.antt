@@ -17,11 +17,12 @@ use Rattle.meaning.specs.Gadget.Root.{rootValue}
 use Rattle.meaning.specs.Gadget.Sum.{Term, termsOf, sumValue}
 use Rattle.number.specs.Bounded.{Bounded}
 use Rattle.table.specs.declared.value.Worked.{Worked}
-use Rattle.table.specs.declared.value.Worked.the-variants.{Value, False}
+use Rattle.table.specs.declared.value.Worked.the-variants.{Value, NoValue, False}
 
--- the value, where the line's statement is true
-unfoldable pub workedSeen : Worked → Option ℤ
-workedSeen (Value z) = some z
+-- the values that the line makes, where its statement is true
+unfoldable pub workedSeen : Worked → Option (List ℤ)
+workedSeen (Value z) = some (z ∷ [])
+workedSeen NoValue = some []
 workedSeen False = none
 
 -- the numbers of a digit group: the base, the count of its digits, and c = b ^ k

@@ -7,6 +7,8 @@ use super::rows::Rows;
 use super::rows::row_before;
 use super::rows::rows_before;
 use number::Residue;
+use number::power::Power;
+use number::power::capped_power;
 ghost use mathlib.Core.Path.{_≡_};
 ghost use mathlib.Core.List.{_++_};
 ghost use Prim.Native.Nat.{_+_, _^_, _≤_, _<_, ℕ};
@@ -19,6 +21,17 @@ ghost use Rattle.meaning.specs.Number.{remainder};
 ghost use Rattle.meaning.specs.Row.{Form, eval, holds, digitRows, placeValues, group};
 ghost use Rattle.meaning.specs.Reply.{firstFail};
 ghost use Rattle.table.specs.Rows.{rowsSeen, Leaves};
+
+// c = b ^ k.
+pub fn power_of(b: u32, k: usize) -> u64
+    requires { ⌜ (k ≤ 31) × (b ^ k ≤ 2 ^ 31) ⌝ }
+    ensures { λ r. ⌜ r ≡ b ^ k ⌝ }
+{
+    match capped_power(b as u64, k as u32, 2147483648) {
+        Power::Of(c) => c,
+        Power::AboveCap => 0,
+    }
+}
 
 // The digits of n, from the lowest on: each is what division by b leaves.
 pub fn group_cells(out: &mut [u32], n: u64, b: u32, k: usize)

@@ -17,7 +17,7 @@ use number::residue::product;
 use number::whole::larger;
 ghost use mathlib.Core.Path.{_≡_};
 ghost use mathlib.Core.Bool.{cond};
-ghost use mathlib.Core.List.{_++_};
+ghost use mathlib.Core.List.{[], _∷_, _++_};
 ghost use mathlib.Core.Option.{some, none};
 ghost use Prim.Native.Nat.{ℕ, suc, _*_, _^_, _≤_, _<_, _+_};
 ghost use lib.Dec.{ltb};
@@ -41,7 +41,7 @@ pub fn max_value(u: i64, v: i64) -> i64
 
 pub fn max_works(u: i64, v: i64, c: u64) -> Worked
     requires { ⌜ Bounded (2 ^ 30) u × Bounded (2 ^ 30) v ⌝ }
-    ensures { λ r. ⌜ ((b k : ℕ) → c ≡ b ^ k → workedSeen r ≡ cond (ltb (natAbs (u -ℤ v)) (b ^ k)) (some (larger u v)) none) ⌝ }
+    ensures { λ r. ⌜ ((b k : ℕ) → c ≡ b ^ k → workedSeen r ≡ cond (ltb (natAbs (u -ℤ v)) (b ^ k)) (some (larger u v ∷ [])) none) ⌝ }
 {
     if apart(u, v) < c {
         Worked::Value(max_value(u, v))

@@ -2,6 +2,9 @@
 // the sign over v.
 //
 // The rows of a relu line: those of its sign, and then f·v ≡ y.
+use super::group::power_of;
+use super::numbers::base_at;
+use super::numbers::size_at;
 use super::rows::Rows;
 use super::sign::sign_cells;
 use super::sign::sign_rows;
@@ -9,6 +12,7 @@ use super::sign::sign_works;
 use super::sign::top_part;
 use super::value::Worked;
 use super::value::value_cell;
+use super::value::value_named;
 use number::Residue;
 use number::Whole;
 use number::residue::product;
@@ -16,17 +20,19 @@ use number::residue::sum;
 use number::whole::larger;
 ghost use mathlib.Core.Path.{_≡_};
 ghost use mathlib.Core.Bool.{cond};
-ghost use mathlib.Core.List.{_∷_, _++_};
+ghost use mathlib.Core.List.{[], _∷_, _++_};
 ghost use mathlib.Core.Option.{some, none};
 ghost use Prim.Native.Nat.{ℕ, _+_, _^_, _≤_, _<_};
-ghost use lib.IntN.{pos};
+ghost use lib.IntN.{pos, ℤ};
 ghost use lib.ListN.{length, drop};
+ghost use Rattle.meaning.specs.Line.{relu};
 ghost use Rattle.meaning.specs.Number.{remainder};
 ghost use Rattle.meaning.specs.Known.{larger, Known, placeOf};
 ghost use Rattle.meaning.specs.Gadget.Sign.{signStatement, signCells};
 ghost use Rattle.meaning.proofs.Number.{OddPrime};
 ghost use Rattle.number.specs.Bounded.{Bounded};
 ghost use Rattle.table.specs.Cells.{workedSeen, GroupOf};
+ghost use Rattle.table.specs.LineValues.{ValuesAsked, WorkTold, CellsAsked, CellsTold};
 ghost use Rattle.algebra.specs.Digits.{Below};
 ghost use Rattle.meaning.specs.Row.{holds};
 ghost use Rattle.meaning.specs.Reply.{firstFail};
@@ -42,7 +48,7 @@ pub fn relu_value(v: i64) -> i64
 
 pub fn relu_works(v: i64, b: u32, c: u64) -> Worked
     requires { ⌜ (0 < b) × (c ≤ 2 ^ 31) ⌝ }
-    ensures { λ r. ⌜ ((k : ℕ) → 1 ≤ k → c ≡ b ^ k → workedSeen r ≡ cond (signStatement b k v) (some (larger (pos 0) v)) none) ⌝ }
+    ensures { λ r. ⌜ ((k : ℕ) → 1 ≤ k → c ≡ b ^ k → workedSeen r ≡ cond (signStatement b k v) (some (larger (pos 0) v ∷ [])) none) ⌝ }
 {
     if sign_works(v, b, c) {
         Worked::Value(relu_value(v))
@@ -57,6 +63,31 @@ pub fn relu_cells(out: &mut [u32], p: u32, v: i64, b: u32, k: usize, c: u64)
 {
     value_cell(out, p, relu_value(v));
     sign_cells(&mut out[1..], p, v, b, k, c);
+}
+
+// ---- the line
+
+pub fn relu_line_works(numbers: &[i64], values: &[i64]) -> Worked
+    requires { ⌜ ValuesAsked relu (now numbers) 3 (now values) ⌝ }
+    ensures { λ r. ⌜ ((next : ℤ) → WorkTold relu (now (numbers .entry)) 3 (now (values .entry)) next r) ⌝ }
+{
+    let v = value_named(numbers, 0, values);
+    let b = base_at(numbers, 1);
+    let k = size_at(numbers, 2);
+    let c = power_of(b, k);
+    relu_works(v, b, c)
+}
+
+pub fn relu_line_cells(numbers: &[i64], p: u32, values: &[i64], part: &mut [u32])
+    requires { ⌜ ((known : ℕ) × CellsAsked p relu (now numbers) 3 (now values) known (now part)) ⌝ }
+    ensures { λ _. ⌜ ((known : ℕ)
+        → CellsTold p relu (now (numbers .entry)) 3 (now (values .entry)) known (now (part .entry)) (now (part .exit))) ⌝ }
+{
+    let v = value_named(numbers, 0, values);
+    let b = base_at(numbers, 1);
+    let k = size_at(numbers, 2);
+    let c = power_of(b, k);
+    relu_cells(part, p, v, b, k, c);
 }
 
 // ---- rows

@@ -19,7 +19,7 @@ use number::root::square_root;
 use number::whole::within;
 ghost use mathlib.Core.Path.{_≡_};
 ghost use mathlib.Core.Bool.{cond};
-ghost use mathlib.Core.List.{_∷_, _++_};
+ghost use mathlib.Core.List.{[], _∷_, _++_};
 ghost use mathlib.Core.Option.{some, none};
 ghost use Prim.Native.Nat.{ℕ, _+_, _*_, _^_, _≤_, _<_};
 ghost use lib.IntN.{pos, _-ℤ_, _*ℤ_};
@@ -43,7 +43,7 @@ pub fn root_value(v: i64) -> i64
 
 pub fn root_works(v: i64, c: u64) -> Worked
     requires { ⌜ Bounded (2 ^ 30) v × (c ≤ 2 ^ 31) ⌝ }
-    ensures { λ r. ⌜ ((b k : ℕ) → c ≡ b ^ k → workedSeen r ≡ cond (between (pos 0) v (pos (b ^ k) -ℤ pos 1)) (some (rootValue v)) none) ⌝ }
+    ensures { λ r. ⌜ ((b k : ℕ) → c ≡ b ^ k → workedSeen r ≡ cond (between (pos 0) v (pos (b ^ k) -ℤ pos 1)) (some (rootValue v ∷ [])) none) ⌝ }
 {
     let top = c as i64 - 1;
     if within(Whole(0), Whole(v), Whole(top)) {

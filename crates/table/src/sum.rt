@@ -24,10 +24,11 @@ ghost use Rattle.meaning.specs.Reply.{firstFail};
 ghost use Rattle.meaning.specs.Gadget.Sum.{termsOf, sumLine};
 ghost use Rattle.table.specs.Rows.{rowsSeen, NamesBelow, PlacesInside};
 
-// The first count numbers are the line's, and the first n values are those before it.
-pub fn sum_works(numbers: &[i64], count: usize, values: &[i64], n: usize) -> i64
-    requires { ⌜ SumAsked (now numbers) count (now values) n ⌝ }
-    ensures { λ r. ⌜ r ≡ sumOf (take count (now (numbers .entry))) (take n (now (values .entry))) ⌝ }
+// The first count numbers are the line's, and the first n values, for some n, are those before it.
+pub fn sum_works(numbers: &[i64], count: usize, values: &[i64]) -> i64
+    requires { ⌜ ((n : ℕ) × SumAsked (now numbers) count (now values) n) ⌝ }
+    ensures { λ r. ⌜ ((n : ℕ) → SumAsked (now (numbers .entry)) count (now (values .entry)) n
+        → r ≡ sumOf (take count (now (numbers .entry))) (take n (now (values .entry)))) ⌝ }
 {
     let mut total = numbers[0];
     let mut i: usize = 1;

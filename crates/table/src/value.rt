@@ -1,16 +1,30 @@
-// The value that a line makes: what working the line answers, and the value's cell.
+// The values of a line: the one that a number of it names; what working the line answers; and the cell of the value that it makes.
+use super::numbers::size_at;
 use number::Whole;
 use number::residue::remainder_of;
 ghost use mathlib.Core.Path.{_≡_};
 ghost use mathlib.Core.List.{_∷_};
 ghost use Prim.Native.Nat.{_<_};
-ghost use lib.ListN.{length, drop};
+ghost use lib.IntN.{pos, natAbs};
+ghost use lib.ListN.{length, getD, drop};
+ghost use lib.Signed.{_≤ℤ_};
 ghost use Rattle.meaning.specs.Number.{remainder};
 
-// What working a line that makes a value answers: the value, or that the line's statement is false.
+// What working a line answers: the value that it makes, or that it makes none and its statement is true, or that its statement is false.
 pub enum Worked {
     Value(i64),
+    NoValue,
     False,
+}
+
+// The value that the number at a place names.
+pub fn value_named(numbers: &[i64], at: usize, values: &[i64]) -> i64
+    requires { ⌜ (at < length (now numbers)) × (pos 0 ≤ℤ getD (now numbers) at (pos 0))
+        × (natAbs (getD (now numbers) at (pos 0)) < length (now values)) ⌝ }
+    ensures { λ r. ⌜ r ≡ getD (now (values .entry)) (natAbs (getD (now (numbers .entry)) at (pos 0))) (pos 0) ⌝ }
+{
+    let name = size_at(numbers, at);
+    values[name]
 }
 
 // The cell of a whole number x: its remainder modulo p.

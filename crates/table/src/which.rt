@@ -14,7 +14,7 @@ use number::residue::difference;
 use number::residue::sum;
 ghost use mathlib.Core.Path.{_≡_};
 ghost use mathlib.Core.Bool.{cond};
-ghost use mathlib.Core.List.{_∷_, _++_};
+ghost use mathlib.Core.List.{[], _∷_, _++_};
 ghost use mathlib.Core.Option.{some, none};
 ghost use Prim.Native.Nat.{ℕ, _+_, _^_, _≤_, _<_};
 ghost use lib.IntN.{_-ℤ_};
@@ -39,7 +39,7 @@ pub fn which_value(u: i64, v: i64) -> i64
 
 pub fn which_works(u: i64, v: i64, b: u32, c: u64) -> Worked
     requires { ⌜ (0 < b) × (c ≤ 2 ^ 31) × Bounded (2 ^ 30) u × Bounded (2 ^ 30) v ⌝ }
-    ensures { λ r. ⌜ ((k : ℕ) → 1 ≤ k → c ≡ b ^ k → workedSeen r ≡ cond (signStatement b k (u -ℤ v)) (some (whichValue u v)) none) ⌝ }
+    ensures { λ r. ⌜ ((k : ℕ) → 1 ≤ k → c ≡ b ^ k → workedSeen r ≡ cond (signStatement b k (u -ℤ v)) (some (whichValue u v ∷ [])) none) ⌝ }
 {
     if sign_works(u - v, b, c) {
         Worked::Value(which_value(u, v))

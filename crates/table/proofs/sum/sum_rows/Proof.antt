@@ -12,7 +12,8 @@ use Rattle.algebra.proofs.Congruence.{remainder-below}
 use Rattle.number.proofs.Word.{back}
 use Rattle.table.specs.Rows.{rowsSeen}
 use Rattle.table.proofs.RowsForm.{leaves-cell}
-use Rattle.table.proofs.RowsSum.{SoFar, sum-start, sum-next, sum-end, Names, pair-names, name-fits}
+use Rattle.table.proofs.WorksWhole.{cast-fits}
+use Rattle.table.proofs.RowsSum.{SoFar, sum-start, sum-next, sum-end, Names, pair-names}
 use Rattle.table.proofs.sum.sum_rows.Statement.{statement}
 use Rattle.table.proofs.sum.sum_rows.Tie as tie
 
@@ -76,7 +77,7 @@ bits : (c : tie.After-value2 Inv-loop μ-loop) → let a = c .before .before .be
 bits c = search needs
 
 cast-value : tie.Need-cast-value Inv-loop μ-loop
-cast-value c = rw (back (bits c)) (name-fits _ (bits c) (names c .natural))
+cast-value c = rw (back (bits c)) (cast-fits _ (bits c) (names c .natural))
 
 mul-place : tie.Need-mul-place Inv-loop μ-loop
 mul-place c = rw (back (bits c)) (omega (arith, names c .placed))

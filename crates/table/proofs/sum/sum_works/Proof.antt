@@ -1,7 +1,7 @@
 -- `table::sum::sum_works`: before each term, `Summing` holds of the total, and `Turn` says that the term's value is made and that
 -- nothing overflows.
 use mathlib.Core.Path.{_≡_, refl}
-use Prim.Native.Nat.{_+_, _-_, _^_}
+use Prim.Native.Nat.{ℕ, _+_, _-_, _^_}
 use native.Mathlib.Omega.{arith}
 use lib.IntN.{pos, natAbs, _*ℤ_}
 use lib.ListN.{getD}
@@ -10,16 +10,18 @@ use mir.Val.{SFits, toZ, ofZ}
 use borrow.Author.Needs.{needs}
 use Rattle.number.proofs.Word.{back}
 use Rattle.number.proofs.Bounded.{bounded-fits}
+use Rattle.table.specs.Cells.{SumAsked}
 use Rattle.table.proofs.WorksWhole.{cast-fits}
 use Rattle.table.proofs.WorksSum.{Summing, Turn, term, summing-start, summing-turn, summing-end}
 use Rattle.table.proofs.sum.sum_works.Statement.{statement}
 use Rattle.table.proofs.sum.sum_works.Tie as tie
 
 abbrev Inv-loop : tie.InvT-loop
-Inv-loop numbers count values n total₀ i₀ total i = Summing numbers count values n i (toZ w64 total)
+Inv-loop numbers count values total₀ i₀ total i =
+    (n : ℕ) → SumAsked numbers count values n → Summing numbers count values n i (toZ w64 total)
 
 abbrev μ-loop : tie.MeasureT-loop
-μ-loop numbers count values n total₀ i₀ total i = count - i
+μ-loop numbers count values total₀ i₀ total i = count - i
 
 shared-slice-copy-out-total : tie.Need-shared-slice-copy-out-total Inv-loop μ-loop
 shared-slice-copy-out-total c = search needs
@@ -28,7 +30,7 @@ loop-holds : tie.Need-loop-holds Inv-loop μ-loop
 loop-holds c =
     let s = c .before in
     let f : SFits w64 (getD (s .args .numbers .now) 0 (pos 0)) = search needs in
-    rw (back f) (summing-start _ _ _ _ (s .pre))
+    λ n asked. rw (back f) (summing-start _ _ _ n asked)
 
 sub-loop : tie.Need-sub-loop Inv-loop μ-loop
 sub-loop c = search needs
@@ -45,8 +47,9 @@ shared-slice-copy-out-at c = search needs
 -- a turn, and what it reads
 turn : (c : tie.In-loop Inv-loop μ-loop)
     → let a = c .before .before .before .args in
-    Turn (a .numbers .now) (a .count) (a .values .now) (a .n) (c .before .loop .i) (toZ w64 (c .before .loop .total))
-turn c = summing-turn _ _ _ _ (c .before .before .before .pre) _ _ (c .before .loop .inv) (c .loop-test .taken)
+    (n : ℕ) → SumAsked (a .numbers .now) (a .count) (a .values .now) n
+    → Turn (a .numbers .now) (a .count) (a .values .now) n (c .before .loop .i) (toZ w64 (c .before .loop .total))
+turn c n asked = summing-turn _ _ _ n asked _ _ (c .before .loop .inv n asked) (c .loop-test .taken)
 
 name : (c : tie.After-at Inv-loop μ-loop)
     → let v = getD (c .before .before .before .before .args .numbers .now) (c .before .before .loop .i + 1) (pos 0) in
@@ -55,7 +58,8 @@ name c = search needs
 
 cast-at : tie.Need-cast-at Inv-loop μ-loop
 cast-at c =
-    let t = turn (c .before) in
+    let s = c .before .before .before .before in
+    let t = turn (c .before) (s .pre .0) (s .pre .1) in
     let v = getD (c .before .before .before .before .args .numbers .now) (c .before .before .loop .i + 1) (pos 0) in
     let f : SFits w64 v = search needs in
     rw (back f) (cast-fits _ f (t .size))
@@ -68,8 +72,9 @@ shared-slice-copy-out-total-2 c = search needs
 
 place : tie.Need-shared-slice-copy-out-total-3 Inv-loop μ-loop
 place c =
-    let t = turn (c .before .before) in
-    rw (name (c .before)) (omega (arith, t .made, c .before .before .before .before .before .pre .all-values))
+    let s = c .before .before .before .before .before in
+    let t = turn (c .before .before) (s .pre .0) (s .pre .1) in
+    rw (name (c .before)) (omega (arith, t .made, s .pre .1 .all-values))
 
 mul-total-2 : tie.Need-mul-total-2 Inv-loop μ-loop
 mul-total-2 c = let h = place c in search needs
@@ -81,7 +86,10 @@ shared-slice-copy-out-total-3 c = place c
 product-fits : (c : tie.After-total3 Inv-loop μ-loop)
     → let a = c .before .before .before .before .before .before .args in
     SFits w64 (term (a .numbers .now) (a .values .now) (c .before .before .before .before .loop .i))
-product-fits c = let t = turn (c .before .before .before) in bounded-fits (2 ^ 31) (t .product) tt
+product-fits c =
+    let s = c .before .before .before .before .before .before in
+    let t = turn (c .before .before .before) (s .pre .0) (s .pre .1) in
+    bounded-fits (2 ^ 31) (t .product) tt
 
 product : (c : tie.After-total3 Inv-loop μ-loop)
     → let a = c .before .before .before .before .before .before .args in
@@ -102,7 +110,8 @@ mul-total-3 c = rw (product c) (product-fits c)
 
 add-total : tie.Need-add-total Inv-loop μ-loop
 add-total c =
-    let t = turn (c .before .before .before) in
+    let s = c .before .before .before .before .before .before in
+    let t = turn (c .before .before .before) (s .pre .0) (s .pre .1) in
     rw (product c, back (product-fits c)) (bounded-fits (2 ^ 30) (t .total) tt)
 
 add-i : tie.Need-add-i Inv-loop μ-loop
@@ -112,12 +121,12 @@ loop-less : tie.Need-loop-less Inv-loop μ-loop
 loop-less c = search needs
 
 loop-again : tie.Need-loop-again Inv-loop μ-loop
-loop-again c =
-    let t = turn (c .before .before .before) in
+loop-again c n asked =
+    let t = turn (c .before .before .before) n asked in
     rw (product c, back (product-fits c), back (bounded-fits (2 ^ 30) (t .total) tt)) (t .next)
 
 returns : tie.Need-returns Inv-loop μ-loop
-returns c = summing-end _ _ _ _ (c .before .before .before .pre) _ _ (c .before .loop .inv) (c .loop-test .left)
+returns c n asked = summing-end _ _ _ n asked _ _ (c .before .loop .inv n asked) (c .loop-test .left)
 
 pub sum-works-spec : {M : Type 1} → statement M
 sum-works-spec =

@@ -1,0 +1,55 @@
+-- `table::relu::relu_line_works`: the line's numbers are what `relu_works` takes.
+use mathlib.Core.Path.{_∙_}
+use native.Mathlib.Omega.{arith}
+use mir.Syntax.{w64}
+use mir.Val.{SFits}
+use Rattle.number.proofs.Word.{back}
+use Rattle.table.specs.Cells.{GroupOf}
+use Rattle.table.proofs.LineValues.{name-asked, base-asked, count-asked, power-asked, group-read}
+use Rattle.table.proofs.WorksLine.{relu-name, relu-digits, relu-told}
+use borrow.Author.Needs.{needs}
+use Rattle.table.proofs.relu.relu_line_works.Statement.{statement}
+use Rattle.table.proofs.relu.relu_line_works.Tie as tie
+
+value-named-requires : tie.Need-value-named-requires
+value-named-requires c κs = name-asked (c .pre) (relu-name (c .pre .kept))
+
+base-at-requires : tie.Need-base-at-requires
+base-at-requires c κs = base-asked (relu-digits (c .before .pre .kept))
+
+size-at-requires : tie.Need-size-at-requires
+size-at-requires c κs = count-asked (relu-digits (c .before .before .pre .kept))
+
+power-of-requires : tie.Need-power-of-requires
+power-of-requires c κs =
+    power-asked (relu-digits (c .before .before .before .pre .kept)) (c .before .base-at .ensures) (c .size-at .ensures)
+
+group : (c : tie.After-power-of) → GroupOf (c .before .before .base-at .result) (c .before .size-at .result) (c .power-of .result)
+group c =
+    group-read (relu-digits (c .before .before .before .before .pre .kept)) (c .before .before .base-at .ensures)
+    (c .before .size-at .ensures) (c .power-of .ensures)
+
+relu-works-requires : tie.Need-relu-works-requires
+relu-works-requires c κs = let g = group c in (omega (arith, g .base), g .small)
+
+returns : tie.Need-returns
+returns c next =
+    let power = c .before in
+    let digits = power .before in
+    let base = digits .before in
+    let value = base .before in
+    let g = group power in
+    let f : SFits w64 (value .value-named .result) = search needs in
+    relu-told (back f ∙ value .value-named .ensures) (base .base-at .ensures) (digits .size-at .ensures) next _
+    (c .relu-works .ensures _ (g .some-digit) (g .power))
+
+pub relu-line-works-spec : {M : Type 1} → statement M
+relu-line-works-spec =
+    tie.close
+    (tie.spec
+    value-named-requires
+    base-at-requires
+    size-at-requires
+    power-of-requires
+    relu-works-requires
+    returns)

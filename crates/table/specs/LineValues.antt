@@ -1,0 +1,47 @@
+-- What working a line and writing its cells are asked with, and what is then told, by the line's gadget.
+use mathlib.Core.Path.{_≡_}
+use mathlib.Core.Bool.{false, cond}
+use mathlib.Core.List.{List, _++_}
+use mathlib.Core.Option.{none, some}
+use Prim.Native.Nat.{ℕ, _≤_}
+use lib.IntN.{ℤ}
+use lib.ListN.{length, take, drop}
+use Rattle.meaning.specs.Line.{Word}
+use Rattle.meaning.specs.Gadget.Interface.{Gadget}
+use Rattle.meaning.specs.Refusal.{isField}
+use Rattle.meaning.proofs.Law.{Within}
+use Rattle.table.specs.Line.{KeptLine, gadgetOf, knownCount}
+use Rattle.table.specs.Cells.{workedSeen}
+use Rattle.table.specs.declared.value.Worked.{Worked}
+
+-- ---- working
+
+-- values has the values before the line, each between its ends
+pub record ValuesAsked (w : Word) (numbers : List ℤ) (count : ℕ) (values : List ℤ) : Type 0 where
+  pub kept : KeptLine w numbers count
+  pub values-long : length values ≡ 256
+  pub within : Within (kept .state .known) (take (knownCount kept) values)
+
+-- the answer is the values that the line makes, where its statement is true
+abbrev pub WorkTold : (w : Word) (numbers : List ℤ) (count : ℕ) (values : List ℤ) (next : ℤ) → Worked → Type 0
+WorkTold w numbers count values next r =
+    (a : ValuesAsked w numbers count values)
+    → let before : List ℤ = take (knownCount (a .kept)) values in
+    workedSeen r ≡ cond (gadgetOf (a .kept) .statement before) (some (gadgetOf (a .kept) .values before next)) none
+
+-- ---- cells
+
+-- there are so many values before the line, and the part of the table that is lent has room for its cells
+pub record CellsAsked (p : ℕ) (w : Word) (numbers : List ℤ) (count : ℕ) (values : List ℤ) (known : ℕ) (part : List ℕ) : Type 0 where
+  pub asked : ValuesAsked w numbers count values
+  pub prime : isField w ≡ false → asked .kept .state .p ≡ p
+  pub known-are : knownCount (asked .kept) ≡ known
+  pub room : gadgetOf (asked .kept) .width ≤ length part
+
+-- where the values that the line makes stand in values from known on, the part begins with the line's cells, and the rest is as it was
+abbrev pub CellsTold : (p : ℕ) (w : Word) (numbers : List ℤ) (count : ℕ) (values : List ℤ) (known : ℕ) (part after : List ℕ) → Type 0
+CellsTold p w numbers count values known part after =
+    (a : CellsAsked p w numbers count values known part) (next : ℤ)
+    → let g : Gadget = gadgetOf (a .asked .kept) in
+    g .values (take known values) next ≡ take (length (g .made)) (drop known values)
+    → after ≡ g .cells (take known values) next ++ drop (g .width) part

@@ -1,0 +1,26 @@
+// The numbers of a line as machine words: the name of a value, a base, a digit count. The rules of reading say that these are not negative,
+// and how great they are.
+ghost use mathlib.Core.Path.{_≡_};
+ghost use Prim.Native.Nat.{_≤_, _<_};
+ghost use lib.IntN.{pos, natAbs};
+ghost use lib.ListN.{length, getD};
+ghost use lib.Signed.{_≤ℤ_};
+ghost use Rattle.reader.specs.State.{greatest};
+
+// The number at a place where a name or a digit count stands.
+pub fn size_at(numbers: &[i64], at: usize) -> usize
+    requires { ⌜ (at < length (now numbers)) × (pos 0 ≤ℤ getD (now numbers) at (pos 0)) ⌝ }
+    ensures { λ r. ⌜ r ≡ natAbs (getD (now (numbers .entry)) at (pos 0)) ⌝ }
+{
+    let number = numbers[at];
+    number as usize
+}
+
+// The number at a place where a base stands.
+pub fn base_at(numbers: &[i64], at: usize) -> u32
+    requires { ⌜ (at < length (now numbers)) × (pos 0 ≤ℤ getD (now numbers) at (pos 0)) × (natAbs (getD (now numbers) at (pos 0)) ≤ greatest) ⌝ }
+    ensures { λ r. ⌜ r ≡ natAbs (getD (now (numbers .entry)) at (pos 0)) ⌝ }
+{
+    let number = numbers[at];
+    number as u32
+}
