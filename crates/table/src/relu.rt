@@ -3,12 +3,14 @@
 //
 // The rows of a relu line: those of its sign, and then f·v ≡ y.
 use super::rows::Rows;
+use super::rows::residue_at;
 use super::sign::sign_cells;
 use super::sign::sign_rows;
 use super::sign::sign_works;
 use super::sign::top_part;
 use super::value::Worked;
 use super::value::value_cell;
+use number::Cell;
 use number::Residue;
 use number::Whole;
 use number::residue::product;
@@ -61,14 +63,15 @@ pub fn relu_cells(out: &mut [u32], p: u32, v: i64, b: u32, k: usize, c: u64)
 
 // ---- rows
 
-pub fn relu_rows(table: &[u32], p: u32, place: usize, at: usize, b: u32, k: usize) -> Rows
-    requires { ⌜ (1 < p) × Below p (now table) × (place < length (now table)) × (at + k + 3 ≤ length (now table)) × (0 < b) × (0 < k) ⌝ }
-    ensures { λ r. ⌜ ((s : Known) (v : ℕ) → s .p ≡ p → placeOf s v ≡ place → s .cells ≡ at
+pub fn relu_rows(table: &[u32], p: u32, place: Cell, at: Cell, b: u32, k: usize) -> Rows
+    requires { ⌜ (1 < p) × Below p (now table) × (place .0 < length (now table)) × (at .0 + k + 3 ≤ length (now table)) × (0 < b) × (0 < k) ⌝ }
+    ensures { λ r. ⌜ ((s : Known) (v : ℕ) → s .p ≡ p → placeOf s v ≡ place .0 → s .cells ≡ at .0
         → rowsSeen r ≡ firstFail (holds p (now (table .entry))) 0 (reluLine s v b k .rows)) ⌝ }
 {
-    let value = Residue(table[place]);
+    let value = residue_at(table, place);
     let number = sum(value, top_part(p, b, k), p);
-    let kept = product(Residue(table[at + 1 + k]), value, p);
-    let last = kept.0 == table[at];
-    sign_rows(table, p, number, last, at + 1, b, k)
+    let flag = residue_at(table, Cell(at.0 + 1 + k));
+    let kept = product(flag, value, p);
+    let made = residue_at(table, at);
+    sign_rows(table, p, number, kept.0 == made.0, Cell(at.0 + 1), b, k)
 }
