@@ -60,13 +60,13 @@ module _ (p : ℕ) (t : List ℕ) (ns : List ℤ) (count : ℕ) (places : List �
     same = rw (without-first (take count ns), getD-take count ns 0 (pos 0) l) refl;
   }
 
-  pub sum-next : {total factor part next place : ℕ} (i : ℕ) → 0 < p → count ≤ length ns → SoFar total i → i + 1 < count → i % 2 ≡ 1
+  pub sum-next : {total factor part next place found : ℕ} (i : ℕ) → 0 < p → count ≤ length ns → SoFar total i → i + 1 < count → i % 2 ≡ 1
       → factor ≡ remainder p (getD ns i (pos 0)) → place ≡ getD places (natAbs (getD ns (i + 1) (pos 0))) 0
-      → Leaves p t (getD t place 0) (cell place)
-      → (part < p) × (part ≡ remainder p (pos factor *ℤ pos (getD t place 0))) → (next < p) × (next ≡ remainder p (pos total +ℤ pos part))
+      → Leaves p t found (cell place)
+      → (part < p) × (part ≡ remainder p (pos factor *ℤ pos found)) → (next < p) × (next ≡ remainder p (pos total +ℤ pos part))
       → SoFar next (i + 2)
   unfolding sumForm placeOf
-  sum-next {total} {factor} {part} {next} {place} i h r before l o factor-is place-is cell-is part-is next-is s n known named =
+  sum-next {total} {factor} {part} {next} {place} {found} i h r before l o factor-is place-is cell-is part-is next-is s n known named =
       let b = before s n known named in
       let coefficient = getD ns i (pos 0) in
       let value = natAbs (getD ns (i + 1) (pos 0)) in
@@ -81,12 +81,12 @@ module _ (p : ℕ) (t : List ℕ) (ns : List ℤ) (count : ℕ) (places : List �
             (ap (λ (q : ℕ). sumForm s (b .form ⊕ constant coefficient ⊗ cell q) (termsOf (drop (i + 2) (take count ns)))) e);
       }
 
-  pub sum-end : {total : ℕ} {r : Option ℕ} (i at : ℕ) → count ≤ length ns → SoFar total i → i ≡ count → Leaves p t (getD t at 0) (cell at)
-      → r ≡ cond (eqb (getD t at 0) total) none (some 0)
+  pub sum-end : {total made : ℕ} {r : Option ℕ} (i at : ℕ) → count ≤ length ns → SoFar total i → i ≡ count → Leaves p t made (cell at)
+      → r ≡ cond (eqb made total) none (some 0)
       → (s : Known) (n : ℕ) → s .cells ≡ at → s .places ≡ take n places → NamesBelow n ns count
       → r ≡ firstFail (holds p t) 0 (sumLine s (numberAt (take count ns) 0) (termsOf (withoutFirst (take count ns))) .rows)
   unfolding sumLine sumForm
-  sum-end {total} i at l before e cell-is r-is s n cells-is known named =
+  sum-end {total} {made} i at l before e cell-is r-is s n cells-is known named =
       let b = before s n known named in
       let end = terms-end (take count ns) i (e ∙ sym (length-take-le count ns l)) in
       rw (b .same, end)

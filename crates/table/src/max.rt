@@ -6,10 +6,12 @@ use super::group::apart;
 use super::group::group_rows;
 use super::group::two_groups;
 use super::rows::Rows;
+use super::rows::residue_at;
 use super::rows::row_before;
 use super::rows::rows_before;
 use super::value::Worked;
 use super::value::value_cell;
+use number::Cell;
 use number::Residue;
 use number::Whole;
 use number::residue::difference;
@@ -64,21 +66,22 @@ pub fn max_cells(out: &mut [u32], p: u32, u: i64, v: i64, b: u32, k: usize)
 pub fn max_rows(
     table: &[u32],
     p: u32,
-    place_u: usize,
-    place_v: usize,
-    at: usize,
+    place_u: Cell,
+    place_v: Cell,
+    at: Cell,
     b: u32,
     k: usize,
 ) -> Rows
-    requires { ⌜ (0 < p) × Below p (now table) × («place_u» < length (now table)) × («place_v» < length (now table))
-        × (at + 1 + 2 * k ≤ length (now table)) ⌝ }
-    ensures { λ r. ⌜ ((s : Known) (u v : ℕ) → s .p ≡ p → placeOf s u ≡ «place_u» → placeOf s v ≡ «place_v» → s .cells ≡ at
+    requires { ⌜ (0 < p) × Below p (now table) × («place_u» .0 < length (now table)) × («place_v» .0 < length (now table))
+        × (at .0 + 1 + 2 * k ≤ length (now table)) ⌝ }
+    ensures { λ r. ⌜ ((s : Known) (u v : ℕ) → s .p ≡ p → placeOf s u ≡ «place_u» .0 → placeOf s v ≡ «place_v» .0 → s .cells ≡ at .0
         → rowsSeen r ≡ firstFail (holds p (now (table .entry))) 0 (maxLine s u v b k .rows)) ⌝ }
 {
-    let over_u = difference(Residue(table[at]), Residue(table[place_u]), p);
-    let over_v = difference(Residue(table[at]), Residue(table[place_v]), p);
+    let made = residue_at(table, at);
+    let over_u = difference(made, residue_at(table, place_u), p);
+    let over_v = difference(made, residue_at(table, place_v), p);
     let either = product(over_u, over_v, p);
-    let group_u = group_rows(table, p, over_u, 1, at + 1, b, k);
-    let group_v = group_rows(table, p, over_v, k + 2, at + 1 + k, b, k);
+    let group_u = group_rows(table, p, over_u, 1, Cell(at.0 + 1), b, k);
+    let group_v = group_rows(table, p, over_v, k + 2, Cell(at.0 + 1 + k), b, k);
     row_before(either.0 == 0, 0, rows_before(group_u, group_v))
 }

@@ -6,10 +6,12 @@ use super::group::apart;
 use super::group::group_rows;
 use super::group::two_groups;
 use super::rows::Rows;
+use super::rows::residue_at;
 use super::rows::row_before;
 use super::rows::rows_before;
 use super::value::Worked;
 use super::value::value_cell;
+use number::Cell;
 use number::Residue;
 use number::Whole;
 use number::residue::difference;
@@ -86,19 +88,19 @@ fn rest_cells(out: &mut [u32], v: i64, r: i64, b: u32, k: usize)
 
 // ---- rows
 
-pub fn root_rows(table: &[u32], p: u32, place: usize, at: usize, b: u32, k: usize) -> Rows
-    requires { ⌜ (2 < p) × Below p (now table) × (place < length (now table)) × (at + 2 + 4 * k ≤ length (now table)) ⌝ }
-    ensures { λ r. ⌜ ((s : Known) (v : ℕ) → s .p ≡ p → placeOf s v ≡ place → s .cells ≡ at
+pub fn root_rows(table: &[u32], p: u32, place: Cell, at: Cell, b: u32, k: usize) -> Rows
+    requires { ⌜ (2 < p) × Below p (now table) × (place .0 < length (now table)) × (at .0 + 2 + 4 * k ≤ length (now table)) ⌝ }
+    ensures { λ r. ⌜ ((s : Known) (v : ℕ) → s .p ≡ p → placeOf s v ≡ place .0 → s .cells ≡ at .0
         → rowsSeen r ≡ firstFail (holds p (now (table .entry))) 0 (rootLine s v b k .rows)) ⌝ }
 {
-    let value = Residue(table[place]);
-    let root = Residue(table[at]);
-    let square = Residue(table[at + 1]);
+    let value = residue_at(table, place);
+    let root = residue_at(table, at);
+    let square = residue_at(table, Cell(at.0 + 1));
     let squared = product(root, root, p);
     let over = difference(value, square, p);
     let twice = product(Residue(2), root, p);
     let under = difference(sum(square, twice, p), value, p);
-    let later = four_groups(table, p, value, root, over, under, at + 2, b, k);
+    let later = four_groups(table, p, value, root, over, under, Cell(at.0 + 2), b, k);
     row_before(squared.0 == square.0, 0, later)
 }
 
@@ -110,19 +112,19 @@ fn four_groups(
     root: Residue,
     over: Residue,
     under: Residue,
-    at: usize,
+    at: Cell,
     b: u32,
     k: usize,
 ) -> Rows
-    requires { ⌜ (0 < p) × (at + 4 * k ≤ length (now table)) ⌝ }
+    requires { ⌜ (0 < p) × (at .0 + 4 * k ≤ length (now table)) ⌝ }
     ensures { λ r. ⌜ ((A B C D : Form) → Leaves p (now (table .entry)) (value .0) A → Leaves p (now (table .entry)) (root .0) B
         → Leaves p (now (table .entry)) (over .0) C → Leaves p (now (table .entry)) (under .0) D
-        → rowsSeen r ≡ firstFail (holds p (now (table .entry))) 1 (fourGroups A B C D at b k)) ⌝ }
+        → rowsSeen r ≡ firstFail (holds p (now (table .entry))) 1 (fourGroups A B C D (at .0) b k)) ⌝ }
 {
     let first = group_rows(table, p, value, 1, at, b, k);
-    let second = group_rows(table, p, root, k + 2, at + k, b, k);
-    let third = group_rows(table, p, over, 2 * k + 3, at + 2 * k, b, k);
-    let fourth = group_rows(table, p, under, 3 * k + 4, at + 3 * k, b, k);
+    let second = group_rows(table, p, root, k + 2, Cell(at.0 + k), b, k);
+    let third = group_rows(table, p, over, 2 * k + 3, Cell(at.0 + 2 * k), b, k);
+    let fourth = group_rows(table, p, under, 3 * k + 4, Cell(at.0 + 3 * k), b, k);
     let last_two = rows_before(third, fourth);
     rows_before(first, rows_before(second, last_two))
 }

@@ -4,6 +4,8 @@
 use super::group::form_cells;
 use super::group::group_rows;
 use super::rows::Rows;
+use super::rows::residue_at;
+use number::Cell;
 use number::Residue;
 use number::Whole;
 use number::residue::difference;
@@ -41,20 +43,12 @@ pub fn span_cells(out: &mut [u32], v: i64, b: u32, k: usize, shift: i64)
 
 // ---- rows
 
-pub fn span_rows(
-    table: &[u32],
-    p: u32,
-    place: usize,
-    at: usize,
-    b: u32,
-    k: usize,
-    shift: i64,
-) -> Rows
-    requires { ⌜ (0 < p) × Below p (now table) × (place < length (now table)) × (at + k ≤ length (now table)) ⌝ }
-    ensures { λ r. ⌜ ((s : Known) (v : ℕ) → s .p ≡ p → placeOf s v ≡ place → s .cells ≡ at
+pub fn span_rows(table: &[u32], p: u32, place: Cell, at: Cell, b: u32, k: usize, shift: i64) -> Rows
+    requires { ⌜ (0 < p) × Below p (now table) × (place .0 < length (now table)) × (at .0 + k ≤ length (now table)) ⌝ }
+    ensures { λ r. ⌜ ((s : Known) (v : ℕ) → s .p ≡ p → placeOf s v ≡ place .0 → s .cells ≡ at .0
         → rowsSeen r ≡ firstFail (holds p (now (table .entry))) 0 (spanLine s v b k shift .rows)) ⌝ }
 {
     let lowest = remainder_of(Whole(shift), p);
-    let number = difference(Residue(table[place]), lowest, p);
+    let number = difference(residue_at(table, place), lowest, p);
     group_rows(table, p, number, 0, at, b, k)
 }

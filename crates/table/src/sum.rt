@@ -2,9 +2,12 @@
 //
 // The row of a sum line: its value is c0 + c1·v1 + .. modulo p. Its numbers are c0, c1, v1, c2, v2, .., the first `count` of `numbers`;
 // `places` has the cell of each value that a pair can name.
+use super::numbers::size_at;
 use super::rows::Rows;
+use super::rows::residue_at;
 use super::rows::row_before;
 use super::value::value_cell;
+use number::Cell;
 use number::Residue;
 use number::Whole;
 use number::residue::product;
@@ -52,14 +55,14 @@ pub fn sum_cells(out: &mut [u32], p: u32, x: i64)
 pub fn sum_rows(
     table: &[u32],
     p: u32,
-    at: usize,
+    at: Cell,
     numbers: &[i64],
     count: usize,
     places: &[usize],
 ) -> Rows
-    requires { ⌜ (0 < p) × Below p (now table) × (at < length (now table)) × (count % 2 ≡ 1) × (count ≤ length (now numbers))
+    requires { ⌜ (0 < p) × Below p (now table) × (at .0 < length (now table)) × (count % 2 ≡ 1) × (count ≤ length (now numbers))
         × PlacesInside (now numbers) count (now places) (length (now table)) ⌝ }
-    ensures { λ r. ⌜ ((s : Known) (n : ℕ) → s .p ≡ p → s .cells ≡ at → s .places ≡ take n (now (places .entry))
+    ensures { λ r. ⌜ ((s : Known) (n : ℕ) → s .p ≡ p → s .cells ≡ at .0 → s .places ≡ take n (now (places .entry))
         → NamesBelow n (now (numbers .entry)) count → rowsSeen r ≡ firstFail (holds p (now (table .entry))) 0
         (sumLine s (numberAt (take count (now (numbers .entry))) 0) (termsOf (withoutFirst (take count (now (numbers .entry))))) .rows)) ⌝ }
 {
@@ -67,11 +70,12 @@ pub fn sum_rows(
     let mut i: usize = 1;
     while i < count {
         let factor = remainder_of(Whole(numbers[i]), p);
-        let value = numbers[i + 1] as usize;
-        let place = places[value];
-        let part = product(factor, Residue(table[place]), p);
+        let value = size_at(numbers, i + 1);
+        let place = Cell(places[value]);
+        let part = product(factor, residue_at(table, place), p);
         total = sum(Residue(total), part, p).0;
         i += 2;
     }
-    row_before(table[at] == total, 0, Rows::AllHold)
+    let made = residue_at(table, at);
+    row_before(made.0 == total, 0, Rows::AllHold)
 }
