@@ -1,3 +1,6 @@
 pub mod Listed
 pub mod Standing
+pub mod Places
+pub mod Scan
 pub mod Shown
+pub mod Checked

@@ -4,8 +4,9 @@ use mathlib.Core.Bool.{Bool, true, false, cond}
 use mathlib.Core.List.{List, []}
 use Prim.Native.Nat.{ℕ, _≤_}
 use native.Mathlib.Omega.{arith}
-use lib.Dec.{leb}
+use lib.Dec.{leb, leb→le}
 use lib.ListN.{length}
+use Rattle.algebra.proofs.Test.{≡-test}
 use Rattle.meaning.specs.Text.{linesOf, isEnded}
 use Rattle.meaning.specs.Line.{Line}
 use Rattle.meaning.specs.Known.{Known, fresh}
@@ -40,6 +41,19 @@ ended-by false ended r ls s e = absurd (subst IsRead (sym e) tt)
 pub read-ended : (list : List ℕ) (ls : List Line) (s : Known) → reading list ≡ read ls s → isEnded list ≡ true
 unfolding reading readingBy
 read-ended list ls s e = ended-by (leb (length list) textLimit) (isEnded list) (readFrom rules 0 fresh (linesOf list)) ls s e
+
+-- and not too long
+short-by : (n : ℕ) (ended : Bool) (r : Reading) (ls : List Line) (s : Known) → cond (leb n textLimit) (cond ended r (refused 2 0)) (refused 1 0) ≡ read ls s → n ≤ 65536
+unfolding textLimit
+short-by n ended r ls s e = by (leb n 65536) refl e
+  where
+    by : (t : Bool) → leb n 65536 ≡ t → cond t (cond ended r (refused 2 0)) (refused 1 0) ≡ read ls s → n ≤ 65536
+    by true q f = leb→le n 65536 (≡-test (leb n 65536) q)
+    by false q f = absurd (subst IsRead (sym f) tt)
+
+pub read-short : (list : List ℕ) (ls : List Line) (s : Known) → reading list ≡ read ls s → length list ≤ 65536
+unfolding reading readingBy
+read-short list ls s e = short-by (length list) (isEnded list) (readFrom rules 0 fresh (linesOf list)) ls s e
 
 -- ---- it is read in one way
 

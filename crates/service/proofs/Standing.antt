@@ -17,7 +17,7 @@ use Rattle.meaning.specs.Meaning.{gadget, after}
 use Rattle.meaning.specs.Refusal.{valueLimit, cellLimit, isField, isPlaced, read, reading}
 use Rattle.meaning.proofs.Kept.{Kept, Keeps, keeps-all}
 use Rattle.meaning.proofs.Lines.{Sound, sound-fresh, sound-after}
-use Rattle.meaning.proofs.Induction.{prime-kept}
+use Rattle.meaning.proofs.Induction.{prime-kept, cells-grow}
 use Rattle.meaning.proofs.Reading.{reads-exactly, read-kept}
 use Rattle.text.specs.Word.{wordOf}
 use Rattle.text.specs.Place.{Found, linesFrom}
@@ -131,6 +131,14 @@ module _ {list : List ℕ} {last s : Known} {left : List Line} {c : Counts} {at 
       kept-here : Kept n s (line ∷ rest) last
       kept-here = subst (λ (ls : List Line). Kept n s ls last) left-is (stands .kept)
 
+      pub kept-after : Kept (suc n) (after s line) rest last
+      kept-after = kept-here .1
+
+      -- the cells of the line are among those of the list
+      pub cells-inside : s .cells + gadget s line .width ≤ last .cells
+      unfolding after
+      cells-inside = cells-grow rest (suc n) (after s line) last kept-after
+
       pub keeps : Keeps n s line
       keeps = keeps-all n s line (kept-here .0)
 
@@ -173,7 +181,7 @@ module _ {list : List ℕ} {last s : Known} {left : List Line} {c : Counts} {at 
         inside = omega (arith, line-within list ended inside found);
         numbered = omega (arith, stands .numbered, found .low);
         spells = next .4;
-        kept = rw (add-one n) (kept-here .1);
+        kept = rw (add-one n) kept-after;
         sound = rw (add-one n) (sound-after n s line (stands .sound) keeps);
         p-most = stands .p-most;
         counted = now-counted;

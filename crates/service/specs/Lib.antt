@@ -1,3 +1,4 @@
 pub mod Walk
 pub mod Reply
 pub mod Show
+pub mod Check

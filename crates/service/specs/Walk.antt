@@ -1,9 +1,12 @@
 -- Walking a list that was read once more, line by line: what the counts are of, and what holds before a line.
 use mathlib.Core.Path.{_≡_}
+use mathlib.Core.Bool.{cond}
 use mathlib.Core.List.{List, map}
 use mathlib.Core.Option.{some}
 use Prim.Native.Nat.{ℕ, _*_, _≤_}
-use lib.ListN.{length}
+use lib.Dec.{ltb}
+use lib.ListN.{length, take, set}
+use Rattle.algebra.specs.Digits.{Below}
 use Rattle.meaning.specs.Line.{Line, lineOf}
 use Rattle.meaning.specs.Known.{Known}
 use Rattle.meaning.specs.Refusal.{read, reading}
@@ -44,3 +47,15 @@ pub record Stands (list : List ℕ) (last s : Known) (left : List Line) (c : Cou
   pub p-most : last .p ≤ greatest
   pub counted : Counted s c
   pub few : Few c
+
+-- ---- the cells of the values
+
+-- the cell of the value that a line makes, where it makes one, with the cells of those before it
+unfoldable pub withPlace : List ℕ → (before next : Counts) → List ℕ
+withPlace places c d = cond (ltb (c .values) (d .values)) (set places (c .values) (c .cells)) places
+
+-- the first places are the cells of the values that are known
+pub record Placed (s : Known) (places : List ℕ) : Type 0 where
+  pub long : length places ≡ 256
+  pub are : s .places ≡ take (length (s .known)) places
+  pub below : Below (s .cells) (s .places)

@@ -1,7 +1,10 @@
 // The public calls of the product: checking, making and showing, each promised by equations with the definitions of `meaning`.
+pub mod checking;
 pub mod reply;
 pub mod showing;
+mod stub;
 mod walk;
 
+pub use checking::check;
 pub use reply::Reply;
 pub use showing::show;

@@ -4,7 +4,7 @@ use reader::state::Counts;
 use text::Word;
 ghost use mathlib.Core.Path.{_≡_};
 ghost use mathlib.Core.Bool.{true};
-ghost use Prim.Native.Nat.{ℕ};
+ghost use Prim.Native.Nat.{ℕ, _+_, _≤_};
 ghost use lib.ListN.{length, take};
 ghost use Rattle.meaning.specs.Line.{isCount};
 ghost use Rattle.meaning.specs.Known.{Known};
@@ -12,14 +12,15 @@ ghost use Rattle.meaning.specs.Meaning.{after};
 ghost use Rattle.meaning.proofs.Kept.{Keeps};
 ghost use Rattle.text.specs.Word.{wordOf};
 ghost use Rattle.reader.specs.Told.{lineWith};
-ghost use Rattle.service.specs.Walk.{Counted, Few};
+ghost use Rattle.service.specs.Walk.{Counted, Few, withPlace};
 
 // The counts after a line.
 pub fn counts_after(counts: Counts, word: Word, numbers: &[i64]) -> Counts
     requires { ⌜ Few counts × (length (now numbers) ≡ 33) ⌝ }
-    ensures { λ r. ⌜ ((n count : ℕ) (s : Known) → isCount (wordOf word) count ≡ true
+    ensures told { λ r. ⌜ ((n count : ℕ) (s : Known) → isCount (wordOf word) count ≡ true
         → Keeps n s (lineWith (wordOf word) (take count (now (numbers .entry)))) → Counted s counts
         → Counted (after s (lineWith (wordOf word) (take count (now (numbers .entry))))) r) ⌝ }
+    ensures more { λ r. ⌜ (counts .values ≤ r .values) × (r .values ≤ counts .values + 1) ⌝ }
 {
     let size = line_size(word, numbers);
     Counts {
@@ -27,5 +28,16 @@ pub fn counts_after(counts: Counts, word: Word, numbers: &[i64]) -> Counts
         inputs: counts.inputs + size.inputs,
         cells: counts.cells + size.cells,
         rows: counts.rows + size.rows,
+    }
+}
+
+// Takes in the cell of the value that a line makes, where it makes one: it is the first cell of the line.
+pub fn take_place(places: &mut [usize], counts: Counts, next: Counts)
+    requires { ⌜ (length (now places) ≡ 256) × (counts .values ≤ 256) × (next .values ≤ 256) ⌝ }
+    ensures { λ _. ⌜ now (places .exit) ≡ withPlace (now (places .entry)) counts next ⌝ }
+{
+    let at = counts.values;
+    if at < next.values {
+        places[at] = counts.cells;
     }
 }

@@ -90,7 +90,7 @@ returns-2 c =
     let parsed = c .before .before .before .before .before .before .before .line-of .ensures in
     let is = c .before .before .before .before .word .given .1 in
     let kept = keeps (w .stands) ended inside found parsed (w .numbers-long) is in
-    let counted = c .before .counts-after .ensures _ _ _ (line-counted parsed is (w .numbers-long)) kept (w .stands .counted) in
+    let counted = c .before .counts-after .ensures .0 _ _ _ (line-counted parsed is (w .numbers-long)) kept (w .stands .counted) in
     let next = stands-next (w .stands) ended inside found parsed (w .numbers-long) is _ counted in
     let left = left-is (w .stands) ended inside found parsed (w .numbers-long) is in
     showing-line w _ _ left next (c .if1 .taken)
@@ -117,7 +117,7 @@ loop-again c =
     let parsed = c .before .before .before .before .before .before .before .line-of .ensures in
     let is = c .before .before .before .before .word .given .1 in
     let kept = keeps (w .stands) ended inside found parsed (w .numbers-long) is in
-    let counted = c .before .counts-after .ensures _ _ _ (line-counted parsed is (w .numbers-long)) kept (w .stands .counted) in
+    let counted = c .before .counts-after .ensures .0 _ _ _ (line-counted parsed is (w .numbers-long)) kept (w .stands .counted) in
     let next = stands-next (w .stands) ended inside found parsed (w .numbers-long) is _ counted in
     let left = left-is (w .stands) ended inside found parsed (w .numbers-long) is in
     showing-next w _ _ left next _ (parsed .kept ∙ w .numbers-long) (c .if1 .left)

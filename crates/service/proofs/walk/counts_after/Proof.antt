@@ -1,4 +1,5 @@
 -- `service::walk::counts_after`: what is known before the line, and how much the line adds.
+use native.Mathlib.Omega.{arith}
 use Rattle.service.proofs.Standing.{counted-after}
 use borrow.Author.Needs.{needs}
 use Rattle.service.proofs.walk.counts_after.Statement.{statement}
@@ -7,31 +8,33 @@ use Rattle.service.proofs.walk.counts_after.Reads as reads
 use Rattle.service.proofs.walk.counts_after.Lts as lts
 use Rattle.reader.proofs.size.line_size.Reads as line-size-reads
 
--- src/walk.rt:24:9
+-- src/walk.rt:25:9
 line-size-requires : tie.Need-line-size-requires
 line-size-requires c κs = search needs
 
--- src/walk.rt:26:17
+-- src/walk.rt:27:17
 add-t5 : tie.Need-add-t5
 add-t5 c = search needs
 
--- src/walk.rt:27:17
+-- src/walk.rt:28:17
 add-t6 : tie.Need-add-t6
 add-t6 c = search needs
 
--- src/walk.rt:28:16
+-- src/walk.rt:29:16
 add-t7 : tie.Need-add-t7
 add-t7 c = search needs
 
--- src/walk.rt:29:15
+-- src/walk.rt:30:15
 add-t8 : tie.Need-add-t8
 add-t8 c = search needs
 
 -- src/walk.rt:18:1
 returns : tie.Need-returns
-returns c n count s counted keeps was =
-    let size = c .before .before .before .before .before .before .before .before .line-size in
-    counted-after n s _ _ _ keeps was (size .ensures .0 n count s counted keeps)
+returns c =
+    let size = c .before .before .before .before .before .before .before .before .line-size in (
+      λ n count s counted keeps was. counted-after n s _ _ _ keeps was (size .ensures .0 n count s counted keeps),
+      (omega arith, omega (arith, size .ensures .1 .0)),
+    )
 
 pub counts-after-spec : {M : Type 1} → statement M
 counts-after-spec = tie.close (tie.spec line-size-requires add-t5 add-t6 add-t7 add-t8 returns)

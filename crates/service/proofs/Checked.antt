@@ -1,0 +1,230 @@
+-- Checking a table: the replies by its length, its cells and its rows, and what holds before each line of the walk over the rows.
+use mathlib.Core.Path.{_≡_, refl, sym, ap, ap₂, _∙_, subst}
+use mathlib.Core.Bool.{Bool, true, false}
+use mathlib.Core.List.{List, [], _∷_, _++_}
+use mathlib.Core.Option.{Option, none, some, Option·some-injective}
+use Prim.Native.Nat.{ℕ, zero, suc, _+_, _-_, _*_, _^_, _≤_, _<_}
+use native.Mathlib.Omega.{arith}
+use borrow.Author.Tests.{eq-eqb, ne-eqb, lt-ltb, le-ltb}
+use lib.Dec.{T, ltb, leb→le}
+use lib.IntN.{ℤ}
+use lib.ListN.{length, getD, take, drop}
+use Rattle.algebra.specs.Digits.{Below}
+use Rattle.algebra.proofs.Test.{ltb-iff}
+use Rattle.meaning.specs.Text.{isEnded}
+use Rattle.meaning.specs.Line.{Line}
+use Rattle.meaning.specs.Known.{Known, fresh}
+use Rattle.meaning.specs.Row.{Row, among, holds}
+use Rattle.meaning.specs.Meaning.{gadget, after}
+use Rattle.meaning.specs.Refusal.{cellLimit, onSome, refused, onReading, reading}
+use Rattle.meaning.specs.Reply.{Reply, reply, firstFail, isCell, rowsFrom, rowsOf, checked, checkReply}
+use Rattle.meaning.proofs.Kept.{Keeps}
+use Rattle.meaning.proofs.Lists.{all-pass}
+use Rattle.text.specs.Word.{wordOf}
+use Rattle.text.specs.Place.{Found}
+use Rattle.text.specs.Parsed.{LineRead}
+use Rattle.text.specs.declared.Word.{Word}
+use Rattle.text.specs.declared.Parsed.{Parsed}
+use Rattle.text.specs.declared.Parsed.the-variants.{Line as Spelt}
+use Rattle.reader.specs.Told.{lineWith}
+use Rattle.reader.specs.declared.state.Counts.{Counts}
+use Rattle.reader.proofs.Steps.{few}
+use Rattle.table.specs.Rows.{rowsSeen, firstOf}
+use Rattle.table.specs.declared.rows.Rows.{Rows}
+use Rattle.table.specs.declared.rows.Rows.the-variants.{AllHold, Fails}
+use Rattle.table.specs.LineRows.{RowsAsked}
+use Rattle.table.proofs.RowsFirst.{first-append}
+use Rattle.service.specs.Walk.{Counted, Stands, Placed, ListRead}
+use Rattle.service.specs.Check.{cellsSeen, TableAsked, rowsReply}
+use Rattle.service.specs.declared.checking.Cells.{Cells}
+use Rattle.service.specs.declared.checking.Cells.the-variants.{AllBelow, Large}
+use Rattle.service.proofs.Listed.{same-lines, same-last}
+use Rattle.service.proofs.Standing.{stands-first, nothing-left, line-kept, prime-here, cells-inside}
+use Rattle.service.proofs.Places.{placed-first, place-inside}
+use Rattle.service.proofs.Scan.{first-from, none-from, found-inside}
+
+-- ---- the cells
+
+pub cell-large : (p x : ℕ) → p ≤ x → isCell p x ≡ false
+unfolding isCell
+cell-large p x h = le-ltb x p h
+
+pub cell-below : (p x : ℕ) → x < p → isCell p x ≡ true
+unfolding isCell
+cell-below p x h = lt-ltb x p h
+
+-- all cells are below p where none of p or more is found
+pub all-below : (p : ℕ) (t : List ℕ) → firstFail (isCell p) 0 t ≡ none → Below p t
+unfolding isCell
+all-below p t e = each t (λ i h. ltb-iff (getD t i 0) p .0 (passed i h))
+  where
+    passed : (i : ℕ) → i < length t → T (ltb (getD t i 0) p)
+    passed = all-pass (isCell p) 0 0 t .0 e
+
+    each : (xs : List ℕ) → ((i : ℕ) → i < length xs → getD xs i 0 < p) → Below p xs
+    each [] h = tt
+    each (x ∷ xs) h = (h 0 (omega arith), each xs (λ i k. h (suc i) (omega arith)))
+
+module _ (t : List ℕ) (p : ℕ) (x : Cells) (told : cellsSeen x ≡ firstFail (isCell p) 0 t) where
+  pub large-found : (i : ℕ) → x ≡ Large i → firstFail (isCell p) 0 t ≡ some i
+  unfolding cellsSeen
+  large-found i is = sym told ∙ ap cellsSeen is
+
+  pub none-large : x ≡ AllBelow → firstFail (isCell p) 0 t ≡ none
+  unfolding cellsSeen
+  none-large is = sym told ∙ ap cellsSeen is
+
+-- ---- the replies
+
+module _ (s : Known) (ls : List Line) (t : List ℕ) where
+  pub checked-wrong-length : (length t ≡ s .cells → ⊥) → reply 13 0 ≡ checked s ls t
+  unfolding checked
+  checked-wrong-length h = rw (ne-eqb (length t) (s .cells) h) refl
+
+  module _ (long : length t ≡ s .cells) where
+    pub checked-cell : (i : ℕ) → firstFail (isCell (s .p)) 0 t ≡ some i → reply 14 i ≡ checked s ls t
+    unfolding checked onSome
+    checked-cell i e = rw (eq-eqb (length t) (s .cells) long, e) refl
+
+    pub checked-rows : firstFail (isCell (s .p)) 0 t ≡ none → rowsReply s ls t ≡ checked s ls t
+    unfolding checked onSome rowsReply
+    checked-rows e = rw (eq-eqb (length t) (s .cells) long, e) refl
+
+module _ (list t : List ℕ) where
+  pub check-refused : (n i : ℕ) → reading list ≡ refused n i → reply n i ≡ checkReply list t
+  unfolding checkReply onReading
+  check-refused n i e = rw e refl
+
+  pub check-read : (l : ListRead list) → checked (l .last) (l .lines) t ≡ checkReply list t
+  unfolding checkReply onReading
+  check-read l = rw (l .is-read) refl
+
+-- ---- the walk over the rows
+
+pub record Checking (list table : List ℕ) (p : ℕ) (numbers : List ℤ) (places : List ℕ) (c : Counts) (at : ℕ) : Type 0 where
+  pub asked : TableAsked list table p
+  pub number : ℕ
+  pub state : Known
+  pub left : List Line
+  pub stands : Stands list (asked .listed .last) state left c at number
+  pub numbers-long : length numbers ≡ 33
+  pub placed : Placed state places
+  pub rows-left : firstFail (holds p table) 0 (rowsOf (asked .listed .lines)) ≡ firstFail (holds p table) (c .rows) (rowsFrom state left)
+
+pub checking-first : (list table : List ℕ) (p : ℕ) (numbers : List ℤ) (places : List ℕ) → length numbers ≡ 33 → length places ≡ 256 → TableAsked list table p
+    → Checking list table p numbers places (record { values = 0; inputs = 0; cells = 0; rows = 0 }) 0
+unfolding rowsOf
+checking-first list table p numbers places h k a = record {
+  asked = a;
+  number = 0;
+  state = fresh;
+  left = a .listed .lines;
+  stands = stands-first list (a .listed .lines) (a .listed .last) (a .listed .is-read) (a .listed .p-most);
+  numbers-long = h;
+  placed = placed-first places k;
+  rows-left = refl;
+}
+
+-- what the rows reply, by the first that fails
+abbrev replied : Option ℕ → Reply
+replied o = onSome o (reply 15) (reply 0 0)
+
+module _ {list table : List ℕ} {p : ℕ} {numbers : List ℤ} {places : List ℕ} {c : Counts} {at : ℕ} (w : Checking list table p numbers places c at) where
+  abbrev test : Row → Bool
+  test = holds p table
+
+  -- whatever is found in the rows is replied
+  found-replied : (o : Option ℕ) → firstFail test 0 (rowsOf (w .asked .listed .lines)) ≡ o → (m : ListRead list) → replied o ≡ rowsReply (m .last) (m .lines) table
+  unfolding rowsReply
+  found-replied o e m =
+      ap replied (sym e)
+      ∙ ap₂ (λ (q : ℕ) (ls : List Line). replied (firstFail (holds q table) 0 (rowsOf ls)))
+      (sym (w .asked .prime) ∙ ap (λ (z : Known). z .p) (same-last (w .asked .listed) m)) (same-lines (w .asked .listed) m)
+
+  pub checking-end : length list ≤ at → (m : ListRead list) → reply 0 0 ≡ rowsReply (m .last) (m .lines) table
+  unfolding rowsFrom firstFail onSome
+  checking-end h m = found-replied none (w .rows-left ∙ rw (nothing-left (w .stands) h) refl) m
+
+  module _ (l : Line) (rest : List Line) (left-is : w .left ≡ l ∷ rest) where
+    rows-here : firstFail test 0 (rowsOf (w .asked .listed .lines))
+        ≡ firstOf (firstFail test (c .rows) (gadget (w .state) l .rows)) (firstFail test (c .rows + length (gadget (w .state) l .rows)) (rowsFrom (after (w .state) l) rest))
+    unfolding rowsFrom
+    rows-here = w .rows-left ∙ rw left-is (first-append test (c .rows) (gadget (w .state) l .rows) (rowsFrom (after (w .state) l) rest))
+
+    module _ (r : Rows) (told : rowsSeen r ≡ firstFail test 0 (gadget (w .state) l .rows)) where
+      fails-at : (i : ℕ) → r ≡ Fails i → firstFail test 0 (gadget (w .state) l .rows) ≡ some i
+      unfolding rowsSeen
+      fails-at i is = sym told ∙ ap rowsSeen is
+
+      pub row-inside : (i : ℕ) → r ≡ Fails i → i < length (gadget (w .state) l .rows)
+      row-inside i is = found-inside test (among 0 0) (gadget (w .state) l .rows) i (fails-at i is)
+
+      pub checking-fails : (i : ℕ) → r ≡ Fails i → (m : ListRead list) → reply 15 (c .rows + i) ≡ rowsReply (m .last) (m .lines) table
+      unfolding firstOf onSome
+      checking-fails i is m =
+          found-replied (some (c .rows + i)) (rows-here ∙ rw (first-from test (among 0 0) (gadget (w .state) l .rows) (c .rows) i (fails-at i is)) refl) m
+
+      none-fails : r ≡ AllHold → firstFail test (c .rows) (gadget (w .state) l .rows) ≡ none
+      unfolding rowsSeen
+      none-fails is = none-from test (among 0 0) (gadget (w .state) l .rows) (c .rows) (sym told ∙ ap rowsSeen is)
+
+      pub checking-next : r ≡ AllHold → {next : Counts} {at′ : ℕ} (numbers′ : List ℤ) (places′ : List ℕ)
+          → Stands list (w .asked .listed .last) (after (w .state) l) rest next at′ (w .number + 1) → length numbers′ ≡ 33 → Placed (after (w .state) l) places′
+          → Checking list table p numbers′ places′ next at′
+      unfolding firstOf after
+      checking-next is {next} numbers′ places′ stands long placed = record {
+        asked = w .asked;
+        number = w .number + 1;
+        state = after (w .state) l;
+        left = rest;
+        stands = stands;
+        numbers-long = long;
+        placed = placed;
+        rows-left = rows-here ∙ rw (none-fails is) (ap (λ (i : ℕ). firstFail test i (rowsFrom (after (w .state) l) rest)) so-many);
+      }
+        where
+          so-many : c .rows + length (gadget (w .state) l .rows) ≡ next .rows
+          so-many = omega (arith, w .stands .counted .rows-are, stands .counted .rows-are)
+
+  -- the number of a row in the list is small
+  pub row-fits : (l : Line) → Keeps (w .number) (w .state) l → {i : ℕ} → i < length (gadget (w .state) l .rows) → c .rows + i < 2 ^ 64
+  unfolding cellLimit
+  row-fits l keeps h = omega (
+    arith,
+    few (w .number) (w .state) l keeps .1,
+    leb→le (w .state .cells + gadget (w .state) l .width) 4096 (keeps .cells-fit),
+    w .stands .few .rows-most,
+    w .stands .few .cells-most,
+  )
+
+  -- ---- what the rows of a line are asked with
+
+  module _ (ended : isEnded list ≡ true) {end : ℕ} (inside : at < length list) (found : Found 10 list at end) {numbers′ : List ℤ} {r : Parsed}
+      (parsed : LineRead (take (end - at) (drop at list)) numbers numbers′ r) {word : Word} {count : ℕ} (is : r ≡ Spelt word count) where
+    pub room-here : c .cells + gadget (w .state) (lineWith (wordOf word) (take count numbers′)) .width ≤ length table
+    room-here = omega (
+      arith,
+      cells-inside (w .stands) ended inside found parsed (w .numbers-long) is,
+      w .asked .long,
+      w .stands .counted .cells-are,
+    )
+
+    pub place-here : (v : ℕ) → v < length (w .state .known) → getD places v 0 < length table
+    place-here v h = omega (
+      arith,
+      place-inside (w .state) places (w .placed) v h (omega (arith, w .stands .counted .values-are, w .stands .few .values-most)),
+      w .stands .counted .cells-are,
+      room-here,
+    )
+
+    abbrev pub rows-asked : RowsAsked p (wordOf word) numbers′ count table (c .cells) places
+    rows-asked = record {
+      kept = line-kept (w .stands) ended inside found parsed (w .numbers-long) is;
+      prime = λ plain. prime-here (w .stands) ended inside found parsed (w .numbers-long) is plain ∙ w .asked .prime;
+      below = w .asked .below;
+      cells-are = w .stands .counted .cells-are;
+      room = room-here;
+      places-long = w .placed .long;
+      places-are = w .placed .are;
+      inside = place-here;
+    }

@@ -1,0 +1,30 @@
+-- `service::walk::take_place`: one place is written where the line makes a value, and none else.
+use Rattle.service.proofs.Places.{place-taken, place-not-taken}
+use borrow.Author.Needs.{needs}
+use Rattle.service.proofs.walk.take_place.Statement.{statement}
+use Rattle.service.proofs.walk.take_place.Tie as tie
+use Rattle.service.proofs.walk.take_place.Reads as reads
+use Rattle.service.proofs.walk.take_place.Lts as lts
+
+-- src/walk.rt:41:9
+mul-places : tie.Need-mul-places
+mul-places c = search needs
+
+-- src/walk.rt:41:9
+slice-write-places : tie.Need-slice-write-places
+slice-write-places c = search needs
+
+-- src/walk.rt:35:1
+same-length : tie.Need-same-length
+same-length c = search needs
+
+-- src/walk.rt:35:1
+returns : tie.Need-returns
+returns c = place-taken _ _ _ (c .if1 .taken)
+
+-- src/walk.rt:35:1
+returns-2 : tie.Need-returns-2
+returns-2 c = place-not-taken _ _ _ (c .if1 .left)
+
+pub take-place-spec : {M : Type 1} → statement M
+take-place-spec = tie.close (tie.spec mul-places slice-write-places same-length returns returns-2)

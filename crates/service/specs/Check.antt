@@ -1,0 +1,37 @@
+-- Checking a table against a list that was read: what its cells and its rows are asked with, and what they reply.
+use mathlib.Core.Path.{_≡_}
+use mathlib.Core.List.{List}
+use mathlib.Core.Option.{Option, none, some}
+use Prim.Native.Nat.{ℕ}
+use lib.ListN.{length}
+use Rattle.algebra.specs.Digits.{Below}
+use Rattle.meaning.specs.Line.{Line}
+use Rattle.meaning.specs.Known.{Known}
+use Rattle.meaning.specs.Row.{holds}
+use Rattle.meaning.specs.Refusal.{onSome}
+use Rattle.meaning.specs.Reply.{Reply, reply, firstFail, rowsOf}
+use Rattle.service.specs.Walk.{ListRead}
+use Rattle.service.specs.declared.checking.Cells.{Cells}
+use Rattle.service.specs.declared.checking.Cells.the-variants.{AllBelow, Large}
+
+-- the place of the first cell of p or more
+unfoldable pub cellsSeen : Cells → Option ℕ
+cellsSeen AllBelow = none
+cellsSeen (Large i) = some i
+
+-- a table of the list's length
+pub record LengthAsked (list : List ℕ) (p cells : ℕ) : Type 0 where
+  pub listed : ListRead list
+  pub prime : listed .last .p ≡ p
+  pub cells-are : listed .last .cells ≡ cells
+
+-- and with all cells below p
+pub record TableAsked (list table : List ℕ) (p : ℕ) : Type 0 where
+  pub listed : ListRead list
+  pub prime : listed .last .p ≡ p
+  pub long : listed .last .cells ≡ length table
+  pub below : Below p table
+
+-- what its rows then reply
+unfoldable pub rowsReply : Known → List Line → List ℕ → Reply
+rowsReply s ls t = onSome (firstFail (holds (s .p) t) 0 (rowsOf ls)) (reply 15) (reply 0 0)

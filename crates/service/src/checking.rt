@@ -1,0 +1,113 @@
+// Checking a table, whoever wrote it: its length, its cells, then its rows in order. Nothing is written.
+use super::reply::Reply;
+use super::stub::line_rows;
+use super::walk::counts_after;
+use super::walk::take_place;
+use number::Cell;
+use reader::read::Surveyed;
+use reader::read::survey;
+use reader::state::Counts;
+use table::Rows;
+use text::Parsed;
+use text::line_end;
+use text::line_of;
+ghost use mathlib.Core.Path.{_≡_};
+ghost use Rattle.meaning.specs.Reply.{isCell, firstFail, checked, checkReply};
+ghost use Rattle.service.specs.Reply.{replySeen};
+ghost use Rattle.service.specs.Walk.{ListRead};
+ghost use Rattle.service.specs.Check.{cellsSeen, LengthAsked, TableAsked, rowsReply};
+
+// The place of the first cell of p or more.
+enum Cells {
+    AllBelow,
+    Large(usize),
+}
+
+// The public call: for every list and table the reply of document 01.
+pub fn check(list: &[u8], table: &[u32]) -> Reply
+    ensures { λ r. ⌜ replySeen r ≡ checkReply (now (list .entry)) (now (table .entry)) ⌝ }
+{
+    let found = survey(list);
+    match found {
+        Surveyed::NotRead(number, place) => Reply {
+            number: number,
+            place: place,
+        },
+        Surveyed::Counted(p, counts) => check_table(list, table, p, counts.cells),
+    }
+}
+
+// A table for a list that is read, which has so many cells.
+fn check_table(list: &[u8], table: &[u32], p: u32, cells: usize) -> Reply
+    requires { ⌜ LengthAsked (now list) p cells ⌝ }
+    ensures { λ r. ⌜ ((l : ListRead (now (list .entry))) → replySeen r ≡ checked (l .last) (l .lines) (now (table .entry))) ⌝ }
+{
+    if table.len() != cells {
+        return Reply {
+            number: 13,
+            place: 0,
+        };
+    }
+    let found = first_large(table, p);
+    match found {
+        Cells::Large(i) => Reply {
+            number: 14,
+            place: i,
+        },
+        Cells::AllBelow => check_rows(list, table, p),
+    }
+}
+
+fn first_large(table: &[u32], p: u32) -> Cells
+    ensures { λ r. ⌜ cellsSeen r ≡ firstFail (isCell p) 0 (now (table .entry)) ⌝ }
+{
+    let mut i: usize = 0;
+    while i < table.len() {
+        if p <= table[i] {
+            return Cells::Large(i);
+        }
+        i += 1;
+    }
+    Cells::AllBelow
+}
+
+// The rows, counted over the whole list. The list was read, so each line is one.
+fn check_rows(list: &[u8], table: &[u32], p: u32) -> Reply
+    requires { ⌜ TableAsked (now list) (now table) p ⌝ }
+    ensures { λ r. ⌜ ((l : ListRead (now (list .entry))) → replySeen r ≡ rowsReply (l .last) (l .lines) (now (table .entry))) ⌝ }
+{
+    let mut numbers: [i64; 33] = [0; 33];
+    let mut places: [usize; 256] = [0; 256];
+    let mut counts = Counts {
+        values: 0,
+        inputs: 0,
+        cells: 0,
+        rows: 0,
+    };
+    let mut at: usize = 0;
+    while at < list.len() {
+        let end = line_end(list, at);
+        let Parsed::Line(word, count) = line_of(&list[at..end], &mut numbers) else {
+            return Reply {
+                number: 3,
+                place: 0,
+            };
+        };
+        let first = Cell(counts.cells);
+        let rows = line_rows(word, &numbers, count, table, p, first, &places);
+        if let Rows::Fails(row) = rows {
+            return Reply {
+                number: 15,
+                place: counts.rows + row,
+            };
+        }
+        let next = counts_after(counts, word, &numbers);
+        take_place(&mut places, counts, next);
+        counts = next;
+        at = end + 1;
+    }
+    Reply {
+        number: 0,
+        place: 0,
+    }
+}
