@@ -1,6 +1,5 @@
 -- `table::input::input_line_cells`: the value at known is the line's own.
 use mathlib.Core.Path.{refl}
-use native.Mathlib.Omega.{arith}
 use lib.IntN.{pos}
 use lib.ListN.{getD}
 use mir.Syntax.{w64}

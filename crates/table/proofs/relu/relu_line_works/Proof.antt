@@ -1,5 +1,5 @@
 -- `table::relu::relu_line_works`: the line's numbers are what `relu_works` takes.
-use mathlib.Core.Path.{_≡_, refl, _∙_}
+use mathlib.Core.Path.{_≡_, _∙_}
 use native.Mathlib.Omega.{arith}
 use mir.Syntax.{w64}
 use mir.Val.{SFits, toZ, ofZ}
