@@ -72,7 +72,7 @@ unfolding all
 second-named m i ns vs v t = first-named m i ns vs (right (isMade m v) (all (isMade m) (numberAt ns i ∷ vs)) t)
 
 -- the terms of a sum name made values: v1, v2, .. are every other number after c0 and c1
-terms-named : (s : Known) (ns : List ℤ) → T (all (isMade (length (s .known))) (alternate (withoutFirst ns))) → Named s (termsOf ns)
+pub terms-named : (s : Known) (ns : List ℤ) → T (all (isMade (length (s .known))) (alternate (withoutFirst ns))) → Named s (termsOf ns)
 unfolding termsOf alternate withoutFirst all
 terms-named s [] t = tt
 terms-named s (c ∷ []) t = tt

@@ -1,10 +1,11 @@
 -- What a line takes from the values before it and from its numbers, as working it and writing its cells read them: the value that a
 -- number names, and the base, the digit count and the power of a digit group.
-use mathlib.Core.Path.{_≡_, ap, _∙_}
+use mathlib.Core.Path.{_≡_, sym, ap, _∙_}
 use mathlib.Core.Bool.{false}
 use mathlib.Core.List.{List}
 use Prim.Native.Nat.{ℕ, suc, _^_, _≤_, _<_}
 use native.Mathlib.Omega.{arith}
+use native.Mathlib.Nat.{one-le-pow}
 use lib.IntN.{ℤ, pos, natAbs}
 use lib.ListN.{length, getD, take}
 use lib.Seq.{getD-take}
@@ -49,6 +50,10 @@ module _ {w : Word} {numbers : List ℤ} {count : ℕ} {values : List ℤ} (a : 
 
 -- ---- a digit group
 
+-- c = b ^ k is not 0
+pub power-positive : {b k c : ℕ} → GroupOf b k c → 0 < c
+power-positive {b} {k} {c} g = rw (g .power) (one-le-pow k b (omega (arith, g .base)))
+
 module _ {numbers : List ℤ} {i : ℕ} (d : DigitsFrom numbers i) where
   -- as `base_at` and `size_at` ask it
   pub base-asked : (i < length numbers) × (pos 0 ≤ℤ getD numbers i (pos 0)) × (size numbers i ≤ greatest)
@@ -70,3 +75,36 @@ module _ {numbers : List ℤ} {i : ℕ} (d : DigitsFrom numbers i) where
       power = e;
       small = rw e (power-asked .1);
     }
+
+-- ---- what the definitions read of a line, over the first n values
+
+-- of a line that names one value, before its base and digit count
+pub record OneRead (numbers values : List ℤ) (count n : ℕ) (v : ℤ) (b k : ℕ) : Type 0 where
+  pub value-read : valueAt (take n values) (sizeAt (take count numbers) 0) ≡ v
+  pub base-read : sizeAt (take count numbers) 1 ≡ b
+  pub digits-read : sizeAt (take count numbers) 2 ≡ k
+
+-- and of one that names two
+pub record TwoRead (numbers values : List ℤ) (count n : ℕ) (u v : ℤ) (b k : ℕ) : Type 0 where
+  pub first-read : valueAt (take n values) (sizeAt (take count numbers) 0) ≡ u
+  pub second-read : valueAt (take n values) (sizeAt (take count numbers) 1) ≡ v
+  pub base-read : sizeAt (take count numbers) 2 ≡ b
+  pub digits-read : sizeAt (take count numbers) 3 ≡ k
+
+module _ (numbers values : List ℤ) (count n : ℕ) {b k : ℕ} where
+  pub one-read : {v : ℤ} → 2 < count → size numbers 0 < n → v ≡ named numbers 0 values → b ≡ size numbers 1 → k ≡ size numbers 2
+      → OneRead numbers values count n v b k
+  one-read h l value base digits = record {
+    value-read = value-is numbers values count 0 n (omega arith) l ∙ sym value;
+    base-read = size-taken count numbers 1 (omega arith) ∙ sym base;
+    digits-read = size-taken count numbers 2 (omega arith) ∙ sym digits;
+  }
+
+  pub two-read : {u v : ℤ} → 3 < count → size numbers 0 < n → size numbers 1 < n → u ≡ named numbers 0 values → v ≡ named numbers 1 values
+      → b ≡ size numbers 2 → k ≡ size numbers 3 → TwoRead numbers values count n u v b k
+  two-read h l m first second base digits = record {
+    first-read = value-is numbers values count 0 n (omega arith) l ∙ sym first;
+    second-read = value-is numbers values count 1 n (omega arith) m ∙ sym second;
+    base-read = size-taken count numbers 2 (omega arith) ∙ sym base;
+    digits-read = size-taken count numbers 3 (omega arith) ∙ sym digits;
+  }

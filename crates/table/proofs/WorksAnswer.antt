@@ -1,21 +1,25 @@
--- The two answers of working a line that makes a value, by its statement; and what each answer tells of the statement.
+-- The answers of working a line, by its statement; and what each answer of a line that makes a value tells of the statement.
 use mathlib.Core.Path.{_≡_, refl}
 use mathlib.Core.Bool.{Bool, true, false, cond}
-use mathlib.Core.List.{[], _∷_}
+use mathlib.Core.List.{List, [], _∷_}
 use mathlib.Core.Option.{none, some}
 use Prim.Native.Nat.{ℕ}
 use native.Mathlib.Omega.{arith}
 use lib.IntN.{ℤ}
 use Rattle.table.specs.Cells.{workedSeen}
-use Rattle.table.specs.declared.value.Worked.the-variants.{Value, False}
+use Rattle.table.specs.declared.value.Worked.the-variants.{Value, NoValue, False}
 
 pub value-worked : (statement : Bool) (z value : ℤ) → statement ≡ true → z ≡ value → workedSeen (Value z) ≡ cond statement (some (value ∷ [])) none
 unfolding workedSeen
 value-worked statement z value t e = rw (t, e) refl
 
-pub false-worked : (statement : Bool) (value : ℤ) → statement ≡ false → workedSeen False ≡ cond statement (some (value ∷ [])) none
+pub no-value-worked : (statement : Bool) → statement ≡ true → workedSeen NoValue ≡ cond statement (some []) none
 unfolding workedSeen
-false-worked statement value f = rw f refl
+no-value-worked statement t = rw t refl
+
+pub false-worked : (statement : Bool) (values : List ℤ) → statement ≡ false → workedSeen False ≡ cond statement (some values) none
+unfolding workedSeen
+false-worked statement values f = rw f refl
 
 worked-by : (statement : Bool) (z value : ℤ) → some (z ∷ []) ≡ cond statement (some (value ∷ [])) none → (statement ≡ true) × (z ≡ value)
 worked-by true z value e = (refl, cc)

@@ -4,7 +4,10 @@
 // The rows of a max line: (y-u)·(y-v) ≡ 0, and then the groups over y-u and y-v.
 use super::group::apart;
 use super::group::group_rows;
+use super::group::power_of;
 use super::group::two_groups;
+use super::numbers::base_at;
+use super::numbers::size_at;
 use super::rows::Rows;
 use super::rows::residue_at;
 use super::rows::row_before;
@@ -12,6 +15,7 @@ use super::rows::rows_before;
 use super::value::Worked;
 use super::value::value_cell;
 use number::Cell;
+use super::value::value_named;
 use number::Residue;
 use number::Whole;
 use number::residue::difference;
@@ -23,11 +27,13 @@ ghost use mathlib.Core.List.{[], _∷_, _++_};
 ghost use mathlib.Core.Option.{some, none};
 ghost use Prim.Native.Nat.{ℕ, suc, _*_, _^_, _≤_, _<_, _+_};
 ghost use lib.Dec.{ltb};
-ghost use lib.IntN.{natAbs, _-ℤ_};
+ghost use lib.IntN.{natAbs, _-ℤ_, ℤ};
 ghost use lib.ListN.{length, drop};
+ghost use Rattle.meaning.specs.Line.{max};
 ghost use Rattle.meaning.specs.Known.{larger, Known, placeOf};
 ghost use Rattle.number.specs.Bounded.{Bounded};
 ghost use Rattle.table.specs.Cells.{workedSeen, maxCells};
+ghost use Rattle.table.specs.LineValues.{ValuesAsked, WorkTold, CellsAsked, CellsTold};
 ghost use Rattle.algebra.specs.Digits.{Below};
 ghost use Rattle.meaning.specs.Row.{holds};
 ghost use Rattle.meaning.specs.Reply.{firstFail};
@@ -59,6 +65,32 @@ pub fn max_cells(out: &mut [u32], p: u32, u: i64, v: i64, b: u32, k: usize)
     let y = max_value(u, v);
     value_cell(out, p, y);
     two_groups(&mut out[1..], y - u, y - v, b, k);
+}
+
+// ---- the line
+
+pub fn max_line_works(numbers: &[i64], values: &[i64]) -> Worked
+    requires { ⌜ ValuesAsked max (now numbers) 4 (now values) ⌝ }
+    ensures { λ r. ⌜ ((next : ℤ) → WorkTold max (now (numbers .entry)) 4 (now (values .entry)) next r) ⌝ }
+{
+    let u = value_named(numbers, 0, values);
+    let v = value_named(numbers, 1, values);
+    let b = base_at(numbers, 2);
+    let k = size_at(numbers, 3);
+    let c = power_of(b, k);
+    max_works(u, v, c)
+}
+
+pub fn max_line_cells(numbers: &[i64], p: u32, values: &[i64], part: &mut [u32])
+    requires { ⌜ ((known : ℕ) × CellsAsked p max (now numbers) 4 (now values) known (now part)) ⌝ }
+    ensures { λ _. ⌜ ((known : ℕ)
+        → CellsTold p max (now (numbers .entry)) 4 (now (values .entry)) known (now (part .entry)) (now (part .exit))) ⌝ }
+{
+    let u = value_named(numbers, 0, values);
+    let v = value_named(numbers, 1, values);
+    let b = base_at(numbers, 2);
+    let k = size_at(numbers, 3);
+    max_cells(part, p, u, v, b, k);
 }
 
 // ---- rows

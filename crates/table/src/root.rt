@@ -4,7 +4,10 @@
 // The rows of a root line: y·y ≡ q, and then the groups over v, y, v-q and q+2y-v.
 use super::group::apart;
 use super::group::group_rows;
+use super::group::power_of;
 use super::group::two_groups;
+use super::numbers::base_at;
+use super::numbers::size_at;
 use super::rows::Rows;
 use super::rows::residue_at;
 use super::rows::row_before;
@@ -12,6 +15,7 @@ use super::rows::rows_before;
 use super::value::Worked;
 use super::value::value_cell;
 use number::Cell;
+use super::value::value_named;
 use number::Residue;
 use number::Whole;
 use number::residue::difference;
@@ -24,12 +28,14 @@ ghost use mathlib.Core.Bool.{cond};
 ghost use mathlib.Core.List.{[], _∷_, _++_};
 ghost use mathlib.Core.Option.{some, none};
 ghost use Prim.Native.Nat.{ℕ, _+_, _*_, _^_, _≤_, _<_};
-ghost use lib.IntN.{pos, _-ℤ_, _*ℤ_};
+ghost use lib.IntN.{pos, _-ℤ_, _*ℤ_, ℤ};
 ghost use lib.ListN.{length, drop};
+ghost use Rattle.meaning.specs.Line.{root};
 ghost use Rattle.meaning.specs.Number.{between, remainder};
 ghost use Rattle.meaning.specs.Gadget.Root.{rootValue, rootLine};
 ghost use Rattle.number.specs.Bounded.{Bounded};
 ghost use Rattle.table.specs.Cells.{workedSeen, restCells, rootCells};
+ghost use Rattle.table.specs.LineValues.{ValuesAsked, WorkTold, CellsAsked, CellsTold};
 ghost use Rattle.algebra.specs.Digits.{Below};
 ghost use Rattle.meaning.specs.Known.{Known, placeOf};
 ghost use Rattle.meaning.specs.Row.{Form, holds};
@@ -84,6 +90,30 @@ fn rest_cells(out: &mut [u32], v: i64, r: i64, b: u32, k: usize)
     let above = v - q;
     let below = q + 2 * r - v;
     two_groups(out, above, below, b, k);
+}
+
+// ---- the line
+
+pub fn root_line_works(numbers: &[i64], values: &[i64]) -> Worked
+    requires { ⌜ ValuesAsked root (now numbers) 3 (now values) ⌝ }
+    ensures { λ r. ⌜ ((next : ℤ) → WorkTold root (now (numbers .entry)) 3 (now (values .entry)) next r) ⌝ }
+{
+    let v = value_named(numbers, 0, values);
+    let b = base_at(numbers, 1);
+    let k = size_at(numbers, 2);
+    let c = power_of(b, k);
+    root_works(v, c)
+}
+
+pub fn root_line_cells(numbers: &[i64], p: u32, values: &[i64], part: &mut [u32])
+    requires { ⌜ ((known : ℕ) × CellsAsked p root (now numbers) 3 (now values) known (now part)) ⌝ }
+    ensures { λ _. ⌜ ((known : ℕ)
+        → CellsTold p root (now (numbers .entry)) 3 (now (values .entry)) known (now (part .entry)) (now (part .exit))) ⌝ }
+{
+    let v = value_named(numbers, 0, values);
+    let b = base_at(numbers, 1);
+    let k = size_at(numbers, 2);
+    root_cells(part, p, v, b, k);
 }
 
 // ---- rows

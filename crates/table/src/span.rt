@@ -3,9 +3,14 @@
 // The rows of a span line: the digit group over the value, counted from the span's lowest number.
 use super::group::form_cells;
 use super::group::group_rows;
+use super::group::power_of;
+use super::numbers::base_at;
+use super::numbers::size_at;
 use super::rows::Rows;
 use super::rows::residue_at;
 use number::Cell;
+use super::value::Worked;
+use super::value::value_named;
 use number::Residue;
 use number::Whole;
 use number::residue::difference;
@@ -14,7 +19,9 @@ use number::whole::within;
 ghost use mathlib.Core.Path.{_≡_};
 ghost use mathlib.Core.List.{_++_};
 ghost use Prim.Native.Nat.{ℕ, _^_, _≤_, _<_, _+_};
+ghost use lib.IntN.{ℤ};
 ghost use lib.ListN.{length, drop};
+ghost use Rattle.meaning.specs.Line.{span};
 ghost use Rattle.meaning.specs.Number.{between};
 ghost use Rattle.meaning.specs.Gadget.Digits.{groupCells};
 ghost use Rattle.meaning.specs.Gadget.Span.{spanTop, spanLine};
@@ -23,6 +30,7 @@ ghost use Rattle.algebra.specs.Digits.{Below};
 ghost use Rattle.meaning.specs.Known.{Known, placeOf};
 ghost use Rattle.meaning.specs.Row.{holds};
 ghost use Rattle.meaning.specs.Reply.{firstFail};
+ghost use Rattle.table.specs.LineValues.{ValuesAsked, WorkTold, CellsAsked, CellsTold};
 ghost use Rattle.table.specs.Rows.{rowsSeen};
 
 // Whether the line's statement is true, of every b and k with the power c.
@@ -39,6 +47,37 @@ pub fn span_cells(out: &mut [u32], v: i64, b: u32, k: usize, shift: i64)
     ensures { λ _. ⌜ now (out .exit) ≡ groupCells b k v shift ++ drop k (now (out .entry)) ⌝ }
 {
     form_cells(out, v, shift, b, k);
+}
+
+// ---- the line
+
+pub fn span_line_works(numbers: &[i64], values: &[i64]) -> Worked
+    requires { ⌜ ValuesAsked span (now numbers) 4 (now values) ⌝ }
+    ensures { λ r. ⌜ ((next : ℤ) → WorkTold span (now (numbers .entry)) 4 (now (values .entry)) next r) ⌝ }
+{
+    let v = value_named(numbers, 0, values);
+    let b = base_at(numbers, 1);
+    let k = size_at(numbers, 2);
+    let c = power_of(b, k);
+    let shift = numbers[3];
+    if span_works(v, c, shift) {
+        Worked::NoValue
+    } else {
+        Worked::False
+    }
+}
+
+// The cells are the same modulo every p.
+pub fn span_line_cells(numbers: &[i64], values: &[i64], part: &mut [u32])
+    requires { ⌜ ((p : ℕ) × (known : ℕ) × CellsAsked p span (now numbers) 4 (now values) known (now part)) ⌝ }
+    ensures { λ _. ⌜ ((p known : ℕ)
+        → CellsTold p span (now (numbers .entry)) 4 (now (values .entry)) known (now (part .entry)) (now (part .exit))) ⌝ }
+{
+    let v = value_named(numbers, 0, values);
+    let b = base_at(numbers, 1);
+    let k = size_at(numbers, 2);
+    let shift = numbers[3];
+    span_cells(part, v, b, k, shift);
 }
 
 // ---- rows

@@ -6,6 +6,7 @@ use super::numbers::size_at;
 use super::rows::Rows;
 use super::rows::residue_at;
 use super::rows::row_before;
+use super::value::Worked;
 use super::value::value_cell;
 use number::Cell;
 use number::Residue;
@@ -14,13 +15,15 @@ use number::residue::product;
 use number::residue::remainder_of;
 use number::residue::sum;
 ghost use mathlib.Core.Path.{_≡_};
-ghost use mathlib.Core.List.{_∷_};
+ghost use mathlib.Core.List.{List, _∷_};
 ghost use Prim.Native.Nat.{_<_, ℕ, _%_, _≤_};
+ghost use lib.IntN.{ℤ};
 ghost use lib.ListN.{length, take, drop};
 ghost use Rattle.meaning.specs.Number.{remainder};
 ghost use Rattle.table.specs.Cells.{sumOf, SumAsked};
+ghost use Rattle.table.specs.LineValues.{ValuesAsked, WorkTold, CellsAsked, CellsTold};
 ghost use Rattle.algebra.specs.Digits.{Below};
-ghost use Rattle.meaning.specs.Line.{numberAt, withoutFirst};
+ghost use Rattle.meaning.specs.Line.{numberAt, withoutFirst, sum};
 ghost use Rattle.meaning.specs.Known.{Known};
 ghost use Rattle.meaning.specs.Row.{holds};
 ghost use Rattle.meaning.specs.Reply.{firstFail};
@@ -48,6 +51,24 @@ pub fn sum_cells(out: &mut [u32], p: u32, x: i64)
     ensures { λ _. ⌜ now (out .exit) ≡ remainder p x ∷ drop 1 (now (out .entry)) ⌝ }
 {
     value_cell(out, p, x);
+}
+
+// ---- the line
+
+pub fn sum_line_works(numbers: &[i64], count: usize, values: &[i64]) -> Worked
+    requires { ⌜ ValuesAsked sum (now numbers) count (now values) ⌝ }
+    ensures { λ r. ⌜ ((next : ℤ) → WorkTold sum (now (numbers .entry)) count (now (values .entry)) next r) ⌝ }
+{
+    Worked::Value(sum_works(numbers, count, values))
+}
+
+// The line's value stands in values: it is not added up again.
+pub fn sum_line_cells(p: u32, values: &[i64], known: usize, part: &mut [u32])
+    requires { ⌜ ((numbers : List ℤ) × (count : ℕ) × CellsAsked p sum numbers count (now values) known (now part)) ⌝ }
+    ensures { λ _. ⌜ ((numbers : List ℤ) (count : ℕ)
+        → CellsTold p sum numbers count (now (values .entry)) known (now (part .entry)) (now (part .exit))) ⌝ }
+{
+    sum_cells(part, p, values[known]);
 }
 
 // ---- rows

@@ -2,6 +2,9 @@
 // value's and those of the sign over u - v.
 //
 // The rows of a which line: those of the sign of u-v, and then y ≡ 1-f.
+use super::group::power_of;
+use super::numbers::base_at;
+use super::numbers::size_at;
 use super::rows::Rows;
 use super::rows::residue_at;
 use super::sign::sign_cells;
@@ -11,6 +14,7 @@ use super::sign::top_part;
 use super::value::Worked;
 use super::value::value_cell;
 use number::Cell;
+use super::value::value_named;
 use number::Residue;
 use number::residue::difference;
 use number::residue::sum;
@@ -19,14 +23,16 @@ ghost use mathlib.Core.Bool.{cond};
 ghost use mathlib.Core.List.{[], _∷_, _++_};
 ghost use mathlib.Core.Option.{some, none};
 ghost use Prim.Native.Nat.{ℕ, _+_, _^_, _≤_, _<_};
-ghost use lib.IntN.{_-ℤ_};
+ghost use lib.IntN.{_-ℤ_, ℤ};
 ghost use lib.ListN.{length, drop};
+ghost use Rattle.meaning.specs.Line.{which};
 ghost use Rattle.meaning.specs.Number.{remainder};
 ghost use Rattle.meaning.specs.Gadget.Sign.{signStatement, signCells};
 ghost use Rattle.meaning.specs.Gadget.Which.{whichValue, whichLine};
 ghost use Rattle.meaning.proofs.Number.{OddPrime};
 ghost use Rattle.number.specs.Bounded.{Bounded};
 ghost use Rattle.table.specs.Cells.{workedSeen, GroupOf};
+ghost use Rattle.table.specs.LineValues.{ValuesAsked, WorkTold, CellsAsked, CellsTold};
 ghost use Rattle.algebra.specs.Digits.{Below};
 ghost use Rattle.meaning.specs.Known.{Known, placeOf};
 ghost use Rattle.meaning.specs.Row.{holds};
@@ -56,6 +62,33 @@ pub fn which_cells(out: &mut [u32], p: u32, u: i64, v: i64, b: u32, k: usize, c:
 {
     value_cell(out, p, which_value(u, v));
     sign_cells(&mut out[1..], p, u - v, b, k, c);
+}
+
+// ---- the line
+
+pub fn which_line_works(numbers: &[i64], values: &[i64]) -> Worked
+    requires { ⌜ ValuesAsked which (now numbers) 4 (now values) ⌝ }
+    ensures { λ r. ⌜ ((next : ℤ) → WorkTold which (now (numbers .entry)) 4 (now (values .entry)) next r) ⌝ }
+{
+    let u = value_named(numbers, 0, values);
+    let v = value_named(numbers, 1, values);
+    let b = base_at(numbers, 2);
+    let k = size_at(numbers, 3);
+    let c = power_of(b, k);
+    which_works(u, v, b, c)
+}
+
+pub fn which_line_cells(numbers: &[i64], p: u32, values: &[i64], part: &mut [u32])
+    requires { ⌜ ((known : ℕ) × CellsAsked p which (now numbers) 4 (now values) known (now part)) ⌝ }
+    ensures { λ _. ⌜ ((known : ℕ)
+        → CellsTold p which (now (numbers .entry)) 4 (now (values .entry)) known (now (part .entry)) (now (part .exit))) ⌝ }
+{
+    let u = value_named(numbers, 0, values);
+    let v = value_named(numbers, 1, values);
+    let b = base_at(numbers, 2);
+    let k = size_at(numbers, 3);
+    let c = power_of(b, k);
+    which_cells(part, p, u, v, b, k, c);
 }
 
 // ---- rows

@@ -3,9 +3,7 @@ use mathlib.Core.Path.{_≡_, refl, _∙_}
 use mir.Syntax.{w64}
 use mir.Val.{SFits, toZ, ofZ}
 use Rattle.meaning.specs.Refusal.{isField}
-use Rattle.number.specs.Bounded.{Bounded}
 use Rattle.number.proofs.Word.{back}
-use Rattle.table.specs.Cells.{GroupOf}
 use Rattle.table.proofs.LineValues.{named, name-asked, named-bounded, base-asked, count-asked, power-asked, group-read}
 use Rattle.table.proofs.WorksLine.{relu-name, relu-digits}
 use Rattle.table.proofs.CellsLine.{prime-asked, relu-room, relu-cells-told}
@@ -24,8 +22,7 @@ size-at-requires c κs = count-asked (relu-digits (c .before .before .before .pr
 
 power-of-requires : tie.Need-power-of-requires
 power-of-requires c κs =
-    power-asked (relu-digits (c .before .before .before .before .pre .1 .asked .kept)) (c .before .base-at .ensures)
-    (c .size-at .ensures)
+    power-asked (relu-digits (c .before .before .before .before .pre .1 .asked .kept)) (c .before .base-at .ensures) (c .size-at .ensures)
 
 value : (c : tie.After-value-named)
     → let s = c .before .before .args in
@@ -54,7 +51,8 @@ returns c known =
     let last = c .before .before in
     let digits = last .before .before .before in
     let base = digits .before in
-    relu-cells-told (value (base .before)) (base .base-at .ensures) (digits .size-at .ensures) (last .relu-cells .ensures)
+    relu-cells-told (value (base .before)) (base .base-at .ensures) (digits .size-at .ensures)
+    (last .relu-cells .ensures)
 
 pub relu-line-cells-spec : {M : Type 1} → statement M
 relu-line-cells-spec =

@@ -1,11 +1,11 @@
 -- `table::relu::relu_line_works`: the line's numbers are what `relu_works` takes.
-use mathlib.Core.Path.{_∙_}
+use mathlib.Core.Path.{_≡_, _∙_}
 use native.Mathlib.Omega.{arith}
 use mir.Syntax.{w64}
-use mir.Val.{SFits}
+use mir.Val.{SFits, toZ, ofZ}
 use Rattle.number.proofs.Word.{back}
 use Rattle.table.specs.Cells.{GroupOf}
-use Rattle.table.proofs.LineValues.{name-asked, base-asked, count-asked, power-asked, group-read}
+use Rattle.table.proofs.LineValues.{named, name-asked, base-asked, count-asked, power-asked, group-read}
 use Rattle.table.proofs.WorksLine.{relu-name, relu-digits, relu-told}
 use borrow.Author.Needs.{needs}
 use Rattle.table.proofs.relu.relu_line_works.Statement.{statement}
@@ -29,18 +29,23 @@ group c =
     group-read (relu-digits (c .before .before .before .before .pre .kept)) (c .before .before .base-at .ensures)
     (c .before .size-at .ensures) (c .power-of .ensures)
 
+value : (c : tie.After-value-named)
+    → let s = c .before .args in
+    toZ w64 (ofZ w64 (c .value-named .result)) ≡ named (s .numbers .now) 0 (s .values .now)
+value c = let f : SFits w64 (c .value-named .result) = search needs in back f ∙ c .value-named .ensures
+
 relu-works-requires : tie.Need-relu-works-requires
-relu-works-requires c κs = let g = group c in (omega (arith, g .base), g .small)
+relu-works-requires c κs = (
+  omega (arith, group c .base),
+  group c .small,
+)
 
 returns : tie.Need-returns
 returns c next =
-    let power = c .before in
-    let digits = power .before in
+    let digits = c .before .before in
     let base = digits .before in
-    let value = base .before in
-    let g = group power in
-    let f : SFits w64 (value .value-named .result) = search needs in
-    relu-told (back f ∙ value .value-named .ensures) (base .base-at .ensures) (digits .size-at .ensures) next _
+    let g = group (c .before) in
+    relu-told (value (base .before)) (base .base-at .ensures) (digits .size-at .ensures) next _
     (c .relu-works .ensures _ (g .some-digit) (g .power))
 
 pub relu-line-works-spec : {M : Type 1} → statement M

@@ -1,0 +1,89 @@
+-- `table::span::span_line_works`: the line's numbers are what `span_works` takes.
+use mathlib.Core.Path.{_≡_, sym, _∙_}
+use lib.IntN.{pos}
+use lib.ListN.{getD}
+use mir.Syntax.{w64}
+use mir.Val.{SFits, toZ, ofZ}
+use Rattle.meaning.specs.Number.{between}
+use Rattle.meaning.specs.Gadget.Span.{spanTop}
+use Rattle.number.proofs.Word.{back}
+use Rattle.table.specs.Cells.{GroupOf}
+use Rattle.table.proofs.WorksAnswer.{no-value-worked, false-worked}
+use Rattle.table.proofs.LineValues.{named, name-asked, base-asked, count-asked, power-asked, group-read, power-positive}
+use Rattle.table.proofs.WorksLine.{span-name, span-digits, span-shift, span-told}
+use borrow.Author.Needs.{needs}
+use Rattle.table.proofs.span.span_line_works.Statement.{statement}
+use Rattle.table.proofs.span.span_line_works.Tie as tie
+
+value-named-requires : tie.Need-value-named-requires
+value-named-requires c κs = name-asked (c .pre) (span-name (c .pre .kept))
+
+base-at-requires : tie.Need-base-at-requires
+base-at-requires c κs = base-asked (span-digits (c .before .pre .kept))
+
+size-at-requires : tie.Need-size-at-requires
+size-at-requires c κs = count-asked (span-digits (c .before .before .pre .kept))
+
+power-of-requires : tie.Need-power-of-requires
+power-of-requires c κs =
+    power-asked (span-digits (c .before .before .before .pre .kept)) (c .before .base-at .ensures) (c .size-at .ensures)
+
+group : (c : tie.After-power-of) → GroupOf (c .before .before .base-at .result) (c .before .size-at .result) (c .power-of .result)
+group c =
+    group-read (span-digits (c .before .before .before .before .pre .kept)) (c .before .before .base-at .ensures)
+    (c .before .size-at .ensures) (c .power-of .ensures)
+
+shared-slice-copy-out-shift : tie.Need-shared-slice-copy-out-shift
+shared-slice-copy-out-shift c = search needs
+
+value : (c : tie.After-value-named)
+    → let s = c .before .args in
+    toZ w64 (ofZ w64 (c .value-named .result)) ≡ named (s .numbers .now) 0 (s .values .now)
+value c = let f : SFits w64 (c .value-named .result) = search needs in back f ∙ c .value-named .ensures
+
+shift : (c : tie.After-shift)
+    → let z = getD (c .before .before .before .before .before .args .numbers .now) 3 (pos 0) in
+    toZ w64 (ofZ w64 z) ≡ z
+shift c = search needs
+
+span-works-requires : tie.Need-span-works-requires
+span-works-requires c κs =
+    let g = group (c .before) in
+    (power-positive g, g .small, rw (shift c) (span-shift (c .before .before .before .before .before .pre .kept)))
+
+-- what `span_works` answered
+tested : (c : tie.After-span-works)
+    → let numbers = c .before .before .before .before .before .before .args .numbers .now in
+    let L = toZ w64 (ofZ w64 (getD numbers 3 (pos 0))) in
+    let v = toZ w64 (ofZ w64 (c .before .before .before .before .before .value-named .result)) in
+    between L v (spanTop (c .before .before .before .before .base-at .result) (c .before .before .before .size-at .result) L) ≡ c .span-works .result
+tested c = sym (c .span-works .ensures _ _ (group (c .before .before) .power))
+
+returns : tie.Need-returns
+returns c next =
+    let call = c .before in
+    let digits = call .before .before .before in
+    let base = digits .before in
+    span-told (value (base .before)) (base .base-at .ensures) (digits .size-at .ensures) next _ (shift (call .before))
+    (no-value-worked _ (tested call ∙ c .if1 .taken))
+
+returns-2 : tie.Need-returns-2
+returns-2 c next =
+    let call = c .before in
+    let digits = call .before .before .before in
+    let base = digits .before in
+    span-told (value (base .before)) (base .base-at .ensures) (digits .size-at .ensures) next _ (shift (call .before))
+    (false-worked _ _ (tested call ∙ c .if1 .left))
+
+pub span-line-works-spec : {M : Type 1} → statement M
+span-line-works-spec =
+    tie.close
+    (tie.spec
+    value-named-requires
+    base-at-requires
+    size-at-requires
+    power-of-requires
+    shared-slice-copy-out-shift
+    span-works-requires
+    returns
+    returns-2)

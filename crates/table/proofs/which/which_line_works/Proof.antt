@@ -1,0 +1,73 @@
+-- `table::which::which_line_works`: the line's numbers are what `which_works` takes.
+use mathlib.Core.Path.{_≡_, refl, _∙_}
+use native.Mathlib.Omega.{arith}
+use mir.Syntax.{w64}
+use mir.Val.{SFits, toZ, ofZ}
+use Rattle.meaning.specs.Refusal.{isField}
+use Rattle.number.proofs.Word.{back}
+use Rattle.table.specs.Cells.{GroupOf}
+use Rattle.table.proofs.LineValues.{named, name-asked, named-bounded, base-asked, count-asked, power-asked, group-read}
+use Rattle.table.proofs.WorksLine.{which-first, which-second, which-digits, which-told}
+use borrow.Author.Needs.{needs}
+use Rattle.table.proofs.which.which_line_works.Statement.{statement}
+use Rattle.table.proofs.which.which_line_works.Tie as tie
+
+value-named-requires : tie.Need-value-named-requires
+value-named-requires c κs = name-asked (c .pre) (which-first (c .pre .kept))
+
+value-named-requires-2 : tie.Need-value-named-requires-2
+value-named-requires-2 c κs = name-asked (c .before .pre) (which-second (c .before .pre .kept))
+
+base-at-requires : tie.Need-base-at-requires
+base-at-requires c κs = base-asked (which-digits (c .before .before .pre .kept))
+
+size-at-requires : tie.Need-size-at-requires
+size-at-requires c κs = count-asked (which-digits (c .before .before .before .pre .kept))
+
+power-of-requires : tie.Need-power-of-requires
+power-of-requires c κs =
+    power-asked (which-digits (c .before .before .before .before .pre .kept)) (c .before .base-at .ensures) (c .size-at .ensures)
+
+group : (c : tie.After-power-of) → GroupOf (c .before .before .base-at .result) (c .before .size-at .result) (c .power-of .result)
+group c =
+    group-read (which-digits (c .before .before .before .before .before .pre .kept)) (c .before .before .base-at .ensures)
+    (c .before .size-at .ensures) (c .power-of .ensures)
+
+first : (c : tie.After-value-named)
+    → let s = c .before .args in
+    toZ w64 (ofZ w64 (c .value-named .result)) ≡ named (s .numbers .now) 0 (s .values .now)
+first c = let f : SFits w64 (c .value-named .result) = search needs in back f ∙ c .value-named .ensures
+
+second : (c : tie.After-value-named2)
+    → let s = c .before .before .args in
+    toZ w64 (ofZ w64 (c .value-named2 .result)) ≡ named (s .numbers .now) 1 (s .values .now)
+second c = let f : SFits w64 (c .value-named2 .result) = search needs in back f ∙ c .value-named2 .ensures
+
+which-works-requires : tie.Need-which-works-requires
+unfolding isField
+which-works-requires c κs = (
+  omega (arith, group c .base),
+  group c .small,
+  rw (first (c .before .before .before .before)) (named-bounded (c .before .before .before .before .before .pre) (which-first (c .before .before .before .before .before .pre .kept)) refl),
+  rw (second (c .before .before .before)) (named-bounded (c .before .before .before .before .before .pre) (which-second (c .before .before .before .before .before .pre .kept)) refl),
+)
+
+returns : tie.Need-returns
+returns c next =
+    let digits = c .before .before in
+    let base = digits .before in
+    let g = group (c .before) in
+    which-told (first (base .before .before)) (second (base .before)) (base .base-at .ensures) (digits .size-at .ensures) next _
+    (c .which-works .ensures _ (g .some-digit) (g .power))
+
+pub which-line-works-spec : {M : Type 1} → statement M
+which-line-works-spec =
+    tie.close
+    (tie.spec
+    value-named-requires
+    value-named-requires-2
+    base-at-requires
+    size-at-requires
+    power-of-requires
+    which-works-requires
+    returns)
