@@ -6,6 +6,7 @@
 // there and leaves the rest of the part as it was. Checking writes nothing: the table is a shared slice.
 pub mod group;
 pub mod input;
+pub mod line_rows;
 pub mod max;
 pub mod numbers;
 pub mod relu;

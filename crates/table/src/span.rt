@@ -3,6 +3,9 @@
 // The rows of a span line: the digit group over the value, counted from the span's lowest number.
 use super::group::form_cells;
 use super::group::group_rows;
+use super::numbers::base_at;
+use super::numbers::place_at;
+use super::numbers::size_at;
 use super::rows::Rows;
 use super::rows::residue_at;
 use number::Cell;
@@ -21,8 +24,10 @@ ghost use Rattle.meaning.specs.Gadget.Span.{spanTop, spanLine};
 ghost use Rattle.number.specs.Bounded.{Bounded};
 ghost use Rattle.algebra.specs.Digits.{Below};
 ghost use Rattle.meaning.specs.Known.{Known, placeOf};
+ghost use Rattle.meaning.specs.Line.{span};
 ghost use Rattle.meaning.specs.Row.{holds};
 ghost use Rattle.meaning.specs.Reply.{firstFail};
+ghost use Rattle.table.specs.LineRows.{RowsAsked, RowsTold};
 ghost use Rattle.table.specs.Rows.{rowsSeen};
 
 // Whether the line's statement is true, of every b and k with the power c.
@@ -51,4 +56,15 @@ pub fn span_rows(table: &[u32], p: u32, place: Cell, at: Cell, b: u32, k: usize,
     let lowest = remainder_of(Whole(shift), p);
     let number = difference(residue_at(table, place), lowest, p);
     group_rows(table, p, number, 0, at, b, k)
+}
+
+// The rows of a span line of a list that was read.
+pub fn span_line_rows(numbers: &[i64], table: &[u32], p: u32, at: Cell, places: &[usize]) -> Rows
+    requires { ⌜ RowsAsked p span (now numbers) 4 (now table) (at .0) (now places) ⌝ }
+    ensures { λ r. ⌜ RowsTold p span (now (numbers .entry)) 4 (now (table .entry)) (at .0) (now (places .entry)) r ⌝ }
+{
+    let place = place_at(numbers, 0, places);
+    let b = base_at(numbers, 1);
+    let k = size_at(numbers, 2);
+    span_rows(table, p, place, at, b, k, numbers[3])
 }
