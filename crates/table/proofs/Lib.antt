@@ -20,3 +20,4 @@ pub mod RowsSign
 pub mod RowsMax
 pub mod RowsRoot
 pub mod RowsSum
+pub mod RowsLine

@@ -1,22 +1,32 @@
 -- The row of a sum line: the terms one after another.
 use mathlib.Core.Path.{_≡_, refl, sym, ap, _∙_}
-use mathlib.Core.Bool.{cond}
+use mathlib.Core.Bool.{Bool, true, cond}
 use mathlib.Core.List.{List, [], _∷_}
 use mathlib.Core.Option.{Option, none, some}
-use Prim.Native.Nat.{ℕ, suc, _+_, _%_, _≤_, _<_}
+use Prim.Native.Nat.{ℕ, zero, suc, _+_, _%_, _≤_, _<_}
 use native.Mathlib.Omega.{arith}
-use lib.Dec.{eqb}
+use lib.Dec.{T, eqb}
 use lib.IntN.{ℤ, pos, natAbs, _+ℤ_, _*ℤ_}
 use lib.Signed.{_≤ℤ_}
 use lib.ListN.{length, getD, take, drop}
 use lib.Seq.{drop-cons, drop-length, length-take-le, getD-take}
 use Rattle.meaning.specs.Number.{remainder}
-use Rattle.meaning.specs.Line.{numberAt, withoutFirst}
+use Rattle.algebra.specs.Digits.{Below}
+use Rattle.algebra.proofs.Test.{left, right}
+use Rattle.meaning.specs.Line.{sum, numberAt, withoutFirst, alternate, namesOf}
 use Rattle.meaning.specs.Known.{Known, placeOf}
 use Rattle.meaning.specs.Row.{Form, cell, constant, _⊕_, _⊗_, _≅_, holds}
 use Rattle.meaning.specs.Reply.{firstFail}
 use Rattle.meaning.specs.Gadget.Sum.{termsOf, sumForm, sumLine}
+use Rattle.meaning.specs.Meaning.{byWord, gadget}
+use Rattle.meaning.specs.Refusal.{all, isField, isMade}
+use Rattle.text.specs.Word.{wordOf}
+use Rattle.reader.proofs.Steps.{sum-count}
+use Rattle.table.specs.Line.{KeptLine, gadgetOf, knownCount}
+use Rattle.table.specs.LineRows.{RowsAsked}
 use Rattle.table.specs.Rows.{Leaves, NamesBelow, PlacesInside}
+use Rattle.table.proofs.LineNumbers.{made-is, values-most}
+use Rattle.table.proofs.RowsLine.{p-three}
 use Rattle.table.proofs.RowsFirst.{first-none, first-row}
 use Rattle.table.proofs.RowsForm.{leaves-whole, leaves-⊕, leaves-⊗, row-test}
 
@@ -109,3 +119,59 @@ pair-names ns count places cells i h l o =
       placed = omega (arith, v, h .placed);
       inside = h .inside _ v;
     }
+
+-- ---- the line, as a list that was read has it
+
+-- a test of every other number of a list, from its first
+alternate-at : (f : ℤ → Bool) (i : ℕ) (xs : List ℤ) → i % 2 ≡ 0 → i < length xs → T (all f (alternate xs)) → T (f (getD xs i (pos 0)))
+unfolding all alternate
+alternate-at f i [] e h t = absurd (omega arith)
+alternate-at f zero (x ∷ []) e h t = left (f x) true t
+alternate-at f (suc i) (x ∷ []) e h t = absurd (omega arith)
+alternate-at f zero (x ∷ (y ∷ xs)) e h t = left (f x) (all f (alternate xs)) t
+alternate-at f (suc zero) (x ∷ (y ∷ xs)) e h t = absurd (omega arith)
+alternate-at f (suc (suc i)) (x ∷ (y ∷ xs)) e h t = alternate-at f i xs (omega arith) (omega arith) (right (f x) (all f (alternate xs)) t)
+
+-- and so of those after the first two
+named-at : (f : ℤ → Bool) (i : ℕ) (xs : List ℤ) → 0 < i → i < length xs → i % 2 ≡ 0
+    → T (all f (alternate (withoutFirst (withoutFirst xs)))) → T (f (getD xs i (pos 0)))
+unfolding withoutFirst
+named-at f zero xs l h e t = absurd (omega arith)
+named-at f (suc zero) xs l h e t = absurd (omega arith)
+named-at f (suc (suc i)) [] l h e t = absurd (omega arith)
+named-at f (suc (suc i)) (x ∷ []) l h e t = absurd (omega arith)
+named-at f (suc (suc i)) (x ∷ (y ∷ xs)) l h e t = alternate-at f i xs (omega arith) (omega arith) t
+
+sum-names : {numbers : List ℤ} {count : ℕ} (l : KeptLine sum numbers count) → NamesBelow (knownCount l) numbers count
+unfolding namesOf
+sum-names {numbers} {count} l = record { natural = λ i h k e. name i h k e .0; below = λ i h k e. name i h k e .1 }
+  where
+    name : (i : ℕ) → 0 < i → i < count → i % 2 ≡ 0 → (pos 0 ≤ℤ getD numbers i (pos 0)) × (natAbs (getD numbers i (pos 0)) < knownCount l)
+    name i h k e =
+        let long : length (take count numbers) ≡ count = length-take-le count numbers (omega (arith, l .numbers-long, l .few)) in
+        let made = named-at (isMade (knownCount l)) i (take count numbers) h (omega arith) e (l .keeps .names-made) in
+        made-is (knownCount l) (getD numbers i (pos 0)) (rw (getD-take count numbers i (pos 0) k) at made)
+
+module _ {p : ℕ} {numbers : List ℤ} {count : ℕ} {table : List ℕ} {cells : ℕ} {places : List ℕ} (a : RowsAsked p sum numbers count table cells places) where
+  pub sum-asked : (0 < p) × Below p table × (cells < length table) × (count % 2 ≡ 1) × (count ≤ length numbers)
+      × PlacesInside numbers count places (length table)
+  unfolding isField gadget byWord sumLine wordOf
+  sum-asked = (
+    omega (arith, p-three a refl),
+    a .below,
+    omega (arith, a .room),
+    sum-count refl count (a .kept .counted),
+    omega (arith, a .kept .numbers-long, a .kept .few),
+    record {
+      known = knownCount (a .kept);
+      named = sum-names (a .kept);
+      placed = omega (arith, values-most (a .kept), a .places-long);
+      inside = a .inside;
+    },
+  )
+
+  pub sum-told : {seen : Option ℕ} → ((s : Known) (n : ℕ) → s .p ≡ p → s .cells ≡ cells → s .places ≡ take n places → NamesBelow n numbers count
+      → seen ≡ firstFail (holds p table) 0 (sumLine s (numberAt (take count numbers) 0) (termsOf (withoutFirst (take count numbers))) .rows))
+      → seen ≡ firstFail (holds p table) 0 (gadgetOf (a .kept) .rows)
+  unfolding isField gadget byWord
+  sum-told told = told (a .kept .state) (knownCount (a .kept)) (a .prime refl) (a .cells-are) (a .places-are) (sum-names (a .kept))

@@ -8,6 +8,7 @@ pub mod group;
 pub mod input;
 pub mod line_cells;
 pub mod line_works;
+pub mod line_rows;
 pub mod max;
 pub mod numbers;
 pub mod relu;

@@ -7,6 +7,7 @@ use super::group::group_rows;
 use super::group::power_of;
 use super::group::two_groups;
 use super::numbers::base_at;
+use super::numbers::place_at;
 use super::numbers::size_at;
 use super::rows::Rows;
 use super::rows::residue_at;
@@ -38,6 +39,7 @@ ghost use Rattle.algebra.specs.Digits.{Below};
 ghost use Rattle.meaning.specs.Row.{holds};
 ghost use Rattle.meaning.specs.Reply.{firstFail};
 ghost use Rattle.meaning.specs.Gadget.Max.{maxLine};
+ghost use Rattle.table.specs.LineRows.{RowsAsked, RowsTold};
 ghost use Rattle.table.specs.Rows.{rowsSeen};
 
 pub fn max_value(u: i64, v: i64) -> i64
@@ -116,4 +118,16 @@ pub fn max_rows(
     let group_u = group_rows(table, p, over_u, 1, Cell(at.0 + 1), b, k);
     let group_v = group_rows(table, p, over_v, k + 2, Cell(at.0 + 1 + k), b, k);
     row_before(either.0 == 0, 0, rows_before(group_u, group_v))
+}
+
+// The rows of a max line of a list that was read.
+pub fn max_line_rows(numbers: &[i64], table: &[u32], p: u32, at: Cell, places: &[usize]) -> Rows
+    requires { ⌜ RowsAsked p max (now numbers) 4 (now table) (at .0) (now places) ⌝ }
+    ensures { λ r. ⌜ RowsTold p max (now (numbers .entry)) 4 (now (table .entry)) (at .0) (now (places .entry)) r ⌝ }
+{
+    let place_u = place_at(numbers, 0, places);
+    let place_v = place_at(numbers, 1, places);
+    let b = base_at(numbers, 2);
+    let k = size_at(numbers, 3);
+    max_rows(table, p, place_u, place_v, at, b, k)
 }

@@ -4,6 +4,7 @@
 // The rows of a relu line: those of its sign, and then f·v ≡ y.
 use super::group::power_of;
 use super::numbers::base_at;
+use super::numbers::place_at;
 use super::numbers::size_at;
 use super::rows::Rows;
 use super::rows::residue_at;
@@ -39,6 +40,7 @@ ghost use Rattle.algebra.specs.Digits.{Below};
 ghost use Rattle.meaning.specs.Row.{holds};
 ghost use Rattle.meaning.specs.Reply.{firstFail};
 ghost use Rattle.meaning.specs.Gadget.Relu.{reluLine};
+ghost use Rattle.table.specs.LineRows.{RowsAsked, RowsTold};
 ghost use Rattle.table.specs.Rows.{rowsSeen};
 
 pub fn relu_value(v: i64) -> i64
@@ -105,4 +107,15 @@ pub fn relu_rows(table: &[u32], p: u32, place: Cell, at: Cell, b: u32, k: usize)
     let kept = product(flag, value, p);
     let made = residue_at(table, at);
     sign_rows(table, p, number, kept.0 == made.0, Cell(at.0 + 1), b, k)
+}
+
+// The rows of a relu line of a list that was read.
+pub fn relu_line_rows(numbers: &[i64], table: &[u32], p: u32, at: Cell, places: &[usize]) -> Rows
+    requires { ⌜ RowsAsked p relu (now numbers) 3 (now table) (at .0) (now places) ⌝ }
+    ensures { λ r. ⌜ RowsTold p relu (now (numbers .entry)) 3 (now (table .entry)) (at .0) (now (places .entry)) r ⌝ }
+{
+    let place = place_at(numbers, 0, places);
+    let b = base_at(numbers, 1);
+    let k = size_at(numbers, 2);
+    relu_rows(table, p, place, at, b, k)
 }

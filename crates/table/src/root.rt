@@ -7,6 +7,7 @@ use super::group::group_rows;
 use super::group::power_of;
 use super::group::two_groups;
 use super::numbers::base_at;
+use super::numbers::place_at;
 use super::numbers::size_at;
 use super::rows::Rows;
 use super::rows::residue_at;
@@ -40,6 +41,7 @@ ghost use Rattle.algebra.specs.Digits.{Below};
 ghost use Rattle.meaning.specs.Known.{Known, placeOf};
 ghost use Rattle.meaning.specs.Row.{Form, holds};
 ghost use Rattle.meaning.specs.Reply.{firstFail};
+ghost use Rattle.table.specs.LineRows.{RowsAsked, RowsTold};
 ghost use Rattle.table.specs.Rows.{rowsSeen, Leaves, fourGroups};
 
 pub fn root_value(v: i64) -> i64
@@ -157,4 +159,15 @@ fn four_groups(
     let fourth = group_rows(table, p, under, 3 * k + 4, Cell(at.0 + 3 * k), b, k);
     let last_two = rows_before(third, fourth);
     rows_before(first, rows_before(second, last_two))
+}
+
+// The rows of a root line of a list that was read.
+pub fn root_line_rows(numbers: &[i64], table: &[u32], p: u32, at: Cell, places: &[usize]) -> Rows
+    requires { ⌜ RowsAsked p root (now numbers) 3 (now table) (at .0) (now places) ⌝ }
+    ensures { λ r. ⌜ RowsTold p root (now (numbers .entry)) 3 (now (table .entry)) (at .0) (now (places .entry)) r ⌝ }
+{
+    let place = place_at(numbers, 0, places);
+    let b = base_at(numbers, 1);
+    let k = size_at(numbers, 2);
+    root_rows(table, p, place, at, b, k)
 }

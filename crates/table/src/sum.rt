@@ -2,7 +2,7 @@
 //
 // The row of a sum line: its value is c0 + c1·v1 + .. modulo p. Its numbers are c0, c1, v1, c2, v2, .., the first `count` of `numbers`;
 // `places` has the cell of each value that a pair can name.
-use super::numbers::size_at;
+use super::numbers::place_at;
 use super::rows::Rows;
 use super::rows::residue_at;
 use super::rows::row_before;
@@ -28,6 +28,7 @@ ghost use Rattle.meaning.specs.Known.{Known};
 ghost use Rattle.meaning.specs.Row.{holds};
 ghost use Rattle.meaning.specs.Reply.{firstFail};
 ghost use Rattle.meaning.specs.Gadget.Sum.{termsOf, sumLine};
+ghost use Rattle.table.specs.LineRows.{RowsAsked, RowsTold};
 ghost use Rattle.table.specs.Rows.{rowsSeen, NamesBelow, PlacesInside};
 
 // The first count numbers are the line's, and the first n values, for some n, are those before it.
@@ -91,12 +92,26 @@ pub fn sum_rows(
     let mut i: usize = 1;
     while i < count {
         let factor = remainder_of(Whole(numbers[i]), p);
-        let value = size_at(numbers, i + 1);
-        let place = Cell(places[value]);
+        let place = place_at(numbers, i + 1, places);
         let part = product(factor, residue_at(table, place), p);
         total = sum(Residue(total), part, p).0;
         i += 2;
     }
     let made = residue_at(table, at);
     row_before(made.0 == total, 0, Rows::AllHold)
+}
+
+// The row of a sum line of a list that was read.
+pub fn sum_line_rows(
+    numbers: &[i64],
+    count: usize,
+    table: &[u32],
+    p: u32,
+    at: Cell,
+    places: &[usize],
+) -> Rows
+    requires { ⌜ RowsAsked p sum (now numbers) count (now table) (at .0) (now places) ⌝ }
+    ensures { λ r. ⌜ RowsTold p sum (now (numbers .entry)) count (now (table .entry)) (at .0) (now (places .entry)) r ⌝ }
+{
+    sum_rows(table, p, at, numbers, count, places)
 }

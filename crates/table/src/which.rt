@@ -4,6 +4,7 @@
 // The rows of a which line: those of the sign of u-v, and then y ≡ 1-f.
 use super::group::power_of;
 use super::numbers::base_at;
+use super::numbers::place_at;
 use super::numbers::size_at;
 use super::rows::Rows;
 use super::rows::residue_at;
@@ -37,6 +38,7 @@ ghost use Rattle.algebra.specs.Digits.{Below};
 ghost use Rattle.meaning.specs.Known.{Known, placeOf};
 ghost use Rattle.meaning.specs.Row.{holds};
 ghost use Rattle.meaning.specs.Reply.{firstFail};
+ghost use Rattle.table.specs.LineRows.{RowsAsked, RowsTold};
 ghost use Rattle.table.specs.Rows.{rowsSeen};
 
 pub fn which_value(u: i64, v: i64) -> i64
@@ -113,4 +115,16 @@ pub fn which_rows(
     let other = difference(Residue(1), flag, p);
     let made = residue_at(table, at);
     sign_rows(table, p, number, made.0 == other.0, Cell(at.0 + 1), b, k)
+}
+
+// The rows of a which line of a list that was read.
+pub fn which_line_rows(numbers: &[i64], table: &[u32], p: u32, at: Cell, places: &[usize]) -> Rows
+    requires { ⌜ RowsAsked p which (now numbers) 4 (now table) (at .0) (now places) ⌝ }
+    ensures { λ r. ⌜ RowsTold p which (now (numbers .entry)) 4 (now (table .entry)) (at .0) (now (places .entry)) r ⌝ }
+{
+    let place_u = place_at(numbers, 0, places);
+    let place_v = place_at(numbers, 1, places);
+    let b = base_at(numbers, 2);
+    let k = size_at(numbers, 3);
+    which_rows(table, p, place_u, place_v, at, b, k)
 }

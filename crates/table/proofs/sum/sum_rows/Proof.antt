@@ -1,6 +1,6 @@
 -- The terms before the one of number i are in the total.
-use mathlib.Core.Path.{_≡_, refl, ap}
-use Prim.Native.Nat.{ℕ, _+_, _-_, _%_, _≤_, _<_}
+use mathlib.Core.Path.{_≡_, refl}
+use Prim.Native.Nat.{_+_, _-_, _%_, _≤_, _<_}
 use native.Mathlib.Omega.{arith}
 use borrow.Author.Needs.{needs}
 use lib.IntN.{pos}
@@ -23,8 +23,8 @@ Inv-loop table p at numbers count places total₀ i₀ total i =
 abbrev μ-loop : tie.MeasureT-loop
 μ-loop table p at numbers count places total₀ i₀ total i = count - i
 
-shared-slice-copy-out-t16 : tie.Need-shared-slice-copy-out-t16 Inv-loop μ-loop
-shared-slice-copy-out-t16 c = search needs
+shared-slice-copy-out-t15 : tie.Need-shared-slice-copy-out-t15 Inv-loop μ-loop
+shared-slice-copy-out-t15 c = search needs
 
 remainder-of-requires : tie.Need-remainder-of-requires Inv-loop μ-loop
 remainder-of-requires c κs = search needs
@@ -42,31 +42,31 @@ loop-holds c =
       sum-start (a .p) (a .table .now) (a .numbers .now) (a .count) (a .places .now) _ (start .pre .0) (omega arith) e,
     )
 
-mul-t19 : tie.Need-mul-t19 Inv-loop μ-loop
-mul-t19 c = search needs
+mul-t18 : tie.Need-mul-t18 Inv-loop μ-loop
+mul-t18 c = search needs
 
-shared-slice-copy-out-t21 : tie.Need-shared-slice-copy-out-t21 Inv-loop μ-loop
-shared-slice-copy-out-t21 c = search needs
+shared-slice-copy-out-t20 : tie.Need-shared-slice-copy-out-t20 Inv-loop μ-loop
+shared-slice-copy-out-t20 c = search needs
 
 remainder-of-requires-2 : tie.Need-remainder-of-requires-2 Inv-loop μ-loop
 remainder-of-requires-2 c κs = search needs
 
-add-size-at : tie.Need-add-size-at Inv-loop μ-loop
-add-size-at c = search needs
+add-place-at : tie.Need-add-place-at Inv-loop μ-loop
+add-place-at c = search needs
 
 -- a pair is left: the bits of its coefficient, and the value that it names
-more : (c : tie.After-t21 Inv-loop μ-loop) → c .before .before .loop .i + 1 < c .before .before .before .before .before .before .before .args .count
+more : (c : tie.After-t20 Inv-loop μ-loop) → c .before .before .loop .i + 1 < c .before .before .before .before .before .before .before .args .count
 more c =
     let at-test = c .before in
     let at-loop = at-test .before in
     let start = at-loop .before .before .before .before .before in
     omega (arith, at-test .loop-test .taken, at-loop .loop .inv .1, start .pre .3)
 
-bits : (c : tie.After-t21 Inv-loop μ-loop) → let a = c .before .before .before .before .before .before .before .args in
+bits : (c : tie.After-t20 Inv-loop μ-loop) → let a = c .before .before .before .before .before .before .before .args in
     SFits w64 (getD (a .numbers .now) (c .before .before .loop .i) (pos 0))
 bits c = search needs
 
-names : (c : tie.After-t21 Inv-loop μ-loop) → let a = c .before .before .before .before .before .before .before .args in
+names : (c : tie.After-t20 Inv-loop μ-loop) → let a = c .before .before .before .before .before .before .before .args in
     Names (a .places .now) (length (a .table .now)) (getD (a .numbers .now) (c .before .before .loop .i + 1) (pos 0))
 names c =
     let at-loop = c .before .before in
@@ -75,36 +75,26 @@ names c =
     pair-names (a .numbers .now) (a .count) (a .places .now) (length (a .table .now)) (at-loop .loop .i) (start .pre .5)
     (more c) (at-loop .loop .inv .1)
 
-size-at-requires : tie.Need-size-at-requires Inv-loop μ-loop
-size-at-requires c κs =
-    let at-loop = c .before .before .before in
-    let start = at-loop .before .before .before .before .before in
-    let h = more (c .before) in
-    (omega (arith, h, start .pre .4), names (c .before) .natural)
+place-at-requires : tie.Need-place-at-requires Inv-loop μ-loop
+place-at-requires c κs =
+    let at-number = c .before in
+    let start = at-number .before .before .before .before .before .before .before in
+    let h = more at-number in
+    let name = names at-number in
+    (omega (arith, h, start .pre .4), name .natural, name .placed)
 
--- its place is among the places, and the cell there in the table
-placed : (c : tie.After-size-at Inv-loop μ-loop) → let a = c .before .before .before .before .before .before .before .before .before .args in
-    c .size-at .result < length (a .places .now)
-placed c = rw (c .size-at .ensures) (names (c .before .before) .placed)
-
-inside : (c : tie.After-size-at Inv-loop μ-loop) → let a = c .before .before .before .before .before .before .before .before .before .args in
-    getD (a .places .now) (c .size-at .result) 0 < length (a .table .now)
-inside c = rw (c .size-at .ensures) (names (c .before .before) .inside)
-
-mul-t19-2 : tie.Need-mul-t19-2 Inv-loop μ-loop
-mul-t19-2 c = let h = placed c in search needs
-
-shared-slice-read-t24 : tie.Need-shared-slice-read-t24 Inv-loop μ-loop
-shared-slice-read-t24 c = placed (c .before)
+inside : (c : tie.After-place-at Inv-loop μ-loop) → let a = c .before .before .before .before .before .before .before .before .before .args in
+    c .place-at .result .0 < length (a .table .now)
+inside c = rw (c .place-at .ensures) (names (c .before .before) .inside)
 
 residue-at-requires : tie.Need-residue-at-requires Inv-loop μ-loop
-residue-at-requires c κs = inside (c .before)
+residue-at-requires c κs = inside c
 
 product-requires : tie.Need-product-requires Inv-loop μ-loop
 product-requires c κs = search needs
 
 sum-requires : tie.Need-sum-requires Inv-loop μ-loop
-sum-requires c κs = (c .before .before .before .before .before .before .before .loop .inv .2, c .product .ensures .0)
+sum-requires c κs = (c .before .before .before .before .before .before .loop .inv .2, c .product .ensures .0)
 
 add-i : tie.Need-add-i Inv-loop μ-loop
 add-i c = search needs
@@ -116,23 +106,23 @@ loop-again : tie.Need-loop-again Inv-loop μ-loop
 loop-again c =
     let at-part = c .before in
     let at-found = at-part .before in
-    let at-value = at-found .before .before in
-    let at-factor = at-value .before in
+    let at-place = at-found .before in
+    let at-factor = at-place .before in
     let at-number = at-factor .before in
     let at-loop = at-number .before .before in
     let start = at-loop .before .before .before .before .before in
     let a = start .args in
     let i = at-loop .loop .i in
     let h = more at-number in
-    let place = getD (a .places .now) (at-value .size-at .result) 0 in (
+    let place = at-place .place-at .result .0 in (
       omega (arith, h),
       omega (arith, at-loop .loop .inv .1),
       c .sum .ensures .0,
       sum-next (a .p) (a .table .now) (a .numbers .now) (a .count) (a .places .now) {place = place} i (start .pre .0)
           (start .pre .4) (at-loop .loop .inv .3) h (at-loop .loop .inv .1)
           (rw (back (bits at-number)) at (at-factor .remainder-of2 .ensures))
-          (ap (λ (v : ℕ). getD (a .places .now) v 0) (at-value .size-at .ensures))
-          (leaves-read (a .p) (a .table .now) place (start .pre .1) (inside at-value) (at-found .residue-at .ensures))
+          (at-place .place-at .ensures)
+          (leaves-read (a .p) (a .table .now) place (start .pre .1) (inside at-place) (at-found .residue-at .ensures))
           (at-part .product .ensures) (c .sum .ensures),
     )
 
@@ -161,16 +151,14 @@ sum-rows-spec =
     (tie.spec
     Inv-loop
     μ-loop
-    shared-slice-copy-out-t16
+    shared-slice-copy-out-t15
     remainder-of-requires
     loop-holds
-    mul-t19
-    shared-slice-copy-out-t21
+    mul-t18
+    shared-slice-copy-out-t20
     remainder-of-requires-2
-    add-size-at
-    size-at-requires
-    mul-t19-2
-    shared-slice-read-t24
+    add-place-at
+    place-at-requires
     residue-at-requires
     product-requires
     sum-requires
