@@ -1,6 +1,5 @@
 // Checking a table, whoever wrote it: its length, its cells, then its rows in order. Nothing is written.
 use super::reply::Reply;
-use super::stub::line_rows;
 use super::walk::counts_after;
 use super::walk::take_place;
 use number::Cell;
@@ -8,6 +7,7 @@ use reader::read::Surveyed;
 use reader::read::survey;
 use reader::state::Counts;
 use table::Rows;
+use table::line_rows::line_rows;
 use text::Parsed;
 use text::line_end;
 use text::line_of;

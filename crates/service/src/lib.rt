@@ -2,7 +2,6 @@
 pub mod checking;
 pub mod reply;
 pub mod showing;
-mod stub;
 mod walk;
 
 pub use checking::check;

@@ -27,7 +27,7 @@ use Rattle.meaning.specs.Refusal.{isField}
 use Rattle.text.specs.Word.{wordOf}
 use Rattle.text.specs.declared.Word.{Word as CodeWord}
 use Rattle.reader.specs.State.{greatest}
-use Rattle.reader.proofs.Steps.{count-is}
+use Rattle.reader.proofs.Sizes.{count-is}
 use Rattle.table.specs.Rows.{rowsSeen}
 use Rattle.table.specs.Line.{gadgetOf, knownCount}
 use Rattle.table.specs.LineRows.{RowsAsked, RowsTold}

@@ -7,8 +7,8 @@
 pub mod group;
 pub mod input;
 pub mod line_cells;
-pub mod line_works;
 pub mod line_rows;
+pub mod line_works;
 pub mod max;
 pub mod numbers;
 pub mod relu;

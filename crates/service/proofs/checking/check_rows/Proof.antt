@@ -15,7 +15,7 @@ use Rattle.service.proofs.checking.check_rows.Statement.{statement}
 use Rattle.service.proofs.checking.check_rows.Tie as tie
 use Rattle.service.proofs.checking.check_rows.Reads as reads
 use Rattle.service.proofs.checking.check_rows.Lts as lts
-use Rattle.service.proofs.stub.line_rows.Reads as line-rows-reads
+use Rattle.table.proofs.line_rows.line_rows.Reads as line-rows-reads
 use Rattle.service.proofs.walk.counts_after.Reads as counts-after-reads
 use Rattle.service.proofs.walk.take_place.Reads as take-place-reads
 use Rattle.text.proofs.line_end.Reads as line-end-reads
