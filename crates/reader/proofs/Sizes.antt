@@ -31,7 +31,7 @@ use Rattle.text.specs.Word.{wordOf}
 use Rattle.text.specs.declared.Word.{Word}
 use Rattle.text.specs.declared.Word.the-variants.{Field, In, Span, Sum, Relu, Which, Max, Root}
 use Rattle.reader.specs.Told.{lineWith}
-use Rattle.reader.specs.Size.{counted, Adds}
+use Rattle.reader.specs.Size.{counted, Adds, FewCounts}
 use Rattle.reader.specs.declared.state.Counts.{Counts}
 
 -- ---- rows
@@ -175,10 +175,10 @@ abbrev pub Sizes : Word → List ℤ → Counts → Type 0
 Sizes v numbers c = (
     (n count : ℕ) (s : Known) → isCount (wordOf v) count ≡ true → Keeps n s (lineWith (wordOf v) (take count numbers))
     → Adds s (lineWith (wordOf v) (take count numbers)) c
-    ) × ((c .values ≤ 1) × (c .inputs ≤ 1) × (c .cells ≤ 126) × (c .rows ≤ 129))
+    ) × FewCounts c
 
 few : {c : Counts} (values inputs cells rows : ℕ) → c ≡ counted values inputs cells rows → values ≤ 1 → inputs ≤ 1 → cells ≤ 126 → rows ≤ 129
-    → (c .values ≤ 1) × (c .inputs ≤ 1) × (c .cells ≤ 126) × (c .rows ≤ 129)
+    → FewCounts c
 unfolding counted
 few values inputs cells rows e v i k r = rw e (v, i, k, r)
 

@@ -2,6 +2,7 @@
 use mathlib.Core.Path.{_≡_, refl, sym, ap, ap₂, _∙_, subst}
 use mathlib.Core.Bool.{Bool, true, false, _&&_}
 use mathlib.Core.List.{List, [], _∷_, _++_}
+use mathlib.Core.Logic.{⊎-elim}
 use mathlib.Core.Option.{none, some}
 use Prim.Native.Nat.{ℕ, zero, suc, _+_, _*_, _%_, _≤_, _<_}
 use native.Mathlib.Omega.{arith}
@@ -36,14 +37,17 @@ use Rattle.meaning.specs.Refusal.{all, onSome, isMade, isField, isPlaced, isDig
 use Rattle.meaning.proofs.Kept.{Keeps, keeps-all}
 use Rattle.text.specs.Word.{wordOf}
 use Rattle.text.specs.declared.Word.{Word}
-use Rattle.text.specs.declared.Word.the-variants.{Field, Sum}
+use Rattle.text.specs.declared.Word.the-variants.{Field, In, Span, Sum, Relu, Which, Max, Root}
+use Rattle.text.proofs.Word.{the-type}
+use types.Run.{OneOf}
+use denote.Enum.Declared.{tagOf}
 use Rattle.reader.specs.State.{greatest, Small, Seen, stateOf}
-use Rattle.reader.specs.Told.{makes, toldOf, spanTold, lineWith}
+use Rattle.reader.specs.Told.{Told, refuses, toldOf, toldBy, lineTold, lineWith}
+use Rattle.reader.specs.Size.{Adds}
 use Rattle.reader.specs.Step.{Step, stops, Grows, stepOf, stepOption, stepBytes, stepSeen}
 use Rattle.reader.specs.declared.state.Counts.{Counts}
 use Rattle.reader.specs.declared.state.Stepped.{Stepped}
 use Rattle.reader.specs.declared.state.Stepped.the-variants.{Refused}
-use Rattle.reader.proofs.Growth.{told-made}
 use Rattle.reader.proofs.Sizes.{length-groupRows, length-signRows, two-groups, four-groups, count-low}
 
 -- ---- the arguments of a line's reader
@@ -60,74 +64,69 @@ seen-state p c lows highs places is = record {
 pub fewer : {n m : ℕ} (zs : List ℤ) → m ≡ n → Small m zs → Small n zs
 fewer zs e h = λ i l. h i (omega (arith, e))
 
--- a number that was read fits a machine word
-pub number-fits : {n : ℕ} (zs : List ℤ) → Small n zs → (i : ℕ) → i < n → SFits w64 (getD zs i (pos 0))
-unfolding greatest
-number-fits zs h i l =
-    let z : ℤ = getD zs i (pos 0) in
-    parts-fit z (omega (arith, h i l, natAbs-parts z)) (omega (arith, h i l, natAbs-parts z))
-
 -- the line that was read is the line with this word and this count
-pub at-word : {v w : Word} {n m : ℕ} (s : Known) (numbers : List ℤ) (x : Step) → v ≡ w → m ≡ n
-    → x ≡ stepOf s (lineWith (wordOf w) (take n numbers)) → x ≡ stepOf s (lineWith (wordOf v) (take m numbers))
-at-word s numbers x q e h = h ∙ ap₂ (λ (u : Word) (i : ℕ). stepOf s (lineWith (wordOf u) (take i numbers))) (sym q) (sym e)
+pub at-word : {v w : Word} {n m : ℕ} (s : Known) (numbers : List ℤ) (x : Told) → v ≡ w → m ≡ n
+    → x ≡ lineTold s (lineWith (wordOf w) (take n numbers)) → x ≡ lineTold s (lineWith (wordOf v) (take m numbers))
+at-word s numbers x q e h = h ∙ ap₂ (λ (u : Word) (i : ℕ). lineTold s (lineWith (wordOf u) (take i numbers))) (sym q) (sym e)
 
 -- ---- a field line that comes later
 
-pub field-later : {v : Word} (s : Known) (ns : List ℤ) → v ≡ Field → stops 4 ≡ stepOf s (lineWith (wordOf v) ns)
-unfolding stepOf rules rulesWithin firstBroken onSome isPlaced isField wordOf
+pub field-later : {v : Word} (s : Known) (ns : List ℤ) → v ≡ Field → refuses 4 ≡ lineTold s (lineWith (wordOf v) ns)
+unfolding lineTold toldBy toldOf rules rulesWithin firstBroken onSome isPlaced isField wordOf
 field-later s ns q = rw q refl
 
--- ---- how many cells and rows
+-- ---- the lines that narrow no ends
 
-module _ (s : Known) where
-  pub grows-input : Grows s (lineWith input []) 1 1 0
-  unfolding gadget byWord inputLine after primeAfter
-  grows-input = record { narrowed-is = refl; inputs-are = refl; cells-are = refl; rows-are = refl; prime-is = refl }
+abbrev pub NotSpan : Meant → Type 0
+NotSpan field = Unit {0}
+NotSpan input = Unit {0}
+NotSpan span = ⊥
+NotSpan sum = Unit {0}
+NotSpan relu = Unit {0}
+NotSpan which = Unit {0}
+NotSpan max = Unit {0}
+NotSpan root = Unit {0}
 
-  pub grows-sum : (ns : List ℤ) → Grows s (lineWith sum ns) 0 1 1
-  unfolding gadget byWord sumLine after primeAfter
-  grows-sum ns = record { narrowed-is = refl; inputs-are = refl; cells-are = refl; rows-are = refl; prime-is = refl }
+-- a word with any other position than that of `span`
+pub not-span : (v : Word) → OneOf (0 ∷ 1 ∷ 3 ∷ 4 ∷ 5 ∷ 6 ∷ 7 ∷ []) (tagOf the-type v) → NotSpan (wordOf v)
+unfolding wordOf
+not-span Field h = tt
+not-span In h = tt
+not-span Span h =
+    ⊎-elim (λ e. omega (arith, e))
+    (⊎-elim (λ e. omega (arith, e))
+    (⊎-elim (λ e. omega (arith, e))
+    (⊎-elim (λ e. omega (arith, e))
+    (⊎-elim (λ e. omega (arith, e))
+    (⊎-elim (λ e. omega (arith, e)) (λ e. omega (arith, e))))))) h
+not-span Sum h = tt
+not-span Relu h = tt
+not-span Which h = tt
+not-span Max h = tt
+not-span Root h = tt
 
-  pub grows-relu : (ns : List ℤ) (r : ℕ) → sizeAt ns 2 ≡ r → Grows s (lineWith relu ns) 0 (r + 3) (r + 5)
-  unfolding gadget byWord reluLine after primeAfter
-  grows-relu ns r e = record {
-    narrowed-is = refl;
-    inputs-are = refl;
-    cells-are = ap (λ (k : ℕ). k + 3) e;
-    rows-are = length-signRows _ _ _ (sizeAt ns 2) _ ∙ ap (λ (k : ℕ). k + 5) e;
-    prime-is = refl;
-  }
+pub told-by-word : (s : Known) (w : Meant) (ns : List ℤ) → NotSpan w → lineTold s (lineWith w ns) ≡ toldOf s (lineWith w ns)
+unfolding lineTold toldBy
+told-by-word s field ns h = refl
+told-by-word s input ns h = refl
+told-by-word s span ns h = absurd h
+told-by-word s sum ns h = refl
+told-by-word s relu ns h = refl
+told-by-word s which ns h = refl
+told-by-word s max ns h = refl
+told-by-word s root ns h = refl
 
-  pub grows-which : (ns : List ℤ) (r : ℕ) → sizeAt ns 3 ≡ r → Grows s (lineWith which ns) 0 (r + 3) (r + 5)
-  unfolding gadget byWord whichLine after primeAfter
-  grows-which ns r e = record {
-    narrowed-is = refl;
-    inputs-are = refl;
-    cells-are = ap (λ (k : ℕ). k + 3) e;
-    rows-are = length-signRows _ _ _ (sizeAt ns 3) _ ∙ ap (λ (k : ℕ). k + 5) e;
-    prime-is = refl;
-  }
-
-  pub grows-max : (ns : List ℤ) (r : ℕ) → sizeAt ns 3 ≡ r → Grows s (lineWith max ns) 0 (2 * r + 1) (2 * r + 3)
-  unfolding gadget byWord maxLine after primeAfter
-  grows-max ns r e = record {
-    narrowed-is = refl;
-    inputs-are = refl;
-    cells-are = omega (arith, e);
-    rows-are = two-groups _ _ (pos 0) _ _ (sizeAt ns 2) (sizeAt ns 3) ∙ ap (λ (k : ℕ). 2 * k + 3) e;
-    prime-is = refl;
-  }
-
-  pub grows-root : (ns : List ℤ) (r : ℕ) → sizeAt ns 2 ≡ r → Grows s (lineWith root ns) 0 (4 * r + 2) (4 * r + 5)
-  unfolding gadget byWord rootLine after primeAfter
-  grows-root ns r e = record {
-    narrowed-is = refl;
-    inputs-are = refl;
-    cells-are = omega (arith, e);
-    rows-are = four-groups _ _ _ _ (pos 0) _ _ _ _ (sizeAt ns 1) (sizeAt ns 2) ∙ ap (λ (k : ℕ). 4 * k + 5) e;
-    prime-is = refl;
-  }
+pub grows-by-word : (s : Known) (size : Counts) (w : Meant) (ns : List ℤ) → NotSpan w → Keeps 1 s (lineWith w ns) → Adds s (lineWith w ns) size
+    → Grows s (lineWith w ns) size
+unfolding gadget byWord inputLine sumLine reluLine whichLine maxLine rootLine after primeAfter isPlaced isField
+grows-by-word s size field ns h k a = absurd (k .placed)
+grows-by-word s size input ns h k a = record { adds = a; narrowed-is = refl; prime-is = refl }
+grows-by-word s size span ns h k a = absurd h
+grows-by-word s size sum ns h k a = record { adds = a; narrowed-is = refl; prime-is = refl }
+grows-by-word s size relu ns h k a = record { adds = a; narrowed-is = refl; prime-is = refl }
+grows-by-word s size which ns h k a = record { adds = a; narrowed-is = refl; prime-is = refl }
+grows-by-word s size max ns h k a = record { adds = a; narrowed-is = refl; prime-is = refl }
+grows-by-word s size root ns h k a = record { adds = a; narrowed-is = refl; prime-is = refl }
 
 -- ---- a sum, whose count is odd; a span, which names a value
 
@@ -137,9 +136,9 @@ sum-count q m e =
     let counted : isCount sum m ≡ true = ap (λ (u : Word). isCount (wordOf u) m) (sym q) ∙ e in
     eqb→eq (m % 2) 1 (left (eqb (m % 2) 1) (leb m 33) (≡-test (isCount sum m) counted))
 
-pub span-kept : (s : Known) (ns : List ℤ) (es : List Ends) → makes es ≡ spanTold s (lineWith span ns) → Keeps 1 s (lineWith span ns)
-unfolding spanTold
-span-kept s ns es e = keeps-all 1 s (lineWith span ns) (told-made (firstBroken rules 1 s (lineWith span ns)) _ es e .0)
+pub span-word : {v : Word} → v ≡ Span → wordOf v ≡ span
+unfolding wordOf
+span-word q = rw q refl
 
 pub name-counted : {m : ℕ} (s : Known) (numbers : List ℤ) (n r : ℕ) → 0 < n → (pos 0 ≤ℤ getD numbers 0 (pos 0) → r ≡ natAbs (getD numbers 0 (pos 0)))
     → Keeps m s (lineWith span (take n numbers)) → sizeAt (take n numbers) 0 ≡ r
