@@ -23,6 +23,7 @@ use Rattle.reader.specs.declared.rule.Made.the-variants.{EndsOf, Breaks}
 use Rattle.reader.specs.declared.state.Counts.{Counts}
 use Rattle.reader.specs.declared.state.Stepped.{Stepped}
 use Rattle.reader.specs.declared.state.Stepped.the-variants.{Next, Refused}
+use Rattle.reader.proofs.Values.{known-long}
 
 -- ---- what is told, taken apart
 
@@ -77,12 +78,6 @@ ends-append [] (y ∷ ys) us vs h = absurd (omega arith)
 ends-append (x ∷ xs) [] us vs h = absurd (omega arith)
 ends-append (x ∷ xs) (y ∷ ys) us vs h = ap (λ (es : List Ends). ends x y ∷ es) (ends-append xs ys us vs (omega arith))
 
-pub length-ends : (xs ys : List ℤ) → length xs ≡ length ys → length (endsFrom xs ys) ≡ length xs
-unfolding endsFrom
-length-ends [] ys h = refl
-length-ends (x ∷ xs) [] h = absurd (omega arith)
-length-ends (x ∷ xs) (y ∷ ys) h = ap suc (length-ends xs ys (omega arith))
-
 module _ (n : ℕ) (lows highs : List ℤ) (a b : ℤ) (in-lows : n < length lows) (in-highs : n < length highs) where
   ends-grown : endsFrom (take (n + 1) (set lows n a)) (take (n + 1) (set highs n b)) ≡ endsFrom (take n lows) (take n highs) ++ ends a b ∷ []
   unfolding endsFrom
@@ -100,11 +95,8 @@ pub values-are : {s : Known} {c : Counts} (p : ℕ) (lows highs : List ℤ) (pla
     → Sized c (length lows) (length highs) (length places) → length (s .known) ≡ c .values
 unfolding stateOf
 values-are {s} {c} p lows highs places is sized =
-    let h : c .values ≤ length lows = omega (arith, sized .values-most, sized .lows-long) in
-    let k : c .values ≤ length highs = omega (arith, sized .values-most, sized .highs-long) in
-    ap (λ (q : Known). length (q .known)) is
-    ∙ length-ends (take (c .values) lows) (take (c .values) highs) (length-take-le (c .values) lows h ∙ sym (length-take-le (c .values) highs k))
-    ∙ length-take-le (c .values) lows h
+    known-long s (c .values) lows highs (ap (λ (q : Known). q .known) is) (omega (arith, sized .values-most, sized .lows-long))
+    (omega (arith, sized .values-most, sized .highs-long))
 
 -- ---- the ways out of taking in a line
 

@@ -18,11 +18,17 @@ use Rattle.reader.specs.Rule.{endsSeen, EndsRead, Sized, Apart, Above, F
 use Rattle.reader.specs.declared.rule.Ends.{Ends as ReadEnds}
 use Rattle.reader.proofs.Tests.{made-name}
 
-ends-length : (lows highs : List ℤ) → length lows ≡ length highs → length (endsFrom lows highs) ≡ length lows
+pub ends-length : (lows highs : List ℤ) → length lows ≡ length highs → length (endsFrom lows highs) ≡ length lows
 unfolding endsFrom
 ends-length [] highs e = refl
 ends-length (l ∷ ls) [] e = absurd (omega arith)
 ends-length (l ∷ ls) (h ∷ hs) e = ap suc (ends-length ls hs (omega arith))
+
+-- as many values are known as the first ends of the arrays are
+pub known-long : (s : Known) (values : ℕ) (lows highs : List ℤ) → s .known ≡ endsFrom (take values lows) (take values highs) → values ≤ length lows
+    → values ≤ length highs → length (s .known) ≡ values
+known-long s values lows highs is h k =
+    rw is (ends-length (take values lows) (take values highs) (length-take-le values lows h ∙ sym (length-take-le values highs k)) ∙ length-take-le values lows h)
 
 ends-at : (lows highs : List ℤ) (d : Ends) (i : ℕ) → i < length lows → i < length highs
     → getD (endsFrom lows highs) i d ≡ ends (getD lows i (pos 0)) (getD highs i (pos 0))
@@ -33,15 +39,21 @@ ends-at (l ∷ ls) (g ∷ gs) d zero h k = refl
 ends-at (l ∷ ls) (g ∷ gs) d (suc i) h k = ends-at ls gs d i (omega arith) (omega arith)
 
 module _ {p values cells : ℕ} {lows highs : List ℤ} (ready : Ready p values cells lows highs) where
+  pub ready-lows : values ≤ length lows
+  ready-lows = omega (arith, ready .lows-long, ready .values-most)
+
+  pub ready-highs : values ≤ length highs
+  ready-highs = omega (arith, ready .highs-long, ready .values-most)
+
   low-count : length (take values lows) ≡ values
-  low-count = length-take-le values lows (omega (arith, ready .lows-long, ready .values-most))
+  low-count = length-take-le values lows ready-lows
 
   high-count : length (take values highs) ≡ values
-  high-count = length-take-le values highs (omega (arith, ready .highs-long, ready .values-most))
+  high-count = length-take-le values highs ready-highs
 
   module _ {s : Known} (seen : Seen s p values cells lows highs) where
     pub known-count : length (s .known) ≡ values
-    known-count = rw (seen .known) (ends-length (take values lows) (take values highs) (low-count ∙ sym high-count) ∙ low-count)
+    known-count = known-long s values lows highs (seen .known) ready-lows ready-highs
 
     pub known-ends : (v : ℕ) → v < values → endsOf s v ≡ ends (getD lows v (pos 0)) (getD highs v (pos 0))
     unfolding endsOf
@@ -73,12 +85,6 @@ module _ {p values cells : ℕ} {lows highs : List ℤ} (ready : Ready p values 
 
   pub ready-field : Field p
   ready-field = record { three = ready .p-low; most = ready .p-high }
-
-  pub ready-lows : values ≤ length lows
-  ready-lows = omega (arith, ready .lows-long, ready .values-most)
-
-  pub ready-highs : values ≤ length highs
-  ready-highs = omega (arith, ready .highs-long, ready .values-most)
 
 -- as those of a difference are
 pub sized-more : {e : ReadEnds} → Sized 2147483647 e → Sized 4294967294 e

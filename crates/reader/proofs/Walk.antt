@@ -33,7 +33,7 @@ use Rattle.reader.specs.Read.{only, replyOf}
 use Rattle.reader.specs.declared.state.Counts.{Counts}
 use Rattle.reader.specs.declared.state.Stepped.{Stepped}
 use Rattle.reader.specs.declared.state.Stepped.the-variants.{Next, Refused}
-use Rattle.reader.proofs.Growth.{length-ends}
+use Rattle.reader.proofs.Values.{known-long}
 use Rattle.reader.proofs.Ordered.{Ordered, ordered-after}
 use Rattle.reader.proofs.Steps.{few}
 use Rattle.reader.proofs.Stopping.{stopped-at, gone-at, step-later}
@@ -78,7 +78,7 @@ module _ (p : ℕ) (c : Counts) (lows highs : List ℤ) (places : List ℕ) (siz
 
   pub known-count : length (state .known) ≡ c .values
   unfolding stateOf
-  known-count = length-ends (take (c .values) lows) (take (c .values) highs) same-length ∙ length-take-le (c .values) lows low-enough
+  known-count = known-long state (c .values) lows highs refl low-enough high-enough
 
   pub walk-ready : (n : ℕ) → 1 ≤ n → p ≤ greatest → Sound n state → Ordered (state .known) → Ready p (c .values) (c .cells) lows highs
   unfolding stateOf
@@ -99,9 +99,7 @@ module _ (p : ℕ) (c : Counts) (lows highs : List ℤ) (places : List ℕ) (siz
 count-of : (p : ℕ) (c : Counts) (lows highs : List ℤ) → length lows ≡ 256 → length highs ≡ 256 → (places : List ℕ) → c .values ≤ 256
     → length (stateOf p c lows highs places .known) ≡ c .values
 unfolding stateOf
-count-of p c lows highs l m places h =
-    let a = length-take-le (c .values) lows (omega (arith, l)) in
-    length-ends (take (c .values) lows) (take (c .values) highs) (a ∙ sym (length-take-le (c .values) highs (omega (arith, m)))) ∙ a
+count-of p c lows highs l m places h = known-long (stateOf p c lows highs places) (c .values) lows highs refl (omega (arith, l)) (omega (arith, m))
 
 -- ---- the walk
 
