@@ -3,11 +3,11 @@
 use mathlib.Core.Path.{_≡_, refl, sym, ap, ap₂, _∙_, subst}
 use mathlib.Core.List.{List, [], _∷_, _++_}
 use mathlib.Core.Option.{Option, none, some}
-use Prim.Native.Nat.{ℕ, zero, suc, _+_, _≤_, _<_}
+use Prim.Native.Nat.{ℕ, _+_, _<_}
 use native.Mathlib.Omega.{arith}
 use native.Mathlib.Numerals.{add-one}
 use lib.Dec.{leb→le}
-use lib.ListN.{length, getD, take, set}
+use lib.ListN.{length, take, set}
 use lib.Seq.{take-suc-set, length-take-le}
 use lib.IntN.{ℤ}
 use Rattle.meaning.specs.Line.{Line}
@@ -17,11 +17,10 @@ use Rattle.meaning.specs.Refusal.{valueLimit, onSome, rules, firstBroken}
 use Rattle.meaning.proofs.Kept.{Keeps, keeps-all}
 use Rattle.reader.specs.State.{endsFrom, stateOf}
 use Rattle.reader.specs.Told.{Told, refuses, makes, toldOf, madeSeen}
-use Rattle.reader.specs.Step.{Step, stops, goes, stepOf, stepSeen, Sized, Grows}
+use Rattle.reader.specs.Step.{stops, goes, stepOf, stepSeen, WithinLimits, Grows}
 use Rattle.reader.specs.declared.rule.Made.{Made}
 use Rattle.reader.specs.declared.rule.Made.the-variants.{EndsOf, Breaks}
 use Rattle.reader.specs.declared.state.Counts.{Counts}
-use Rattle.reader.specs.declared.state.Stepped.{Stepped}
 use Rattle.reader.specs.declared.state.Stepped.the-variants.{Next, Refused}
 use Rattle.reader.proofs.Values.{known-long}
 
@@ -92,7 +91,7 @@ same-state e f g h k m = λ i. record { p = e i; known = f i; places = g i; inpu
 
 -- as many values are known as the code counts
 pub values-are : {s : Known} {c : Counts} (p : ℕ) (lows highs : List ℤ) (places : List ℕ) → s ≡ stateOf p c lows highs places
-    → Sized c (length lows) (length highs) (length places) → length (s .known) ≡ c .values
+    → WithinLimits c (length lows) (length highs) (length places) → length (s .known) ≡ c .values
 unfolding stateOf
 values-are {s} {c} p lows highs places is sized =
     known-long s (c .values) lows highs (ap (λ (q : Known). q .known) is) (omega (arith, sized .values-most, sized .lows-long))
@@ -101,7 +100,7 @@ values-are {s} {c} p lows highs places is sized =
 -- ---- the ways out of taking in a line
 
 module _ (p : ℕ) (s : Known) (l : Line) (c : Counts) (lows highs : List ℤ) (places : List ℕ) (is : s ≡ stateOf p c lows highs places)
-    (sized : Sized c (length lows) (length highs) (length places)) (made : Made) (e : madeSeen made ≡ toldOf s l) where
+    (sized : WithinLimits c (length lows) (length highs) (length places)) (made : Made) (e : madeSeen made ≡ toldOf s l) where
   -- a line that is refused
   pub grown-refused : (n : ℕ) (ls hs : List ℤ) (ps : List ℕ) → made ≡ Breaks n → stepSeen p (Refused n) ls hs ps ≡ stepOf s l
   unfolding stepSeen madeSeen

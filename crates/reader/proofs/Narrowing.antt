@@ -1,30 +1,27 @@
 -- A span line's answer taken into the arrays: the value that it names has the answer's ends in the state after the line.
-use mathlib.Core.Path.{_≡_, refl, sym, ap, ap₂, _∙_, subst}
-use mathlib.Core.List.{List, [], _∷_, _++_, append-nil}
-use mathlib.Core.Option.{Option, none, some}
+use mathlib.Core.Path.{_≡_, refl, sym, ap, ap₂, _∙_}
+use mathlib.Core.List.{List, [], _∷_, append-nil}
+use mathlib.Core.Option.{none}
 use Prim.Native.Nat.{ℕ, zero, suc, _+_, _≤_, _<_}
 use native.Mathlib.Omega.{arith}
-use native.Mathlib.Numerals.{add-one}
 use native.Mathlib.Nat.{add-zero}
-use lib.ListN.{length, getD, take, set, length-append}
+use lib.ListN.{length, getD, take, set}
 use lib.Seq.{take-set-lt, length-take-le}
-use lib.IntN.{ℤ, natAbs}
+use lib.IntN.{ℤ}
 use Rattle.meaning.specs.Line.{Line, span, sizeAt, numberAt, namesOf}
-use Rattle.meaning.specs.Known.{Ends, ends, Known, endsOf, placeOf}
-use Rattle.meaning.specs.Row.{Row, Form, cell, digitRows, group}
+use Rattle.meaning.specs.Known.{Ends, ends, Known, endsOf}
 use Rattle.meaning.specs.Gadget.Span.{shared, spanLine}
 use Rattle.meaning.specs.Meaning.{byWord, gadget, placesFrom, primeAfter, after}
-use Rattle.meaning.specs.Refusal.{onSome, rules, firstBroken}
+use Rattle.meaning.specs.Refusal.{rules, firstBroken}
 use Rattle.meaning.proofs.Kept.{Keeps, keeps-all}
 use Rattle.meaning.proofs.Lines.{first-named}
 use Rattle.reader.specs.State.{endsFrom, stateOf}
-use Rattle.reader.specs.Told.{Told, refuses, makes, spanTold, madeSeen, lineWith}
+use Rattle.reader.specs.Told.{spanTold, madeSeen, lineWith}
 use Rattle.reader.specs.Size.{Adds}
-use Rattle.reader.specs.Step.{Step, stops, goes, stepOf, stepSeen, Sized}
+use Rattle.reader.specs.Step.{goes, stepOf, stepSeen, WithinLimits}
 use Rattle.reader.specs.declared.rule.Made.{Made}
 use Rattle.reader.specs.declared.rule.Made.the-variants.{EndsOf, Breaks}
 use Rattle.reader.specs.declared.state.Counts.{Counts}
-use Rattle.reader.specs.declared.state.Stepped.{Stepped}
 use Rattle.reader.specs.declared.state.Stepped.the-variants.{Next, Refused}
 use Rattle.reader.proofs.Growth.{told-refused, told-made, kept-step, values-are, same-state}
 
@@ -37,7 +34,7 @@ ends-set (x ∷ xs) (y ∷ ys) zero a b h = refl
 ends-set (x ∷ xs) (y ∷ ys) (suc i) a b h = ap (λ (es : List Ends). ends x y ∷ es) (ends-set xs ys i a b (omega arith))
 
 module _ (p : ℕ) (s : Known) (ns : List ℤ) (c : Counts) (lows highs : List ℤ) (places : List ℕ) (is : s ≡ stateOf p c lows highs places)
-    (sized : Sized c (length lows) (length highs) (length places)) (made : Made) (e : madeSeen made ≡ spanTold s (lineWith span ns)) where
+    (sized : WithinLimits c (length lows) (length highs) (length places)) (made : Made) (e : madeSeen made ≡ spanTold s (lineWith span ns)) where
   abbrev line : Line
   line = lineWith span ns
 

@@ -1,28 +1,22 @@
 -- Each kind of line, stepped over: what its reader answers, and how many cells and rows it has, make what the definitions say of it.
-use mathlib.Core.Path.{_≡_, refl, sym, ap, ap₂, _∙_, subst}
-use mathlib.Core.Bool.{Bool, true, false, _&&_}
-use mathlib.Core.List.{List, [], _∷_, _++_}
+use mathlib.Core.Path.{_≡_, refl, sym, ap, ap₂, _∙_}
+use mathlib.Core.Bool.{true, _&&_}
+use mathlib.Core.List.{List, [], _∷_}
 use mathlib.Core.Logic.{⊎-elim}
 use mathlib.Core.Option.{none, some}
-use Prim.Native.Nat.{ℕ, zero, suc, _+_, _*_, _%_, _≤_, _<_}
+use Prim.Native.Nat.{ℕ, _*_, _%_, _≤_, _<_}
 use native.Mathlib.Omega.{arith}
 use lib.Dec.{T, eqb, leb, ltb, eqb→eq}
-use lib.ListN.{length, getD, take, length-append, length-set}
+use lib.ListN.{length, getD, take, length-set}
 use lib.Seq.{getD-take}
 use lib.IntN.{ℤ, pos, negsuc, natAbs}
-use lib.Signed.{_≤ℤ_, leZ, nonNeg}
+use lib.Signed.{_≤ℤ_, nonNeg}
 use Rattle.algebra.proofs.Integer.Linear.{linear}
-use mir.Syntax.{w64}
-use mir.Val.{SFits}
-use Rattle.number.proofs.Word.{parts-fit}
 use Rattle.algebra.proofs.Integer.Order.{natAbs-parts}
-use Rattle.algebra.proofs.Test.{left, right, ≡-test}
-use Rattle.meaning.specs.Number.{inRange}
-use Rattle.meaning.specs.Line.{field, input, span, sum, relu, which, max, root, Line, lineOf, isCount, numberAt, sizeAt, shiftsOf, coefficientsOf, Digits, digitsAt, digitsOf, namesOf}
+use Rattle.algebra.proofs.Test.{left, ≡-test}
+use Rattle.meaning.specs.Line.{field, input, span, sum, relu, which, max, root, Line, lineOf, isCount, numberAt, sizeAt, digitsOf, namesOf}
 use Rattle.meaning.specs.Line.{Word as Meant}
-use Rattle.meaning.specs.Known.{Ends, Known, placeOf}
-use Rattle.meaning.specs.Row.{Row, Form, cell, group}
-use Rattle.meaning.specs.Gadget.Sign.{signRows, signShift}
+use Rattle.meaning.specs.Known.{Known}
 use Rattle.meaning.specs.Gadget.Interface.{Gadget}
 use Rattle.meaning.specs.Gadget.Field.{fieldLine}
 use Rattle.meaning.specs.Gadget.Input.{inputLine}
@@ -33,21 +27,19 @@ use Rattle.meaning.specs.Gadget.Which.{whichLine}
 use Rattle.meaning.specs.Gadget.Max.{maxLine}
 use Rattle.meaning.specs.Gadget.Root.{rootLine}
 use Rattle.meaning.specs.Meaning.{byWord, gadget, primeAfter, after}
-use Rattle.meaning.specs.Refusal.{all, onSome, isMade, isField, isPlaced, isDigits, isRanged, rulesWithin, rules, firstBroken}
-use Rattle.meaning.proofs.Kept.{Keeps, keeps-all}
+use Rattle.meaning.specs.Refusal.{all, onSome, isMade, isField, isPlaced, rulesWithin, rules, firstBroken}
+use Rattle.meaning.proofs.Kept.{Keeps}
 use Rattle.text.specs.Word.{wordOf}
 use Rattle.text.specs.declared.Word.{Word}
 use Rattle.text.specs.declared.Word.the-variants.{Field, In, Span, Sum, Relu, Which, Max, Root}
 use Rattle.text.proofs.Word.{the-type}
 use types.Run.{OneOf}
 use denote.Enum.Declared.{tagOf}
-use Rattle.reader.specs.State.{greatest, Small, Seen, stateOf}
+use Rattle.reader.specs.State.{Small, Seen, stateOf}
 use Rattle.reader.specs.Told.{Told, refuses, toldOf, toldBy, lineTold, lineWith}
 use Rattle.reader.specs.Size.{Adds}
-use Rattle.reader.specs.Step.{Step, stops, Grows, stepOf, stepOption, stepBytes, stepSeen}
+use Rattle.reader.specs.Step.{Step, stops, Grows, stepOf, stepOption, stepBytes}
 use Rattle.reader.specs.declared.state.Counts.{Counts}
-use Rattle.reader.specs.declared.state.Stepped.{Stepped}
-use Rattle.reader.specs.declared.state.Stepped.the-variants.{Refused}
 use Rattle.reader.proofs.Sizes.{length-groupRows, length-signRows, two-groups, four-groups, count-low}
 
 -- ---- the arguments of a line's reader

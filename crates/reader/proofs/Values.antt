@@ -14,7 +14,7 @@ use Rattle.meaning.specs.Refusal.{isMade}
 use Rattle.number.specs.Bounded.{Bounded}
 use Rattle.number.proofs.Bounded.{bounded-more}
 use Rattle.reader.specs.State.{endsFrom, greatest, Ready, Seen}
-use Rattle.reader.specs.Rule.{endsSeen, EndsRead, Sized, Apart, Above, Field}
+use Rattle.reader.specs.Rule.{endsSeen, EndsRead, BoundedEnds, Apart, Above, Field}
 use Rattle.reader.specs.declared.rule.Ends.{Ends as ReadEnds}
 use Rattle.reader.proofs.Tests.{made-name}
 
@@ -77,7 +77,7 @@ module _ {p values cells : ℕ} {lows highs : List ℤ} (ready : Ready p values 
   high-small : {z : ℤ} {e : ReadEnds} → isMade values z ≡ true → EndsRead lows highs z e → Bounded greatest (e .high)
   high-small {z} made read = record { size = rw (read .high-read) (ready .highs-small (natAbs z) (made-name values z made .below)) }
 
-  pub read-sized : {z : ℤ} {e : ReadEnds} → isMade values z ≡ true → EndsRead lows highs z e → Sized 2147483647 e
+  pub read-sized : {z : ℤ} {e : ReadEnds} → isMade values z ≡ true → EndsRead lows highs z e → BoundedEnds 2147483647 e
   unfolding greatest
   read-sized made read = record { low-sized = low-small made read; high-sized = high-small made read }
 
@@ -87,7 +87,7 @@ module _ {p values cells : ℕ} {lows highs : List ℤ} (ready : Ready p values 
   ready-field = record { three = ready .p-low; most = ready .p-high }
 
 -- as those of a difference are
-pub sized-more : {e : ReadEnds} → Sized 2147483647 e → Sized 4294967294 e
+pub sized-more : {e : ReadEnds} → BoundedEnds 2147483647 e → BoundedEnds 4294967294 e
 sized-more small = record {
   low-sized = bounded-more (small .low-sized) (omega arith);
   high-sized = bounded-more (small .high-sized)

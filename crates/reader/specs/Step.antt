@@ -3,7 +3,6 @@ use mathlib.Core.Path.{_≡_}
 use Prim.Native.Nat.{ℕ, _*_, _≤_, _<_}
 use mathlib.Core.List.{List}
 use mathlib.Core.Option.{Option, none, some}
-use lib.ListN.{length}
 use lib.IntN.{ℤ}
 use Rattle.meaning.specs.Line.{Line, lineOf}
 use Rattle.meaning.specs.Known.{Known}
@@ -42,7 +41,7 @@ valuesIn (Next c) = c .values
 valuesIn (Refused n) = 0
 
 -- arrays of 256, and counts that no sum overflows
-pub record Sized (c : Counts) (lows highs places : ℕ) : Type 0 where
+pub record WithinLimits (c : Counts) (lows highs places : ℕ) : Type 0 where
   pub lows-long : lows ≡ 256
   pub highs-long : highs ≡ 256
   pub places-long : places ≡ 256

@@ -12,7 +12,7 @@ ghost use Rattle.meaning.proofs.Kept.{Keeps};
 ghost use Rattle.reader.specs.State.{stateOf};
 ghost use Rattle.reader.specs.Told.{toldOf, spanTold, madeSeen, lineWith};
 ghost use Rattle.reader.specs.Size.{Adds, FewCounts};
-ghost use Rattle.reader.specs.Step.{Grows, Placed, Sized, valuesIn, stepSeen, stepOf};
+ghost use Rattle.reader.specs.Step.{Grows, Placed, WithinLimits, valuesIn, stepSeen, stepOf};
 
 pub struct Counts {
     pub values: usize,
@@ -36,7 +36,7 @@ pub fn grow(
     highs: &mut [i64],
     places: &mut [usize],
 ) -> Stepped
-    requires { ⌜ Sized counts (length (now lows)) (length (now highs)) (length (now places)) × FewCounts size × Placed made (counts .values) ⌝ }
+    requires { ⌜ WithinLimits counts (length (now lows)) (length (now highs)) (length (now places)) × FewCounts size × Placed made (counts .values) ⌝ }
     ensures told { λ r. ⌜ ((p : ℕ) (s : Known) (l : Line) → s ≡ stateOf p counts (now (lows .entry)) (now (highs .entry)) (now (places .entry))
         → (Keeps 1 s l → Grows s l size) → madeSeen made ≡ toldOf s l
         → stepSeen p r (now (lows .exit)) (now (highs .exit)) (now (places .exit)) ≡ stepOf s l) ⌝ }
@@ -70,7 +70,7 @@ pub fn narrow(
     highs: &mut [i64],
     places: &[usize],
 ) -> Stepped
-    requires { ⌜ Sized counts (length (now lows)) (length (now highs)) (length (now places)) × FewCounts size × Placed made at ⌝ }
+    requires { ⌜ WithinLimits counts (length (now lows)) (length (now highs)) (length (now places)) × FewCounts size × Placed made at ⌝ }
     ensures told { λ r. ⌜ ((p : ℕ) (s : Known) (ns : List ℤ) → s ≡ stateOf p counts (now (lows .entry)) (now (highs .entry)) (now (places .entry))
         → (Keeps 1 s (lineWith span ns) → (sizeAt ns 0 ≡ at) × Adds s (lineWith span ns) size)
         → madeSeen made ≡ spanTold s (lineWith span ns)

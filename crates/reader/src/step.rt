@@ -26,7 +26,7 @@ ghost use Rattle.meaning.specs.Known.{Known};
 ghost use Rattle.text.specs.Word.{wordOf};
 ghost use Rattle.reader.specs.State.{Small, Ready, Seen, stateOf};
 ghost use Rattle.reader.specs.Told.{lineTold, madeSeen, lineWith};
-ghost use Rattle.reader.specs.Step.{Sized, valuesIn, stepSeen, stepOf, stepBytes};
+ghost use Rattle.reader.specs.Step.{WithinLimits, valuesIn, stepSeen, stepOf, stepBytes};
 
 // The ends of the value that a line makes, or narrows, or the number of the first rule that it breaks.
 fn read_ends(
@@ -67,7 +67,7 @@ pub fn step(
     highs: &mut [i64],
     places: &mut [usize],
 ) -> Stepped
-    requires { ⌜ Ready p (counts .values) (counts .cells) (now lows) (now highs) × Sized counts (length (now lows)) (length (now highs)) (length (now places))
+    requires { ⌜ Ready p (counts .values) (counts .cells) (now lows) (now highs) × WithinLimits counts (length (now lows)) (length (now highs)) (length (now places))
         × (length (now numbers) ≡ 33) × (isCount (wordOf word) count ≡ true) × (count ≤ 33) × Small count (now numbers) ⌝ }
     ensures told { λ r. ⌜ ((s : Known) → s ≡ stateOf p counts (now (lows .entry)) (now (highs .entry)) (now (places .entry))
         → stepSeen p r (now (lows .exit)) (now (highs .exit)) (now (places .exit)) ≡ stepOf s (lineWith (wordOf word) (take count (now (numbers .entry))))) ⌝ }
@@ -102,7 +102,7 @@ pub fn step_line(
     highs: &mut [i64],
     places: &mut [usize],
 ) -> Stepped
-    requires { ⌜ Ready p (counts .values) (counts .cells) (now lows) (now highs) × Sized counts (length (now lows)) (length (now highs)) (length (now places))
+    requires { ⌜ Ready p (counts .values) (counts .cells) (now lows) (now highs) × WithinLimits counts (length (now lows)) (length (now highs)) (length (now places))
         × (length (now numbers) ≡ 33) ⌝ }
     ensures told { λ r. ⌜ ((s : Known) → s ≡ stateOf p counts (now (lows .entry)) (now (highs .entry)) (now (places .entry))
         → stepSeen p r (now (lows .exit)) (now (highs .exit)) (now (places .exit)) ≡ stepBytes s (now (line .entry))) ⌝ }

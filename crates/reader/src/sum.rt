@@ -24,7 +24,7 @@ ghost use Rattle.meaning.specs.Gadget.Sum.{termsOf, endsInRange};
 ghost use Rattle.number.specs.Bounded.{Bounded};
 ghost use Rattle.reader.specs.State.{Small, Ready, Seen};
 ghost use Rattle.reader.specs.Told.{toldOf, madeSeen, lineWith};
-ghost use Rattle.reader.specs.Rule.{endsSeen, Sized};
+ghost use Rattle.reader.specs.Rule.{endsSeen, BoundedEnds};
 ghost use Rattle.reader.specs.Sum.{sumTold, Scaled, Added};
 
 // c0, then count / 2 pairs of a coefficient and a name.
@@ -129,7 +129,7 @@ fn constant(numbers: &[i64]) -> Ends
 
 // The ends of c times a value.
 fn scaled(c: i64, e: Ends) -> Ends
-    requires { ⌜ Bounded 2147483647 c × Sized 2147483647 e ⌝ }
+    requires { ⌜ Bounded 2147483647 c × BoundedEnds 2147483647 e ⌝ }
     ensures { λ r. ⌜ Scaled c e r ⌝ }
 {
     let one = c * e.low;
@@ -143,7 +143,7 @@ fn scaled(c: i64, e: Ends) -> Ends
 }
 
 fn plus(a: Ends, b: Ends) -> Ends
-    requires { ⌜ Sized 2147483647 a × Sized 4611686014132420609 b ⌝ }
+    requires { ⌜ BoundedEnds 2147483647 a × BoundedEnds 4611686014132420609 b ⌝ }
     ensures { λ r. ⌜ Added a b r ⌝ }
 {
     let low = a.low + b.low;

@@ -8,7 +8,6 @@ use mir.Syntax.{w64}
 use mir.Val.{SFits}
 use Rattle.number.proofs.Word.{back}
 use Rattle.meaning.specs.Line.{isCount}
-use Rattle.meaning.specs.Known.{Known}
 use Rattle.text.specs.Word.{wordOf}
 use Rattle.reader.specs.State.{stateOf}
 use Rattle.reader.specs.Told.{toldBy, lineTold, lineWith}
