@@ -4,6 +4,7 @@ use number::power::Power;
 use number::power::capped_power;
 use number::whole::Whole;
 use number::whole::in_range;
+use number::whole::whole_difference;
 ghost use mathlib.Core.Path.{_≡_};
 ghost use mathlib.Core.Bool.{true, _&&_};
 ghost use mathlib.Core.List.{[], _∷_};
@@ -139,11 +140,11 @@ pub fn apart(u: Ends, v: Ends) -> Ends
     requires { ⌜ BoundedEnds 2147483647 u × BoundedEnds 2147483647 v ⌝ }
     ensures { λ r. ⌜ Apart u v r ⌝ }
 {
-    let low = u.low - v.high;
-    let high = u.high - v.low;
+    let low = whole_difference(Whole(u.low), Whole(v.high));
+    let high = whole_difference(Whole(u.high), Whole(v.low));
     Ends {
-        low: low,
-        high: high,
+        low: low.0,
+        high: high.0,
     }
 }
 
