@@ -81,11 +81,11 @@ module _ (p i : ℕ) (w : Meant) (ns : List ℤ) (is : digitsOf w ns ≡ digitsA
   given = rw is at (left (all isDigits (digitsOf w ns)) (all (inRange p) (shiftsOf w ns))
       (left (all isDigits (digitsOf w ns) && all (inRange p) (shiftsOf w ns)) (all (inRange p) (coefficientsOf w ns)) ranged))
 
-  pub count-low : pos 1 ≤ℤ numberAt ns (suc i)
+  count-low : pos 1 ≤ℤ numberAt ns (suc i)
   unfolding all digitsAt isDigits
   count-low = let g = given in record { le = search (left, right, g) }
 
-  pub count-high : numberAt ns (suc i) ≤ℤ pos 31
+  count-high : numberAt ns (suc i) ≤ℤ pos 31
   unfolding all digitsAt isDigits
   count-high = let g = given in record { le = search (left, right, g) }
 

@@ -12,7 +12,6 @@ use lib.Seq.{getD-take}
 use lib.IntN.{ℤ, pos, negsuc, natAbs}
 use lib.Signed.{_≤ℤ_, nonNeg}
 use Rattle.algebra.proofs.Integer.Linear.{linear}
-use Rattle.algebra.proofs.Integer.Order.{natAbs-parts}
 use Rattle.algebra.proofs.Test.{left, ≡-test}
 use Rattle.meaning.specs.Line.{field, input, span, sum, relu, which, max, root, Line, lineOf, isCount, numberAt, sizeAt, digitsOf, namesOf}
 use Rattle.meaning.specs.Line.{Word as Meant}
@@ -29,6 +28,7 @@ use Rattle.meaning.specs.Gadget.Root.{rootLine}
 use Rattle.meaning.specs.Meaning.{byWord, gadget, primeAfter, after}
 use Rattle.meaning.specs.Refusal.{all, onSome, isMade, isField, isPlaced, rulesWithin, rules, firstBroken}
 use Rattle.meaning.proofs.Kept.{Keeps}
+use Rattle.meaning.proofs.Lines.{digits-ranged}
 use Rattle.text.specs.Word.{wordOf}
 use Rattle.text.specs.declared.Word.{Word}
 use Rattle.text.specs.declared.Word.the-variants.{Field, In, Span, Sum, Relu, Which, Max, Root}
@@ -40,7 +40,7 @@ use Rattle.reader.specs.Told.{Told, refuses, toldOf, toldBy, lineTold, l
 use Rattle.reader.specs.Size.{Adds}
 use Rattle.reader.specs.Step.{Step, stops, Grows, stepOf, stepOption, stepBytes}
 use Rattle.reader.specs.declared.state.Counts.{Counts}
-use Rattle.reader.proofs.Sizes.{length-groupRows, length-signRows, two-groups, four-groups, count-low}
+use Rattle.reader.proofs.Sizes.{length-groupRows, length-signRows, two-groups, four-groups}
 
 -- ---- the arguments of a line's reader
 
@@ -158,9 +158,6 @@ line-step s line e h = rw e h
 
 -- ---- no more inputs than values, at most two rows a cell, and no value lost
 
-size-positive : (z : ℤ) → pos 1 ≤ℤ z → 1 ≤ natAbs z
-size-positive z h = omega (linear, natAbs-parts z)
-
 at-most : {a b c : ℕ} → a ≡ b → b ≤ c → a ≤ c
 at-most e h = omega (arith, e)
 
@@ -173,16 +170,16 @@ module _ (n : ℕ) (s : Known) where
   few-by-word field ns k = (omega arith, omega arith, refl)
   few-by-word input ns k = (omega arith, omega arith, refl)
   few-by-word span ns k =
-      let h = size-positive (numberAt ns 2) (count-low (s .p) 1 span ns refl (k .ranged)) in
+      let h = digits-ranged (s .p) 1 span ns refl (k .ranged) .1 in
       (omega arith, at-most (length-groupRows _ _ _ _ (natAbs (numberAt ns 2))) (omega arith), length-set (s .known) (natAbs (numberAt ns 0)) _)
   few-by-word sum ns k = (omega arith, omega arith, refl)
   few-by-word relu ns k = (omega arith, at-most (length-signRows _ _ _ (natAbs (numberAt ns 2)) _) (omega arith), refl)
   few-by-word which ns k = (omega arith, at-most (length-signRows _ _ _ (natAbs (numberAt ns 3)) _) (omega arith), refl)
   few-by-word max ns k =
-      let h = size-positive (numberAt ns 3) (count-low (s .p) 2 max ns refl (k .ranged)) in
+      let h = digits-ranged (s .p) 2 max ns refl (k .ranged) .1 in
       (omega arith, at-most (two-groups _ _ (pos 0) _ _ _ (natAbs (numberAt ns 3))) (omega arith), refl)
   few-by-word root ns k =
-      let h = size-positive (numberAt ns 2) (count-low (s .p) 1 root ns refl (k .ranged)) in
+      let h = digits-ranged (s .p) 1 root ns refl (k .ranged) .1 in
       (omega arith, at-most (four-groups _ _ _ _ (pos 0) _ _ _ _ _ (natAbs (numberAt ns 2))) (omega arith), refl)
 
 pub few : (n : ℕ) (s : Known) (l : Line) → Keeps n s l → Few s (gadget s l)

@@ -7,9 +7,7 @@ use native.Mathlib.Omega.{arith}
 use lib.ListN.{length, getD, take}
 use lib.Seq.{length-take-le, getD-take}
 use lib.IntN.{ℤ, pos, natAbs}
-use lib.Signed.{leZ}
-use Rattle.algebra.proofs.Test.{cond-cases}
-use Rattle.meaning.specs.Known.{Known, Ends, ends, endsOf, larger, smaller, apart, above}
+use Rattle.meaning.specs.Known.{Known, Ends, ends, endsOf, apart, above}
 use Rattle.meaning.specs.Refusal.{isMade}
 use Rattle.number.specs.Bounded.{Bounded}
 use Rattle.number.proofs.Bounded.{bounded-more}
@@ -104,12 +102,3 @@ module _ {u v r : ReadEnds} where
   pub above-seen : Above u v r → endsSeen r ≡ above (endsSeen u) (endsSeen v)
   unfolding endsSeen above
   above-seen a = rw (a .low-is, a .high-is)
-
-module _ (bound : ℕ) (a b : ℤ) where
-  pub larger-bounded : Bounded bound a → Bounded bound b → Bounded bound (larger a b)
-  unfolding larger
-  larger-bounded s t = cond-cases (Bounded bound) (leZ a b) b a (λ _. t) (λ _. s)
-
-  pub smaller-bounded : Bounded bound a → Bounded bound b → Bounded bound (smaller a b)
-  unfolding smaller
-  smaller-bounded s t = cond-cases (Bounded bound) (leZ a b) a b (λ _. s) (λ _. t)

@@ -6,8 +6,7 @@ use mir.Val.{SFits, toZ, ofZ}
 use Rattle.meaning.specs.Known.{larger, smaller}
 use Rattle.number.specs.Bounded.{Bounded}
 use Rattle.number.proofs.Word.{back}
-use Rattle.number.proofs.Bounded.{bounded-product, product-fits}
-use Rattle.reader.proofs.Values.{larger-bounded, smaller-bounded}
+use Rattle.number.proofs.Bounded.{bounded-product, larger-bounded, smaller-bounded, product-fits}
 use borrow.Author.Needs.{needs}
 use Rattle.reader.proofs.sum.scaled.Statement.{statement}
 use Rattle.reader.proofs.sum.scaled.Tie as tie
@@ -59,8 +58,8 @@ returns c =
     let second : Bounded 4611686014132420609 other = bounded-product (S .pre .0) (S .pre .1 .high-sized) in
     record {
       sized = record {
-        low-sized = rw small (smaller-bounded 4611686014132420609 one other first second);
-        high-sized = rw large (larger-bounded 4611686014132420609 one other first second);
+        low-sized = rw small (smaller-bounded first second);
+        high-sized = rw large (larger-bounded first second);
       };
       low-is = small;
       high-is = large;
