@@ -31,7 +31,7 @@ module _ (p : ℕ) (t : List ℕ) where
       rw (cellsAt-suc t at k (omega arith))
       (λ e. (digit-holds p t at b .0 (e .0), later .0 (e .1)), λ e. (digit-holds p t at b .1 (e .0), later .1 (e .1)))
 
-  places-value : (w at b k : ℕ) → at + k ≤ length t → eval t (placeValues w at b k) ≡ pos (w * value b (cellsAt t at k))
+  pub places-value : (w at b k : ℕ) → at + k ≤ length t → eval t (placeValues w at b k) ≡ pos (w * value b (cellsAt t at k))
   unfolding placeValues eval value
   places-value w at b zero h = rw (cellsAt-zero t at, mul-zero) refl
   places-value w at b (suc k) h =

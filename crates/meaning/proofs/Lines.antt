@@ -42,7 +42,7 @@ pub record Sound (n : ℕ) (s : Known) : Type 0 where
 
 -- ---- what the rules say of a line's numbers
 
-made-name : (n : ℕ) (v : ℤ) → T (isMade n v) → natAbs v < n
+pub made-name : (n : ℕ) (v : ℤ) → T (isMade n v) → natAbs v < n
 unfolding isMade
 made-name n v t = ltb→lt (natAbs v) n (right (nonNeg v) (ltb (natAbs v) n) t)
 
@@ -51,7 +51,7 @@ size-at-least n (pos m) h = omega linear
 size-at-least n (negsuc m) h = omega linear
 
 -- "2 ≤ b; 1 ≤ k", where the base and the digit count are the numbers from place i on
-digits-ranged : (p i : ℕ) (w : Word) (ns : List ℤ) → digitsOf w ns ≡ digitsAt ns i → T (isRanged p w ns)
+pub digits-ranged : (p i : ℕ) (w : Word) (ns : List ℤ) → digitsOf w ns ≡ digitsAt ns i → T (isRanged p w ns)
     → (2 ≤ sizeAt ns i) × (1 ≤ sizeAt ns (suc i))
 unfolding isRanged isDigits digitsAt sizeAt all
 digits-ranged p i w ns e t =
@@ -67,7 +67,7 @@ pub first-named : (m i : ℕ) (ns vs : List ℤ) → T (all (isMade m) (numberAt
 unfolding all sizeAt
 first-named m i ns vs t = made-name m (numberAt ns i) (left (isMade m (numberAt ns i)) (all (isMade m) vs) t)
 
-second-named : (m i : ℕ) (ns vs : List ℤ) (v : ℤ) → T (all (isMade m) (v ∷ numberAt ns i ∷ vs)) → sizeAt ns i < m
+pub second-named : (m i : ℕ) (ns vs : List ℤ) (v : ℤ) → T (all (isMade m) (v ∷ numberAt ns i ∷ vs)) → sizeAt ns i < m
 unfolding all
 second-named m i ns vs v t = first-named m i ns vs (right (isMade m v) (all (isMade m) (numberAt ns i ∷ vs)) t)
 

@@ -10,6 +10,7 @@ use lib.IntN.{ℤ, pos, negsuc, negℤ, _+ℤ_, _-ℤ_, _*ℤ_}
 use lib.Signed.{_≤ℤ_, leZ}
 use mir.Syntax.{w64}
 use mir.Val.{SFits}
+use Rattle.meaning.specs.Known.{larger, smaller}
 use Rattle.meaning.specs.Number.{half, highest, signed}
 use Rattle.algebra.proofs.Test.{cond-cases, leZ-iff, leZ-false}
 use Rattle.algebra.proofs.Integer.Order.{positivePart, negativePart, natAbs-parts, plus, minus}
@@ -56,6 +57,15 @@ module _ {A B : ℕ} {a b : ℤ} where
 
   pub bounded-product : Bounded A a → Bounded B b → Bounded (A * B) (a *ℤ b)
   bounded-product s t = record { size = rw (natAbs-* a b) (mul-le-mul (s .size) (t .size)) }
+
+module _ {bound : ℕ} {a b : ℤ} where
+  pub larger-bounded : Bounded bound a → Bounded bound b → Bounded bound (larger a b)
+  unfolding larger
+  larger-bounded s t = cond-cases (Bounded bound) (leZ a b) b a (λ _. t) (λ _. s)
+
+  pub smaller-bounded : Bounded bound a → Bounded bound b → Bounded bound (smaller a b)
+  unfolding smaller
+  smaller-bounded s t = cond-cases (Bounded bound) (leZ a b) a b (λ _. s) (λ _. t)
 
 -- ---- what fits
 

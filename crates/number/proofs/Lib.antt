@@ -2,7 +2,6 @@ pub mod Word
 pub mod Bounded
 pub mod Remainder
 pub mod CappedPower
-pub mod PrimeDivisor
 pub mod OddPrime
 pub mod PrimeTable
 pub mod Euclid

@@ -15,7 +15,7 @@ use Rattle.algebra.specs.Prime.{Prime}
 use Rattle.algebra.proofs.Test.{left, right}
 use Rattle.algebra.proofs.Prime.{prime-by-trial, prime-no-remainder}
 use Rattle.number.specs.Table.{primes, FirstDivisor}
-use Rattle.number.proofs.PrimeDivisor.{prime-by-prime-roots}
+use Rattle.algebra.proofs.PrimeDivisor.{prime-by-prime-roots}
 use Rattle.number.proofs.OddPrime.{odd-prime-passes}
 
 -- ---- tests over a list, and over the numbers below a bound

@@ -1,8 +1,8 @@
 // Whole numbers in a machine word: order, choice and range, and the operations where the result fits.
 ghost use mathlib.Core.Path.{_≡_};
 ghost use Prim.Native.Nat.{_<_};
-ghost use lib.IntN.{negℤ, _+ℤ_, _-ℤ_, _*ℤ_};
-ghost use lib.Signed.{mag, leZ};
+ghost use lib.IntN.{_+ℤ_, _-ℤ_, _*ℤ_};
+ghost use lib.Signed.{mag};
 ghost use mir.Syntax.{w64};
 ghost use mir.Val.{SFits};
 ghost use Rattle.meaning.specs.Known.{larger, smaller};
@@ -10,12 +10,6 @@ ghost use Rattle.meaning.specs.Number.{between, inRange};
 
 // A whole number.
 pub struct Whole(pub i64);
-
-pub fn at_most(a: Whole, b: Whole) -> bool
-    ensures { λ r. ⌜ r ≡ leZ (a .0) (b .0) ⌝ }
-{
-    a.0 <= b.0
-}
 
 pub fn larger(a: Whole, b: Whole) -> Whole
     ensures { λ r. ⌜ r .0 ≡ larger (a .0) (b .0) ⌝ }
@@ -43,13 +37,6 @@ pub fn in_range(x: Whole, p: u32) -> bool
     let half = ((p - 1) / 2) as i64;
     let low = 0 - half;
     within(Whole(low), x, Whole(half))
-}
-
-pub fn negated(a: Whole) -> Whole
-    requires { ⌜ SFits w64 (negℤ (a .0)) ⌝ }
-    ensures { λ r. ⌜ r .0 ≡ negℤ (a .0) ⌝ }
-{
-    Whole(0 - a.0)
 }
 
 pub fn whole_sum(a: Whole, b: Whole) -> Whole

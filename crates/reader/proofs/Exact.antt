@@ -1,13 +1,12 @@
 -- Reading is exact, for a reply: the claim over the definitions, said of what the code answers.
-use mathlib.Core.Path.{_≡_, refl, sym, ap, ap₂, _∙_, subst}
-use mathlib.Core.Logic.{_↔_}
+use mathlib.Core.Path.{_≡_, refl, sym, ap, ap₂, subst}
 use mathlib.Core.List.{List}
 use Prim.Native.Nat.{ℕ}
 use lib.ListN.{length}
 use Rattle.meaning.specs.Line.{Line}
 use Rattle.meaning.specs.Known.{Known}
 use Rattle.meaning.specs.Refusal.{Reading, refused, read, onReading, reading}
-use Rattle.meaning.specs.Reply.{Answer, Reply, reply, counts, refusal, readReply}
+use Rattle.meaning.specs.Reply.{Answer, reply, counts, refusal, readReply}
 use Rattle.meaning.proofs.Reading.{reads-exactly}
 use Rattle.reader.specs.Read.{Survey, surveyOf, surveySeen, replyOf, Exact}
 use Rattle.reader.specs.declared.state.Counts.{Counts}

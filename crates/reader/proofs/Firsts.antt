@@ -1,11 +1,11 @@
 -- Line 0: what reading tells of it, by its word and its number.
 use mathlib.Core.Path.{_≡_, refl, sym, ap, _∙_}
-use mathlib.Core.Bool.{Bool, true, false, _&&_}
-use mathlib.Core.List.{List, [], _∷_}
-use mathlib.Core.Option.{Option, none, some}
-use Prim.Native.Nat.{ℕ, zero, suc, _≤_, _<_}
+use mathlib.Core.Bool.{true, false}
+use mathlib.Core.List.{List, []}
+use mathlib.Core.Option.{none, some}
+use Prim.Native.Nat.{ℕ, suc, _≤_}
 use native.Mathlib.Omega.{arith}
-use lib.Dec.{T, eqb, eqb→eq}
+use lib.Dec.{eqb, eqb→eq}
 use lib.ListN.{length, getD, take}
 use lib.Seq.{getD-take}
 use lib.IntN.{ℤ, pos, negsuc, natAbs}
@@ -26,12 +26,12 @@ use Rattle.text.proofs.Answers.{line-seen, line-counted, line-small}
 use Rattle.meaning.specs.Number.{oddPrime}
 use Rattle.meaning.specs.Line.{field, Line, lineOf, isCount, numberAt, sizeAt, digitsOf, shiftsOf, coefficientsOf, namesOf}
 use Rattle.meaning.specs.Line.{Word as Meant}
-use Rattle.meaning.specs.Known.{Known, fresh}
+use Rattle.meaning.specs.Known.{fresh}
 use Rattle.meaning.specs.Gadget.Field.{fieldLine}
 use Rattle.meaning.specs.Meaning.{byWord, gadget, primeAfter, placesFrom, after}
 use Rattle.meaning.specs.Refusal.{valueLimit, cellLimit, all, onSome, isField, isPlaced, isOverPrime, isRanged, rulesWithin, rules, firstBroken}
 use Rattle.reader.specs.Told.{lineWith}
-use Rattle.reader.specs.Step.{Step, stops, goes}
+use Rattle.reader.specs.Step.{stops, goes}
 use Rattle.reader.specs.Read.{firstOption, only}
 
 pub first-none : (line : List ℕ) → lineOf line ≡ none → stops 3 ≡ firstOption (lineOf line)

@@ -3,11 +3,11 @@
 use mathlib.Core.Path.{_≡_, refl, sym, ap, ap₂, _∙_, subst}
 use mathlib.Core.List.{List, [], _∷_, _++_}
 use mathlib.Core.Option.{Option, none, some}
-use Prim.Native.Nat.{ℕ, zero, suc, _+_, _≤_, _<_}
+use Prim.Native.Nat.{ℕ, _+_, _<_}
 use native.Mathlib.Omega.{arith}
 use native.Mathlib.Numerals.{add-one}
 use lib.Dec.{leb→le}
-use lib.ListN.{length, getD, take, set}
+use lib.ListN.{length, take, set}
 use lib.Seq.{take-suc-set, length-take-le}
 use lib.IntN.{ℤ}
 use Rattle.meaning.specs.Line.{Line}
@@ -17,12 +17,12 @@ use Rattle.meaning.specs.Refusal.{valueLimit, onSome, rules, firstBroken}
 use Rattle.meaning.proofs.Kept.{Keeps, keeps-all}
 use Rattle.reader.specs.State.{endsFrom, stateOf}
 use Rattle.reader.specs.Told.{Told, refuses, makes, toldOf, madeSeen}
-use Rattle.reader.specs.Step.{Step, stops, goes, stepOf, stepSeen, Sized, Grows}
+use Rattle.reader.specs.Step.{stops, goes, stepOf, stepSeen, WithinLimits, Grows}
 use Rattle.reader.specs.declared.rule.Made.{Made}
 use Rattle.reader.specs.declared.rule.Made.the-variants.{EndsOf, Breaks}
 use Rattle.reader.specs.declared.state.Counts.{Counts}
-use Rattle.reader.specs.declared.state.Stepped.{Stepped}
 use Rattle.reader.specs.declared.state.Stepped.the-variants.{Next, Refused}
+use Rattle.reader.proofs.Values.{known-long}
 
 -- ---- what is told, taken apart
 
@@ -77,12 +77,6 @@ ends-append [] (y ∷ ys) us vs h = absurd (omega arith)
 ends-append (x ∷ xs) [] us vs h = absurd (omega arith)
 ends-append (x ∷ xs) (y ∷ ys) us vs h = ap (λ (es : List Ends). ends x y ∷ es) (ends-append xs ys us vs (omega arith))
 
-pub length-ends : (xs ys : List ℤ) → length xs ≡ length ys → length (endsFrom xs ys) ≡ length xs
-unfolding endsFrom
-length-ends [] ys h = refl
-length-ends (x ∷ xs) [] h = absurd (omega arith)
-length-ends (x ∷ xs) (y ∷ ys) h = ap suc (length-ends xs ys (omega arith))
-
 module _ (n : ℕ) (lows highs : List ℤ) (a b : ℤ) (in-lows : n < length lows) (in-highs : n < length highs) where
   ends-grown : endsFrom (take (n + 1) (set lows n a)) (take (n + 1) (set highs n b)) ≡ endsFrom (take n lows) (take n highs) ++ ends a b ∷ []
   unfolding endsFrom
@@ -95,57 +89,56 @@ pub same-state : {a b : Known} → a .p ≡ b .p → a .known ≡ b .known → a
     → a .rows ≡ b .rows → a ≡ b
 same-state e f g h k m = λ i. record { p = e i; known = f i; places = g i; inputs = h i; cells = k i; rows = m i }
 
+-- as many values are known as the code counts
+pub values-are : {s : Known} {c : Counts} (p : ℕ) (lows highs : List ℤ) (places : List ℕ) → s ≡ stateOf p c lows highs places
+    → WithinLimits c (length lows) (length highs) (length places) → length (s .known) ≡ c .values
+unfolding stateOf
+values-are {s} {c} p lows highs places is sized =
+    known-long s (c .values) lows highs (ap (λ (q : Known). q .known) is) (omega (arith, sized .values-most, sized .lows-long))
+    (omega (arith, sized .values-most, sized .highs-long))
+
 -- ---- the ways out of taking in a line
 
-module _ (p : ℕ) (s : Known) (l : Line) (c : Counts) (lows highs : List ℤ) (places : List ℕ) (inputs cells rows : ℕ)
-    (is : s ≡ stateOf p c lows highs places) (sized : Sized c (length lows) (length highs) (length places)) (grows-if : (es : List Ends) → makes es ≡ toldOf s l → Grows s l inputs cells rows) where
+module _ (p : ℕ) (s : Known) (l : Line) (c : Counts) (lows highs : List ℤ) (places : List ℕ) (is : s ≡ stateOf p c lows highs places)
+    (sized : WithinLimits c (length lows) (length highs) (length places)) (made : Made) (e : madeSeen made ≡ toldOf s l) where
   -- a line that is refused
-  pub grown-refused : (made : Made) (n : ℕ) (ls hs : List ℤ) (ps : List ℕ) → made ≡ Breaks n → madeSeen made ≡ toldOf s l
-      → stepSeen p (Refused n) ls hs ps ≡ stepOf s l
+  pub grown-refused : (n : ℕ) (ls hs : List ℤ) (ps : List ℕ) → made ≡ Breaks n → stepSeen p (Refused n) ls hs ps ≡ stepOf s l
   unfolding stepSeen madeSeen
-  grown-refused made n ls hs ps q e = refused-step s l n (sym (ap madeSeen q) ∙ e)
+  grown-refused n ls hs ps q = refused-step s l n (sym (ap madeSeen q) ∙ e)
 
-  -- value 257 is refused by the line's own rules
-  values-are : length (s .known) ≡ c .values
-  unfolding stateOf
-  values-are =
-      let h : c .values ≤ length lows = omega (arith, sized .values-most, sized .lows-long) in
-      let k : c .values ≤ length highs = omega (arith, sized .values-most, sized .highs-long) in
-      ap (λ (q : Known). length (q .known)) is
-      ∙ length-ends (take (c .values) lows) (take (c .values) highs) (length-take-le (c .values) lows h ∙ sym (length-take-le (c .values) highs k))
-      ∙ length-take-le (c .values) lows h
-
-  module _ (made : Made) (low high : ℤ) (q : made ≡ EndsOf low high) (e : madeSeen made ≡ toldOf s l) where
+  module _ (low high : ℤ) (q : made ≡ EndsOf low high) where
     told : makes (ends low high ∷ []) ≡ toldOf s l
     unfolding madeSeen
     told = sym (ap madeSeen q) ∙ e
 
-    grows : Grows s l inputs cells rows
-    grows = grows-if (ends low high ∷ []) told
+    kept : Keeps 1 s l
+    kept = rules-kept s l (ends low high ∷ []) told
 
-    room : c .values < 256
+    one : length (gadget s l .made) ≡ 1
+    one = ap (λ (es : List Ends). length es) (ends-made s l (ends low high ∷ []) told)
+
+    -- value 257 is refused by the line's own rules
+    pub room : c .values < 256
     unfolding valueLimit
     room =
-        let k = rules-kept s l (ends low high ∷ []) told in
-        let one : length (gadget s l .made) ≡ 1 = ap (λ (es : List Ends). length es) (ends-made s l (ends low high ∷ []) told) in
-        omega (arith, leb→le (length (s .known) + length (gadget s l .made)) 256 (k .values-fit), values-are, one)
+        omega (arith, leb→le (length (s .known) + length (gadget s l .made)) 256 (kept .values-fit), values-are p lows highs places is sized, one)
 
-    pub grown-full : (ls hs : List ℤ) (ps : List ℕ) → 256 ≤ c .values → stepSeen p (Refused 8) ls hs ps ≡ stepOf s l
-    grown-full ls hs ps h = absurd (omega (arith, room))
-
-    pub grown : stepSeen p (Next (record { values = c .values + 1; inputs = c .inputs + inputs; cells = c .cells + cells; rows = c .rows + rows }))
+    pub grown : (size : Counts) → (Keeps 1 s l → Grows s l size)
+        → stepSeen p (Next (record { values = c .values + size .values; inputs = c .inputs + size .inputs; cells = c .cells + size .cells; rows = c .rows + size .rows }))
         (set lows (c .values) low) (set highs (c .values) high) (set places (c .values) (c .cells)) ≡ stepOf s l
     unfolding stepSeen stateOf after placesFrom
-    grown =
+    grown size grows-if =
+        let grows = grows-if kept in
+        let values-is : size .values ≡ 1 = sym (grows .adds .values-are) ∙ one in
         let made-is = ends-made s l (ends low high ∷ []) told in
         let there = kept-step s l (no-rule-broken s l (ends low high ∷ []) told) in
-        ap goes (same-state
+        rw values-is (ap goes (same-state
         (ap (λ (z : Known). z .p) (sym is) ∙ sym (grows .prime-is))
         (ends-grown (c .values) lows highs low high (omega (arith, room, sized .lows-long)) (omega (arith, room, sized .highs-long))
         ∙ ap₂ (λ (xs ys : List Ends). xs ++ ys) (sym (grows .narrowed-is ∙ ap (λ (z : Known). z .known) is)) (sym made-is))
         (rw (add-one (c .values), take-suc-set places (c .values) (c .cells) (omega (arith, room, sized .places-long)))
         (ap₂ (λ (xs ys : List ℕ). xs ++ ys) (ap (λ (z : Known). z .places) (sym is))
         (ap (λ (i : ℕ). i ∷ []) (ap (λ (z : Known). z .cells) (sym is)) ∙ ap (placesFrom (s .cells)) (sym made-is))))
-        (ap₂ (λ (x y : ℕ). x + y) (ap (λ (z : Known). z .inputs) (sym is)) (sym (grows .inputs-are)))
-        (ap₂ (λ (x y : ℕ). x + y) (ap (λ (z : Known). z .cells) (sym is)) (sym (grows .cells-are)))
-        (ap₂ (λ (x y : ℕ). x + y) (ap (λ (z : Known). z .rows) (sym is)) (sym (grows .rows-are)))) ∙ there
+        (ap₂ (λ (x y : ℕ). x + y) (ap (λ (z : Known). z .inputs) (sym is)) (sym (grows .adds .inputs-are)))
+        (ap₂ (λ (x y : ℕ). x + y) (ap (λ (z : Known). z .cells) (sym is)) (sym (grows .adds .cells-are)))
+        (ap₂ (λ (x y : ℕ). x + y) (ap (λ (z : Known). z .rows) (sym is)) (sym (grows .adds .rows-are)))) ∙ there)

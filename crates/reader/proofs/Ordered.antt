@@ -1,27 +1,24 @@
 -- The lowest known end of a value is never above its highest. With the signed range, which bounds the one from below and the other from
 -- above, this bounds both, so that the ends fit the arrays.
-use mathlib.Core.Path.{_≡_, refl, sym, ap, _∙_}
-use mathlib.Core.List.{List, [], _∷_, _++_, append-nil}
-use Prim.Native.Nat.{ℕ, zero, suc, _<_}
-use native.Mathlib.Omega.{arith}
-use lib.Dec.{T}
-use lib.ListN.{length, getD, set}
+use mathlib.Core.List.{List, [], _∷_, _++_}
+use Prim.Native.Nat.{ℕ, zero, suc}
+use lib.ListN.{getD, set}
 use lib.IntN.{ℤ, pos}
 use lib.Signed.{_≤ℤ_, ≤ℤ-refl}
 use Rattle.algebra.proofs.Integer.Linear.{linear}
 use Rattle.meaning.specs.Number.{lowest, highest}
-use Rattle.meaning.specs.Line.{Word, field, input, span, sum, relu, which, max, root, Line, numberAt, sizeAt, withoutFirst, namesOf}
-use Rattle.meaning.specs.Known.{Ends, ends, Known, endsOf, larger, smaller}
+use Rattle.meaning.specs.Line.{Word, field, input, span, sum, relu, which, max, root, Line, numberAt, sizeAt, withoutFirst}
+use Rattle.meaning.specs.Known.{Ends, ends, Known, endsOf}
 use Rattle.meaning.specs.Gadget.Sum.{Term, termsOf, scaled, added, sumEnds, sumLine}
 use Rattle.meaning.specs.Gadget.Field.{fieldLine}
 use Rattle.meaning.specs.Gadget.Input.{inputLine}
-use Rattle.meaning.specs.Gadget.Span.{shared, spanLine}
+use Rattle.meaning.specs.Gadget.Span.{spanLine}
 use Rattle.meaning.specs.Gadget.Relu.{reluLine}
 use Rattle.meaning.specs.Gadget.Which.{whichLine}
 use Rattle.meaning.specs.Gadget.Max.{maxLine}
 use Rattle.meaning.specs.Gadget.Root.{rootLine}
 use Rattle.meaning.specs.Meaning.{byWord, gadget, after}
-use Rattle.meaning.proofs.Order.{larger-left, larger-right, larger-keeps, smaller-left, smaller-right}
+use Rattle.meaning.proofs.Order.{larger-left, larger-keeps, smaller-left}
 use Rattle.meaning.proofs.Kept.{Keeps}
 
 -- each value's ends are in order

@@ -1,5 +1,5 @@
 -- How many values, inputs, cells and rows each kind of line has, and that the code counts them from the line's word and digit count.
-use mathlib.Core.Path.{_≡_, refl, sym, ap, _∙_, subst}
+use mathlib.Core.Path.{_≡_, refl, sym, ap, _∙_}
 use mathlib.Core.Bool.{true, _&&_}
 use mathlib.Core.List.{List, [], _∷_, _++_}
 use Prim.Native.Nat.{ℕ, zero, suc, _+_, _*_, _<_, _≤_}
@@ -31,7 +31,7 @@ use Rattle.text.specs.Word.{wordOf}
 use Rattle.text.specs.declared.Word.{Word}
 use Rattle.text.specs.declared.Word.the-variants.{Field, In, Span, Sum, Relu, Which, Max, Root}
 use Rattle.reader.specs.Told.{lineWith}
-use Rattle.reader.specs.Size.{counted, Adds}
+use Rattle.reader.specs.Size.{counted, Adds, FewCounts}
 use Rattle.reader.specs.declared.state.Counts.{Counts}
 
 -- ---- rows
@@ -81,11 +81,11 @@ module _ (p i : ℕ) (w : Meant) (ns : List ℤ) (is : digitsOf w ns ≡ digitsA
   given = rw is at (left (all isDigits (digitsOf w ns)) (all (inRange p) (shiftsOf w ns))
       (left (all isDigits (digitsOf w ns) && all (inRange p) (shiftsOf w ns)) (all (inRange p) (coefficientsOf w ns)) ranged))
 
-  pub count-low : pos 1 ≤ℤ numberAt ns (suc i)
+  count-low : pos 1 ≤ℤ numberAt ns (suc i)
   unfolding all digitsAt isDigits
   count-low = let g = given in record { le = search (left, right, g) }
 
-  pub count-high : numberAt ns (suc i) ≤ℤ pos 31
+  count-high : numberAt ns (suc i) ≤ℤ pos 31
   unfolding all digitsAt isDigits
   count-high = let g = given in record { le = search (left, right, g) }
 
@@ -175,10 +175,10 @@ abbrev pub Sizes : Word → List ℤ → Counts → Type 0
 Sizes v numbers c = (
     (n count : ℕ) (s : Known) → isCount (wordOf v) count ≡ true → Keeps n s (lineWith (wordOf v) (take count numbers))
     → Adds s (lineWith (wordOf v) (take count numbers)) c
-    ) × ((c .values ≤ 1) × (c .inputs ≤ 1) × (c .cells ≤ 126) × (c .rows ≤ 129))
+    ) × FewCounts c
 
 few : {c : Counts} (values inputs cells rows : ℕ) → c ≡ counted values inputs cells rows → values ≤ 1 → inputs ≤ 1 → cells ≤ 126 → rows ≤ 129
-    → (c .values ≤ 1) × (c .inputs ≤ 1) × (c .cells ≤ 126) × (c .rows ≤ 129)
+    → FewCounts c
 unfolding counted
 few values inputs cells rows e v i k r = rw e (v, i, k, r)
 

@@ -20,7 +20,7 @@ use Rattle.number.proofs.Bounded.{bounded-range, bounded-more}
 use Rattle.reader.specs.declared.rule.Ends.{Ends as ReadEnds}
 use Rattle.reader.specs.State.{greatest, Ready, Seen}
 use Rattle.reader.specs.Told.{refuses, makes, toldOf, lineWith}
-use Rattle.reader.specs.Rule.{earlyBroken, endsSeen, EndsRead, Sized}
+use Rattle.reader.specs.Rule.{earlyBroken, endsSeen, EndsRead, BoundedEnds}
 use Rattle.reader.specs.Sum.{endsAt, sumTold, Scaled, Added}
 use Rattle.reader.proofs.Tests.{both-true, made-name}
 use Rattle.reader.proofs.Values.{known-count, known-ends}
@@ -135,7 +135,7 @@ range-small p x most within =
     let w = between-iff (lowest p) x (highest p) .0 (≡-test (between (lowest p) x (highest p)) within) in
     bounded-more (bounded-range x (w .0) (w .1)) (omega arith)
 
-pub range-sized : (p : ℕ) (e : ReadEnds) → p ≤ greatest → endsInRange p (endsSeen e) ≡ true → Sized 2147483647 e
+pub range-sized : (p : ℕ) (e : ReadEnds) → p ≤ greatest → endsInRange p (endsSeen e) ≡ true → BoundedEnds 2147483647 e
 unfolding endsInRange endsSeen
 range-sized p e most within =
     let w = both-true (inRange p (e .low)) (inRange p (e .high)) within in

@@ -7,22 +7,26 @@ use native.Mathlib.Omega.{arith}
 use lib.ListN.{length, getD, take}
 use lib.Seq.{length-take-le, getD-take}
 use lib.IntN.{ℤ, pos, natAbs}
-use lib.Signed.{leZ}
-use Rattle.algebra.proofs.Test.{cond-cases}
-use Rattle.meaning.specs.Known.{Known, Ends, ends, endsOf, larger, smaller, apart, above}
+use Rattle.meaning.specs.Known.{Known, Ends, ends, endsOf, apart, above}
 use Rattle.meaning.specs.Refusal.{isMade}
 use Rattle.number.specs.Bounded.{Bounded}
 use Rattle.number.proofs.Bounded.{bounded-more}
 use Rattle.reader.specs.State.{endsFrom, greatest, Ready, Seen}
-use Rattle.reader.specs.Rule.{endsSeen, EndsRead, Sized, Apart, Above, Field}
+use Rattle.reader.specs.Rule.{endsSeen, EndsRead, BoundedEnds, Apart, Above, Field}
 use Rattle.reader.specs.declared.rule.Ends.{Ends as ReadEnds}
 use Rattle.reader.proofs.Tests.{made-name}
 
-ends-length : (lows highs : List ℤ) → length lows ≡ length highs → length (endsFrom lows highs) ≡ length lows
+pub ends-length : (lows highs : List ℤ) → length lows ≡ length highs → length (endsFrom lows highs) ≡ length lows
 unfolding endsFrom
 ends-length [] highs e = refl
 ends-length (l ∷ ls) [] e = absurd (omega arith)
 ends-length (l ∷ ls) (h ∷ hs) e = ap suc (ends-length ls hs (omega arith))
+
+-- as many values are known as the first ends of the arrays are
+pub known-long : (s : Known) (values : ℕ) (lows highs : List ℤ) → s .known ≡ endsFrom (take values lows) (take values highs) → values ≤ length lows
+    → values ≤ length highs → length (s .known) ≡ values
+known-long s values lows highs is h k =
+    rw is (ends-length (take values lows) (take values highs) (length-take-le values lows h ∙ sym (length-take-le values highs k)) ∙ length-take-le values lows h)
 
 ends-at : (lows highs : List ℤ) (d : Ends) (i : ℕ) → i < length lows → i < length highs
     → getD (endsFrom lows highs) i d ≡ ends (getD lows i (pos 0)) (getD highs i (pos 0))
@@ -33,15 +37,21 @@ ends-at (l ∷ ls) (g ∷ gs) d zero h k = refl
 ends-at (l ∷ ls) (g ∷ gs) d (suc i) h k = ends-at ls gs d i (omega arith) (omega arith)
 
 module _ {p values cells : ℕ} {lows highs : List ℤ} (ready : Ready p values cells lows highs) where
+  pub ready-lows : values ≤ length lows
+  ready-lows = omega (arith, ready .lows-long, ready .values-most)
+
+  pub ready-highs : values ≤ length highs
+  ready-highs = omega (arith, ready .highs-long, ready .values-most)
+
   low-count : length (take values lows) ≡ values
-  low-count = length-take-le values lows (omega (arith, ready .lows-long, ready .values-most))
+  low-count = length-take-le values lows ready-lows
 
   high-count : length (take values highs) ≡ values
-  high-count = length-take-le values highs (omega (arith, ready .highs-long, ready .values-most))
+  high-count = length-take-le values highs ready-highs
 
   module _ {s : Known} (seen : Seen s p values cells lows highs) where
     pub known-count : length (s .known) ≡ values
-    known-count = rw (seen .known) (ends-length (take values lows) (take values highs) (low-count ∙ sym high-count) ∙ low-count)
+    known-count = known-long s values lows highs (seen .known) ready-lows ready-highs
 
     pub known-ends : (v : ℕ) → v < values → endsOf s v ≡ ends (getD lows v (pos 0)) (getD highs v (pos 0))
     unfolding endsOf
@@ -65,7 +75,7 @@ module _ {p values cells : ℕ} {lows highs : List ℤ} (ready : Ready p values 
   high-small : {z : ℤ} {e : ReadEnds} → isMade values z ≡ true → EndsRead lows highs z e → Bounded greatest (e .high)
   high-small {z} made read = record { size = rw (read .high-read) (ready .highs-small (natAbs z) (made-name values z made .below)) }
 
-  pub read-sized : {z : ℤ} {e : ReadEnds} → isMade values z ≡ true → EndsRead lows highs z e → Sized 2147483647 e
+  pub read-sized : {z : ℤ} {e : ReadEnds} → isMade values z ≡ true → EndsRead lows highs z e → BoundedEnds 2147483647 e
   unfolding greatest
   read-sized made read = record { low-sized = low-small made read; high-sized = high-small made read }
 
@@ -74,14 +84,8 @@ module _ {p values cells : ℕ} {lows highs : List ℤ} (ready : Ready p values 
   pub ready-field : Field p
   ready-field = record { three = ready .p-low; most = ready .p-high }
 
-  pub ready-lows : values ≤ length lows
-  ready-lows = omega (arith, ready .lows-long, ready .values-most)
-
-  pub ready-highs : values ≤ length highs
-  ready-highs = omega (arith, ready .highs-long, ready .values-most)
-
 -- as those of a difference are
-pub sized-more : {e : ReadEnds} → Sized 2147483647 e → Sized 4294967294 e
+pub sized-more : {e : ReadEnds} → BoundedEnds 2147483647 e → BoundedEnds 4294967294 e
 sized-more small = record {
   low-sized = bounded-more (small .low-sized) (omega arith);
   high-sized = bounded-more (small .high-sized)
@@ -98,12 +102,3 @@ module _ {u v r : ReadEnds} where
   pub above-seen : Above u v r → endsSeen r ≡ above (endsSeen u) (endsSeen v)
   unfolding endsSeen above
   above-seen a = rw (a .low-is, a .high-is)
-
-module _ (bound : ℕ) (a b : ℤ) where
-  pub larger-bounded : Bounded bound a → Bounded bound b → Bounded bound (larger a b)
-  unfolding larger
-  larger-bounded s t = cond-cases (Bounded bound) (leZ a b) b a (λ _. t) (λ _. s)
-
-  pub smaller-bounded : Bounded bound a → Bounded bound b → Bounded bound (smaller a b)
-  unfolding smaller
-  smaller-bounded s t = cond-cases (Bounded bound) (leZ a b) a b (λ _. s) (λ _. t)

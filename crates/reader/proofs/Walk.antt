@@ -1,17 +1,16 @@
 -- Walking the lines of a list: what holds before each line, that it holds again after a line that is not refused, and what is found
 -- where the walk ends.
-use mathlib.Core.Path.{_≡_, refl, sym, ap, ap₂, _∙_, subst}
-use mathlib.Core.Bool.{true, false}
+use mathlib.Core.Path.{_≡_, refl, sym, ap, _∙_, subst}
+use mathlib.Core.Bool.{true}
 use mathlib.Core.List.{List, [], _∷_, _++_}
-use mathlib.Core.Option.{Option, none, some}
-use Prim.Native.Nat.{ℕ, zero, suc, _+_, _*_, _-_, _≤_, _<_}
+use mathlib.Core.Option.{none}
+use Prim.Native.Nat.{ℕ, zero, suc, _+_, _-_, _≤_, _<_}
 use native.Mathlib.Omega.{arith}
 use native.Mathlib.Numerals.{add-one}
-use lib.Dec.{T, leb→le}
+use lib.Dec.{leb→le}
 use lib.ListN.{length, getD, take, drop, length-append}
 use lib.Seq.{length-take-le, getD-take}
 use lib.IntN.{ℤ, pos, natAbs}
-use lib.Signed.{_≤ℤ_}
 use Rattle.number.proofs.Bounded.{bounded-range}
 use Rattle.algebra.proofs.Integer.Linear.{linear}
 use Rattle.meaning.specs.Number.{half, lowest, highest}
@@ -26,13 +25,13 @@ use Rattle.meaning.proofs.Kept.{Keeps, keeps-all}
 use Rattle.meaning.proofs.Lines.{Sound, sound-after}
 use Rattle.text.specs.Place.{Found, linesFrom}
 use Rattle.text.proofs.Places.{lines-none, line-within, lines-next}
-use Rattle.reader.specs.State.{greatest, endsFrom, stateOf, Small, Ready}
-use Rattle.reader.specs.Step.{stepBytes, stepSeen, valuesIn, Sized}
+use Rattle.reader.specs.State.{greatest, endsFrom, stateOf, Ready}
+use Rattle.reader.specs.Step.{stepBytes, stepSeen, valuesIn, WithinLimits}
 use Rattle.reader.specs.Read.{only, counted, refusedAt, surveyOf}
 use Rattle.reader.specs.declared.state.Counts.{Counts}
 use Rattle.reader.specs.declared.state.Stepped.{Stepped}
 use Rattle.reader.specs.declared.state.Stepped.the-variants.{Next, Refused}
-use Rattle.reader.proofs.Growth.{length-ends}
+use Rattle.reader.proofs.Values.{known-long}
 use Rattle.reader.proofs.Ordered.{Ordered, ordered-after}
 use Rattle.reader.proofs.Steps.{few}
 use Rattle.reader.proofs.Stopping.{stopped-at, gone-at, step-later}
@@ -43,7 +42,7 @@ pub record Walked (list : List ℕ) (start p : ℕ) (numbers lows highs : List �
   pub later : 1 ≤ n
   pub counted : n ≤ at
   pub numbers-long : length numbers ≡ 33
-  pub sized : Sized c (length lows) (length highs) (length places)
+  pub sized : WithinLimits c (length lows) (length highs) (length places)
   pub sound : Sound n (stateOf p c lows highs places)
   pub ordered : Ordered (stateOf p c lows highs places .known)
   pub survey-left : surveyOf (readFrom rules 1 (only p) (linesFrom list start)) ≡ surveyOf (readFrom rules n (stateOf p c lows highs places) (linesFrom list at))
@@ -62,7 +61,7 @@ small-ends p (x ∷ xs) (y ∷ ys) h e r o zero l =
     (bounded-range {bound = greatest} x (omega linear) (omega linear) .size, bounded-range {bound = greatest} y (omega linear) (omega linear) .size)
 small-ends p (x ∷ xs) (y ∷ ys) h e r o (suc i) l = small-ends p xs ys h (omega arith) (r .2) (o .1) i (omega arith)
 
-module _ (p : ℕ) (c : Counts) (lows highs : List ℤ) (places : List ℕ) (sized : Sized c (length lows) (length highs) (length places)) where
+module _ (p : ℕ) (c : Counts) (lows highs : List ℤ) (places : List ℕ) (sized : WithinLimits c (length lows) (length highs) (length places)) where
   abbrev state : Known
   state = stateOf p c lows highs places
 
@@ -77,7 +76,7 @@ module _ (p : ℕ) (c : Counts) (lows highs : List ℤ) (places : List ℕ) (siz
 
   pub known-count : length (state .known) ≡ c .values
   unfolding stateOf
-  known-count = length-ends (take (c .values) lows) (take (c .values) highs) same-length ∙ length-take-le (c .values) lows low-enough
+  known-count = known-long state (c .values) lows highs refl low-enough high-enough
 
   pub walk-ready : (n : ℕ) → 1 ≤ n → p ≤ greatest → Sound n state → Ordered (state .known) → Ready p (c .values) (c .cells) lows highs
   unfolding stateOf
@@ -98,9 +97,7 @@ module _ (p : ℕ) (c : Counts) (lows highs : List ℤ) (places : List ℕ) (siz
 count-of : (p : ℕ) (c : Counts) (lows highs : List ℤ) → length lows ≡ 256 → length highs ≡ 256 → (places : List ℕ) → c .values ≤ 256
     → length (stateOf p c lows highs places .known) ≡ c .values
 unfolding stateOf
-count-of p c lows highs l m places h =
-    let a = length-take-le (c .values) lows (omega (arith, l)) in
-    length-ends (take (c .values) lows) (take (c .values) highs) (a ∙ sym (length-take-le (c .values) highs (omega (arith, m)))) ∙ a
+count-of p c lows highs l m places h = known-long (stateOf p c lows highs places) (c .values) lows highs refl (omega (arith, l)) (omega (arith, m))
 
 -- ---- the walk
 
@@ -174,7 +171,7 @@ module _ {list : List ℕ} {start p : ℕ} {numbers lows highs : List ℤ} {plac
       keeps : Keeps n s (gone .0)
       keeps = keeps-all n s (gone .0) (gone .1)
 
-      room : Sized next (length ls) (length hs) (length ps)
+      room : WithinLimits next (length ls) (length hs) (length ps)
       unfolding stateOf after valueLimit cellLimit
       room =
           let g = gadget s (gone .0) in

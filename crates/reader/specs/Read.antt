@@ -1,5 +1,5 @@
 -- Reading a whole list: line 0, what is left of a list at a place, and how the code's answers are read as the definitions'.
-use Prim.Native.Nat.{ℕ, suc}
+use Prim.Native.Nat.{ℕ}
 use mathlib.Core.Path.{_≡_}
 use mathlib.Core.Logic.{_↔_}
 use mathlib.Core.List.{List, []}
@@ -8,11 +8,10 @@ use lib.ListN.{length}
 use Rattle.meaning.specs.Line.{Line}
 use Rattle.meaning.specs.Known.{Known, fresh}
 use Rattle.meaning.specs.Meaning.{after}
-use Rattle.meaning.specs.Refusal.{Reading, onSome, onReading, rules, firstBroken, readFrom}
+use Rattle.meaning.specs.Refusal.{Reading, onSome, onReading, rules, firstBroken}
 use Rattle.meaning.specs.Claims.{Fits, Before}
 use Rattle.meaning.specs.Reply.{reply, counts, refusal}
 use Rattle.meaning.specs.Reply.{Answer as Meant}
-use Rattle.reader.specs.State.{stateOf}
 use Rattle.reader.specs.Step.{Step, stops, goes}
 use Rattle.reader.specs.declared.read.First.{First}
 use Rattle.reader.specs.declared.read.First.the-variants.{Prime, NotFirst}

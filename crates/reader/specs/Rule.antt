@@ -38,19 +38,19 @@ pub record EndsRead (lows highs : List ℤ) (z : ℤ) (e : Ends) : Type 0 where
   pub high-read : e .high ≡ getD highs (natAbs z) (pos 0)
 
 -- ends of at most that size: greatest for those of a value, twice that for those of a difference
-pub record Sized (bound : ℕ) (e : Ends) : Type 0 where
+pub record BoundedEnds (bound : ℕ) (e : Ends) : Type 0 where
   pub low-sized : Bounded bound (e .low)
   pub high-sized : Bounded bound (e .high)
 
 -- those of a difference of two values
 pub record Apart (u v r : Ends) : Type 0 where
-  pub sized : Sized 4294967294 r
+  pub sized : BoundedEnds 4294967294 r
   pub low-is : r .low ≡ u .low -ℤ v .high
   pub high-is : r .high ≡ u .high -ℤ v .low
 
 -- and those of y - u, for y the greater of u and v
 pub record Above (u v r : Ends) : Type 0 where
-  pub sized : Sized 4294967294 r
+  pub sized : BoundedEnds 4294967294 r
   pub low-is : r .low ≡ smaller (pos 0) (v .low -ℤ u .high)
   pub high-is : r .high ≡ larger (pos 0) (v .high -ℤ u .low)
 

@@ -1,6 +1,6 @@
 -- How much a line adds to the counts of a list.
 use mathlib.Core.Path.{_≡_}
-use Prim.Native.Nat.{ℕ}
+use Prim.Native.Nat.{ℕ, _≤_}
 use lib.ListN.{length}
 use Rattle.meaning.specs.Line.{Line}
 use Rattle.meaning.specs.Known.{Known}
@@ -16,3 +16,7 @@ pub record Adds (s : Known) (l : Line) (c : Counts) : Type 0 where
   pub inputs-are : gadget s l .inputs ≡ c .inputs
   pub cells-are : gadget s l .width ≡ c .cells
   pub rows-are : length (gadget s l .rows) ≡ c .rows
+
+-- no line adds more
+abbrev pub FewCounts : Counts → Type 0
+FewCounts c = (c .values ≤ 1) × (c .inputs ≤ 1) × (c .cells ≤ 126) × (c .rows ≤ 129)

@@ -2,7 +2,7 @@
 -- for 256, of which the first ones count.
 use mathlib.Core.Path.{_≡_}
 use mathlib.Core.List.{List, [], _∷_}
-use Prim.Native.Nat.{ℕ, _*_, _≤_, _<_}
+use Prim.Native.Nat.{ℕ, _≤_, _<_}
 use lib.ListN.{length, getD, take}
 use lib.IntN.{ℤ, pos, natAbs}
 use Rattle.meaning.specs.Known.{Ends, ends, Known}

@@ -1,15 +1,17 @@
 -- What one line after line 0 does to what is known, and how the code's answer is read as it.
 use mathlib.Core.Path.{_≡_}
-use Prim.Native.Nat.{ℕ, _*_, _≤_}
+use Prim.Native.Nat.{ℕ, _*_, _≤_, _<_}
 use mathlib.Core.List.{List}
 use mathlib.Core.Option.{Option, none, some}
-use lib.ListN.{length}
 use lib.IntN.{ℤ}
 use Rattle.meaning.specs.Line.{Line, lineOf}
 use Rattle.meaning.specs.Known.{Known}
 use Rattle.meaning.specs.Meaning.{gadget, after}
 use Rattle.meaning.specs.Refusal.{onSome, rules, firstBroken}
 use Rattle.reader.specs.State.{stateOf}
+use Rattle.reader.specs.Size.{Adds}
+use Rattle.reader.specs.declared.rule.Made.{Made}
+use Rattle.reader.specs.declared.rule.Made.the-variants.{EndsOf}
 use Rattle.reader.specs.declared.state.Counts.{Counts}
 use Rattle.reader.specs.declared.state.Stepped.{Stepped}
 use Rattle.reader.specs.declared.state.Stepped.the-variants.{Next, Refused}
@@ -39,7 +41,7 @@ valuesIn (Next c) = c .values
 valuesIn (Refused n) = 0
 
 -- arrays of 256, and counts that no sum overflows
-pub record Sized (c : Counts) (lows highs places : ℕ) : Type 0 where
+pub record WithinLimits (c : Counts) (lows highs places : ℕ) : Type 0 where
   pub lows-long : lows ≡ 256
   pub highs-long : highs ≡ 256
   pub places-long : places ≡ 256
@@ -48,10 +50,12 @@ pub record Sized (c : Counts) (lows highs places : ℕ) : Type 0 where
   pub cells-most : c .cells ≤ 4096
   pub rows-most : c .rows ≤ 2 * c .cells
 
--- a line that narrows no ends, with so many inputs, cells and rows
-pub record Grows (s : Known) (l : Line) (inputs cells rows : ℕ) : Type 0 where
+-- a line that adds these counts and narrows no ends
+pub record Grows (s : Known) (l : Line) (size : Counts) : Type 0 where
+  pub adds : Adds s l size
   pub narrowed-is : gadget s l .narrowed ≡ s .known
-  pub inputs-are : gadget s l .inputs ≡ inputs
-  pub cells-are : gadget s l .width ≡ cells
-  pub rows-are : length (gadget s l .rows) ≡ rows
   pub prime-is : after s l .p ≡ s .p
+
+-- where a line has ends, its place is one of the arrays'
+abbrev pub Placed : Made → ℕ → Type 0
+Placed made at = (low high : ℤ) → made ≡ EndsOf low high → at < 256

@@ -2,10 +2,10 @@
 use Prim.Native.Nat.{ℕ}
 use mathlib.Core.List.{List, [], _∷_}
 use lib.IntN.{ℤ}
-use Rattle.meaning.specs.Line.{Word, Line, numberAt, sizeAt}
+use Rattle.meaning.specs.Line.{Word, field, input, span, sum, relu, which, max, root, Line, numberAt, sizeAt}
 use Rattle.meaning.specs.Known.{Ends, ends, Known, endsOf}
 use Rattle.meaning.specs.Gadget.Span.{shared}
-use Rattle.meaning.specs.Meaning.{gadget, after}
+use Rattle.meaning.specs.Meaning.{gadget}
 use Rattle.meaning.specs.Refusal.{onSome, rules, firstBroken}
 use Rattle.reader.specs.declared.rule.Made.{Made}
 use Rattle.reader.specs.declared.rule.Made.the-variants.{EndsOf, Breaks}
@@ -24,6 +24,20 @@ spanTold s l =
     let ns : List ℤ = l .numbers in
     onSome (firstBroken rules 1 s l) refuses
     (makes (shared (sizeAt ns 1) (sizeAt ns 2) (numberAt ns 3) (endsOf s (sizeAt ns 0)) ∷ []))
+
+-- the same for every kind
+unfoldable pub toldBy : Word → Known → Line → Told
+toldBy field s l = toldOf s l
+toldBy input s l = toldOf s l
+toldBy span s l = spanTold s l
+toldBy sum s l = toldOf s l
+toldBy relu s l = toldOf s l
+toldBy which s l = toldOf s l
+toldBy max s l = toldOf s l
+toldBy root s l = toldOf s l
+
+unfoldable pub lineTold : Known → Line → Told
+lineTold s l = toldBy (l .word) s l
 
 unfoldable pub madeSeen : Made → Told
 madeSeen (EndsOf low high) = makes (ends low high ∷ [])

@@ -4,6 +4,7 @@ use number::power::Power;
 use number::power::capped_power;
 use number::whole::Whole;
 use number::whole::in_range;
+use number::whole::whole_difference;
 ghost use mathlib.Core.Path.{_≡_};
 ghost use mathlib.Core.Bool.{true, _&&_};
 ghost use mathlib.Core.List.{[], _∷_};
@@ -17,7 +18,7 @@ ghost use Rattle.meaning.specs.Refusal.{isMade};
 ghost use Rattle.meaning.specs.Gadget.Sign.{signShift};
 ghost use Rattle.number.specs.Bounded.{Bounded};
 ghost use Rattle.reader.specs.Told.{madeSeen, makes};
-ghost use Rattle.reader.specs.Rule.{digitsRead, endsSeen, earlyBroken, Field, EndsRead, Sized, Apart};
+ghost use Rattle.reader.specs.Rule.{digitsRead, endsSeen, earlyBroken, Field, EndsRead, BoundedEnds, Apart};
 
 // The ends of the value that a line makes, or the number of the first rule that it breaks.
 pub enum Made {
@@ -136,14 +137,14 @@ pub fn ends_named(numbers: &[i64], at: usize, values: usize, lows: &[i64], highs
 
 // The ends of the difference of two values.
 pub fn apart(u: Ends, v: Ends) -> Ends
-    requires { ⌜ Sized 2147483647 u × Sized 2147483647 v ⌝ }
+    requires { ⌜ BoundedEnds 2147483647 u × BoundedEnds 2147483647 v ⌝ }
     ensures { λ r. ⌜ Apart u v r ⌝ }
 {
-    let low = u.low - v.high;
-    let high = u.high - v.low;
+    let low = whole_difference(Whole(u.low), Whole(v.high));
+    let high = whole_difference(Whole(u.high), Whole(v.low));
     Ends {
-        low: low,
-        high: high,
+        low: low.0,
+        high: high.0,
     }
 }
 
@@ -151,7 +152,7 @@ pub fn apart(u: Ends, v: Ends) -> Ends
 
 // The digit rule.
 pub fn digit_rule(p: u32, b: u64, k: u32, e: Ends, shift: i64) -> bool
-    requires { ⌜ Field p × (1 ≤ b) × Sized 4294967294 e × Bounded 2147483647 shift ⌝ }
+    requires { ⌜ Field p × (1 ≤ b) × BoundedEnds 4294967294 e × Bounded 2147483647 shift ⌝ }
     ensures { λ r. ⌜ r ≡ digitRule p b k (endsSeen e) shift ⌝ }
 {
     let Power::Of(c) = capped_power(b, k, p as u64) else {
@@ -162,7 +163,7 @@ pub fn digit_rule(p: u32, b: u64, k: u32, e: Ends, shift: i64) -> bool
 
 // The digit rule with the shift -B, of relu and which: B = (b-1)·b^(k-1) = c - c/b.
 pub fn sign_rule(p: u32, b: u64, k: u32, e: Ends) -> bool
-    requires { ⌜ Field p × (1 ≤ b) × (1 ≤ k) × Sized 4294967294 e ⌝ }
+    requires { ⌜ Field p × (1 ≤ b) × (1 ≤ k) × BoundedEnds 4294967294 e ⌝ }
     ensures { λ r. ⌜ r ≡ digitRule p b k (endsSeen e) (signShift b k) ⌝ }
 {
     let Power::Of(c) = capped_power(b, k, p as u64) else {
@@ -174,7 +175,7 @@ pub fn sign_rule(p: u32, b: u64, k: u32, e: Ends) -> bool
 
 // The digit rule where c = b^k is at most p: F - L and L + c - 1 - E are at most p - 1.
 pub fn is_narrow(p: u32, c: u64, e: Ends, shift: i64) -> bool
-    requires { ⌜ Field p × (1 ≤ c) × (c ≤ p) × Sized 4294967294 e × Bounded 2147483647 shift ⌝ }
+    requires { ⌜ Field p × (1 ≤ c) × (c ≤ p) × BoundedEnds 4294967294 e × Bounded 2147483647 shift ⌝ }
     ensures { λ r. ⌜ r ≡ leZ (e .high -ℤ shift) (pos (p - 1)) && leZ (shift +ℤ pos (c - 1) -ℤ e .low) (pos (p - 1)) ⌝ }
 {
     let last = (p - 1) as i64;

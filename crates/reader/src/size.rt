@@ -26,7 +26,7 @@ pub fn natural(z: i64) -> usize
 }
 
 // A digit count that a line may have, and 31 in the place of a larger one.
-pub fn digit_count(k: i64) -> usize
+fn digit_count(k: i64) -> usize
     ensures { λ r. ⌜ (r ≤ 31) × (pos 1 ≤ℤ k → k ≤ℤ pos 31 → r ≡ natAbs k) ⌝ }
 {
     let count = natural(k);

@@ -24,7 +24,7 @@ ghost use Rattle.meaning.specs.Gadget.Span.{shared};
 ghost use Rattle.number.specs.Bounded.{Bounded};
 ghost use Rattle.reader.specs.State.{Small, Ready, Seen};
 ghost use Rattle.reader.specs.Told.{refuses, spanTold, madeSeen, lineWith};
-ghost use Rattle.reader.specs.Rule.{endsSeen, Sized, Field, sharedTold};
+ghost use Rattle.reader.specs.Rule.{endsSeen, BoundedEnds, Field, sharedTold};
 
 pub fn read_span(
     numbers: &[i64],
@@ -56,7 +56,7 @@ pub fn read_span(
 
 // The new ends, where the digit rule is kept.
 fn span_ends(p: u32, b: u64, k: u32, old: Ends, shift: i64) -> Made
-    requires { ⌜ Field p × (1 ≤ b) × Sized 4294967294 old × Bounded 2147483647 shift ⌝ }
+    requires { ⌜ Field p × (1 ≤ b) × BoundedEnds 4294967294 old × Bounded 2147483647 shift ⌝ }
     ensures { λ r. ⌜ madeSeen r
         ≡ cond (digitRule p b k (endsSeen old) shift) (sharedTold (shared b k shift (endsSeen old))) (refuses 10) ⌝ }
 {

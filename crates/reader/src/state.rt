@@ -7,10 +7,12 @@ ghost use lib.ListN.{length};
 ghost use Rattle.meaning.specs.Line.{Line, span, sizeAt};
 ghost use mathlib.Core.List.{List};
 ghost use lib.IntN.{ℤ};
-ghost use Rattle.meaning.specs.Known.{Ends, Known};
+ghost use Rattle.meaning.specs.Known.{Known};
+ghost use Rattle.meaning.proofs.Kept.{Keeps};
 ghost use Rattle.reader.specs.State.{stateOf};
-ghost use Rattle.reader.specs.Told.{makes, toldOf, spanTold, madeSeen, lineWith};
-ghost use Rattle.reader.specs.Step.{Grows, Sized, valuesIn, stepSeen, stepOf};
+ghost use Rattle.reader.specs.Told.{toldOf, spanTold, madeSeen, lineWith};
+ghost use Rattle.reader.specs.Size.{Adds, FewCounts};
+ghost use Rattle.reader.specs.Step.{Grows, Placed, WithinLimits, valuesIn, stepSeen, stepOf};
 
 pub struct Counts {
     pub values: usize,
@@ -28,17 +30,15 @@ pub enum Stepped {
 // Takes in a line that makes a value with these ends: the value's cell is the line's first.
 pub fn grow(
     made: Made,
-    inputs: usize,
-    cells: usize,
-    rows: usize,
+    size: Counts,
     counts: Counts,
     lows: &mut [i64],
     highs: &mut [i64],
     places: &mut [usize],
 ) -> Stepped
-    requires { ⌜ Sized counts (length (now lows)) (length (now highs)) (length (now places)) × (inputs ≤ 1) × (cells ≤ 4096) × (rows ≤ 4096) ⌝ }
+    requires { ⌜ WithinLimits counts (length (now lows)) (length (now highs)) (length (now places)) × FewCounts size × Placed made (counts .values) ⌝ }
     ensures told { λ r. ⌜ ((p : ℕ) (s : Known) (l : Line) → s ≡ stateOf p counts (now (lows .entry)) (now (highs .entry)) (now (places .entry))
-        → ((es : List Ends) → makes es ≡ toldOf s l → Grows s l inputs cells rows) → madeSeen made ≡ toldOf s l
+        → (Keeps 1 s l → Grows s l size) → madeSeen made ≡ toldOf s l
         → stepSeen p r (now (lows .exit)) (now (highs .exit)) (now (places .exit)) ≡ stepOf s l) ⌝ }
     ensures long { λ r. ⌜ (valuesIn r ≤ 256) × (length (now (lows .exit)) ≡ length (now (lows .entry))) × (length (now (highs .exit)) ≡ length (now (highs .entry)))
         × (length (now (places .exit)) ≡ length (now (places .entry))) ⌝ }
@@ -47,17 +47,14 @@ pub fn grow(
         Made::Breaks(n) => Stepped::Refused(n),
         Made::EndsOf(low, high) => {
             let at = counts.values;
-            if 256 <= at {
-                return Stepped::Refused(8);
-            }
             lows[at] = low;
             highs[at] = high;
             places[at] = counts.cells;
             Stepped::Next(Counts {
-                values: at + 1,
-                inputs: counts.inputs + inputs,
-                cells: counts.cells + cells,
-                rows: counts.rows + rows,
+                values: at + size.values,
+                inputs: counts.inputs + size.inputs,
+                cells: counts.cells + size.cells,
+                rows: counts.rows + size.rows,
             })
         }
     }
@@ -67,15 +64,15 @@ pub fn grow(
 pub fn narrow(
     made: Made,
     at: usize,
-    cells: usize,
+    size: Counts,
     counts: Counts,
     lows: &mut [i64],
     highs: &mut [i64],
     places: &[usize],
 ) -> Stepped
-    requires { ⌜ Sized counts (length (now lows)) (length (now highs)) (length (now places)) × (cells ≤ 31) ⌝ }
+    requires { ⌜ WithinLimits counts (length (now lows)) (length (now highs)) (length (now places)) × FewCounts size × Placed made at ⌝ }
     ensures told { λ r. ⌜ ((p : ℕ) (s : Known) (ns : List ℤ) → s ≡ stateOf p counts (now (lows .entry)) (now (highs .entry)) (now (places .entry))
-        → ((es : List Ends) → makes es ≡ spanTold s (lineWith span ns) → (sizeAt ns 0 ≡ at) × (sizeAt ns 2 ≡ cells))
+        → (Keeps 1 s (lineWith span ns) → (sizeAt ns 0 ≡ at) × Adds s (lineWith span ns) size)
         → madeSeen made ≡ spanTold s (lineWith span ns)
         → stepSeen p r (now (lows .exit)) (now (highs .exit)) (now (places .entry)) ≡ stepOf s (lineWith span ns)) ⌝ }
     ensures long { λ r. ⌜ (valuesIn r ≤ 256) × (length (now (lows .exit)) ≡ length (now (lows .entry))) × (length (now (highs .exit)) ≡ length (now (highs .entry))) ⌝ }
@@ -83,16 +80,13 @@ pub fn narrow(
     match made {
         Made::Breaks(n) => Stepped::Refused(n),
         Made::EndsOf(low, high) => {
-            if 256 <= at {
-                return Stepped::Refused(7);
-            }
             lows[at] = low;
             highs[at] = high;
             Stepped::Next(Counts {
                 values: counts.values,
                 inputs: counts.inputs,
-                cells: counts.cells + cells,
-                rows: counts.rows + (cells + 1),
+                cells: counts.cells + size.cells,
+                rows: counts.rows + size.rows,
             })
         }
     }

@@ -4,7 +4,8 @@ use super::input::read_input;
 use super::max::read_max;
 use super::relu::read_relu;
 use super::root::read_root;
-use super::size::digit_count;
+use super::rule::Made;
+use super::size::line_size;
 use super::size::natural;
 use super::span::read_span;
 use super::state::Counts;
@@ -23,9 +24,37 @@ ghost use lib.ListN.{length, take};
 ghost use Rattle.meaning.specs.Line.{isCount};
 ghost use Rattle.meaning.specs.Known.{Known};
 ghost use Rattle.text.specs.Word.{wordOf};
-ghost use Rattle.reader.specs.State.{Small, Ready, stateOf};
-ghost use Rattle.reader.specs.Told.{lineWith};
-ghost use Rattle.reader.specs.Step.{Sized, valuesIn, stepSeen, stepOf, stepBytes};
+ghost use Rattle.reader.specs.State.{Small, Ready, Seen, stateOf};
+ghost use Rattle.reader.specs.Told.{lineTold, madeSeen, lineWith};
+ghost use Rattle.reader.specs.Step.{WithinLimits, valuesIn, stepSeen, stepOf, stepBytes};
+
+// The ends of the value that a line makes, or narrows, or the number of the first rule that it breaks.
+fn read_ends(
+    word: Word,
+    numbers: &[i64],
+    count: usize,
+    p: u32,
+    values: usize,
+    cells: usize,
+    lows: &[i64],
+    highs: &[i64],
+) -> Made
+    requires { ⌜ Ready p values cells (now lows) (now highs) × (length (now numbers) ≡ 33) × (isCount (wordOf word) count ≡ true) × (count ≤ 33)
+        × Small count (now numbers) ⌝ }
+    ensures { λ r. ⌜ ((s : Known) → Seen s p values cells (now (lows .entry)) (now (highs .entry))
+        → madeSeen r ≡ lineTold s (lineWith (wordOf word) (take count (now (numbers .entry))))) ⌝ }
+{
+    match word {
+        Word::Field => Made::Breaks(4),
+        Word::In => read_input(p, values, cells, lows, highs),
+        Word::Span => read_span(numbers, p, values, cells, lows, highs),
+        Word::Sum => read_sum(numbers, count, p, values, cells, lows, highs),
+        Word::Relu => read_relu(numbers, p, values, cells, lows, highs),
+        Word::Which => read_which(numbers, p, values, cells, lows, highs),
+        Word::Max => read_max(numbers, p, values, cells, lows, highs),
+        Word::Root => read_root(numbers, p, values, cells, lows, highs),
+    }
+}
 
 // What a line with this word and these numbers does to what is known.
 pub fn step(
@@ -38,103 +67,29 @@ pub fn step(
     highs: &mut [i64],
     places: &mut [usize],
 ) -> Stepped
-    requires { ⌜ Ready p (counts .values) (counts .cells) (now lows) (now highs) × Sized counts (length (now lows)) (length (now highs)) (length (now places))
+    requires { ⌜ Ready p (counts .values) (counts .cells) (now lows) (now highs) × WithinLimits counts (length (now lows)) (length (now highs)) (length (now places))
         × (length (now numbers) ≡ 33) × (isCount (wordOf word) count ≡ true) × (count ≤ 33) × Small count (now numbers) ⌝ }
     ensures told { λ r. ⌜ ((s : Known) → s ≡ stateOf p counts (now (lows .entry)) (now (highs .entry)) (now (places .entry))
         → stepSeen p r (now (lows .exit)) (now (highs .exit)) (now (places .exit)) ≡ stepOf s (lineWith (wordOf word) (take count (now (numbers .entry))))) ⌝ }
     ensures long { λ r. ⌜ (valuesIn r ≤ 256) × (length (now (lows .exit)) ≡ length (now (lows .entry))) × (length (now (highs .exit)) ≡ length (now (highs .entry)))
         × (length (now (places .exit)) ≡ length (now (places .entry))) ⌝ }
 {
-    let values = counts.values;
-    let cells = counts.cells;
-    match word {
-        Word::Field => Stepped::Refused(4),
-        Word::In => grow(
-            read_input(p, values, cells, lows, highs),
-            1,
-            1,
-            0,
-            counts,
-            lows,
-            highs,
-            places,
-        ),
-        Word::Span => {
-            let at = natural(numbers[0]);
-            let k = digit_count(numbers[2]);
-            narrow(
-                read_span(numbers, p, values, cells, lows, highs),
-                at,
-                k,
-                counts,
-                lows,
-                highs,
-                places,
-            )
-        }
-        Word::Sum => grow(
-            read_sum(numbers, count, p, values, cells, lows, highs),
-            0,
-            1,
-            1,
-            counts,
-            lows,
-            highs,
-            places,
-        ),
-        Word::Relu => {
-            let k = digit_count(numbers[2]);
-            grow(
-                read_relu(numbers, p, values, cells, lows, highs),
-                0,
-                k + 3,
-                k + 5,
-                counts,
-                lows,
-                highs,
-                places,
-            )
-        }
-        Word::Which => {
-            let k = digit_count(numbers[3]);
-            grow(
-                read_which(numbers, p, values, cells, lows, highs),
-                0,
-                k + 3,
-                k + 5,
-                counts,
-                lows,
-                highs,
-                places,
-            )
-        }
-        Word::Max => {
-            let k = digit_count(numbers[3]);
-            grow(
-                read_max(numbers, p, values, cells, lows, highs),
-                0,
-                2 * k + 1,
-                2 * k + 3,
-                counts,
-                lows,
-                highs,
-                places,
-            )
-        }
-        Word::Root => {
-            let k = digit_count(numbers[2]);
-            grow(
-                read_root(numbers, p, values, cells, lows, highs),
-                0,
-                4 * k + 2,
-                4 * k + 5,
-                counts,
-                lows,
-                highs,
-                places,
-            )
-        }
-    }
+    let made = read_ends(
+        word,
+        numbers,
+        count,
+        p,
+        counts.values,
+        counts.cells,
+        lows,
+        highs,
+    );
+    let size = line_size(word, numbers);
+    let Word::Span = word else {
+        return grow(made, size, counts, lows, highs, places);
+    };
+    let at = natural(numbers[0]);
+    narrow(made, at, size, counts, lows, highs, places)
 }
 
 // A line out of its bytes, and then as above.
@@ -147,7 +102,7 @@ pub fn step_line(
     highs: &mut [i64],
     places: &mut [usize],
 ) -> Stepped
-    requires { ⌜ Ready p (counts .values) (counts .cells) (now lows) (now highs) × Sized counts (length (now lows)) (length (now highs)) (length (now places))
+    requires { ⌜ Ready p (counts .values) (counts .cells) (now lows) (now highs) × WithinLimits counts (length (now lows)) (length (now highs)) (length (now places))
         × (length (now numbers) ≡ 33) ⌝ }
     ensures told { λ r. ⌜ ((s : Known) → s ≡ stateOf p counts (now (lows .entry)) (now (highs .entry)) (now (places .entry))
         → stepSeen p r (now (lows .exit)) (now (highs .exit)) (now (places .exit)) ≡ stepBytes s (now (line .entry))) ⌝ }

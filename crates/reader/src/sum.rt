@@ -10,6 +10,8 @@ use number::whole::Whole;
 use number::whole::in_range;
 use number::whole::larger;
 use number::whole::smaller;
+use number::whole::whole_product;
+use number::whole::whole_sum;
 ghost use mathlib.Core.Path.{_≡_};
 ghost use mathlib.Core.Bool.{true};
 ghost use mathlib.Core.List.{_∷_};
@@ -24,7 +26,7 @@ ghost use Rattle.meaning.specs.Gadget.Sum.{termsOf, endsInRange};
 ghost use Rattle.number.specs.Bounded.{Bounded};
 ghost use Rattle.reader.specs.State.{Small, Ready, Seen};
 ghost use Rattle.reader.specs.Told.{toldOf, madeSeen, lineWith};
-ghost use Rattle.reader.specs.Rule.{endsSeen, Sized};
+ghost use Rattle.reader.specs.Rule.{endsSeen, BoundedEnds};
 ghost use Rattle.reader.specs.Sum.{sumTold, Scaled, Added};
 
 // c0, then count / 2 pairs of a coefficient and a name.
@@ -129,13 +131,13 @@ fn constant(numbers: &[i64]) -> Ends
 
 // The ends of c times a value.
 fn scaled(c: i64, e: Ends) -> Ends
-    requires { ⌜ Bounded 2147483647 c × Sized 2147483647 e ⌝ }
+    requires { ⌜ Bounded 2147483647 c × BoundedEnds 2147483647 e ⌝ }
     ensures { λ r. ⌜ Scaled c e r ⌝ }
 {
-    let one = c * e.low;
-    let other = c * e.high;
-    let low = smaller(Whole(one), Whole(other));
-    let high = larger(Whole(one), Whole(other));
+    let one = whole_product(Whole(c), Whole(e.low));
+    let other = whole_product(Whole(c), Whole(e.high));
+    let low = smaller(one, other);
+    let high = larger(one, other);
     Ends {
         low: low.0,
         high: high.0,
@@ -143,14 +145,14 @@ fn scaled(c: i64, e: Ends) -> Ends
 }
 
 fn plus(a: Ends, b: Ends) -> Ends
-    requires { ⌜ Sized 2147483647 a × Sized 4611686014132420609 b ⌝ }
+    requires { ⌜ BoundedEnds 2147483647 a × BoundedEnds 4611686014132420609 b ⌝ }
     ensures { λ r. ⌜ Added a b r ⌝ }
 {
-    let low = a.low + b.low;
-    let high = a.high + b.high;
+    let low = whole_sum(Whole(a.low), Whole(b.low));
+    let high = whole_sum(Whole(a.high), Whole(b.high));
     Ends {
-        low: low,
-        high: high,
+        low: low.0,
+        high: high.0,
     }
 }
 

@@ -39,7 +39,7 @@ abbrev Between : Ends → ℤ → Type 0
 Between es x = (es .E ≤ℤ x) × (x ≤ℤ es .F)
 
 -- a coefficient that is not negative keeps the order of the ends, and a negative one turns it round
-scaled-between : (c x : ℤ) (es : Ends) → Between es x → Between (scaled c es) (c *ℤ x)
+pub scaled-between : (c x : ℤ) (es : Ends) → Between es x → Between (scaled c es) (c *ℤ x)
 unfolding scaled
 scaled-between (pos c) x es h =
     let a = smaller-left (pos c *ℤ es .E) (pos c *ℤ es .F) in
@@ -54,7 +54,7 @@ scaled-between (negsuc c) x es h =
     let high = product-turns c (es .E) x (h .0) in
     (omega linear, omega linear)
 
-added-between : (a b : Ends) (x y : ℤ) → Between a x → Between b y → Between (added a b) (x +ℤ y)
+pub added-between : (a b : Ends) (x y : ℤ) → Between a x → Between b y → Between (added a b) (x +ℤ y)
 unfolding added
 added-between a b x y h k = (omega (linear, h .0, k .0), omega (linear, h .1, k .1))
 

@@ -7,7 +7,7 @@ use mir.Val.{SFits, toZ, ofZ}
 use Rattle.meaning.specs.Known.{larger, smaller}
 use Rattle.number.specs.Bounded.{Bounded}
 use Rattle.number.proofs.Word.{back}
-use Rattle.reader.proofs.Values.{larger-bounded, smaller-bounded}
+use Rattle.number.proofs.Bounded.{larger-bounded, smaller-bounded}
 use borrow.Author.Needs.{needs}
 use Rattle.reader.proofs.max.above.Statement.{statement}
 use Rattle.reader.proofs.max.above.Tie as tie
@@ -37,8 +37,8 @@ returns c =
     back g ∙ (rw (back high) at (at-larger .larger .ensures)) in
     record {
       sized = record {
-        low-sized = rw small (smaller-bounded 4294967294 (pos 0) (between .result .low) zero (between .ensures .sized .low-sized));
-        high-sized = rw large (larger-bounded 4294967294 (pos 0) (between .result .high) zero (between .ensures .sized .high-sized));
+        low-sized = rw small (smaller-bounded zero (between .ensures .sized .low-sized));
+        high-sized = rw large (larger-bounded zero (between .ensures .sized .high-sized));
       };
       low-is = small ∙ ap (smaller (pos 0)) (between .ensures .low-is);
       high-is = large ∙ ap (larger (pos 0)) (between .ensures .high-is);

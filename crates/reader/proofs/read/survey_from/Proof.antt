@@ -1,13 +1,11 @@
 -- `reader::read::survey_from`: the walk over the lines, with what holds before each of them as the invariant.
-use mathlib.Core.Path.{refl, sym, ap, _∙_}
+use mathlib.Core.Path.{refl}
 use Prim.Native.Nat.{_-_}
 use lib.ListN.{length}
 use native.Mathlib.Omega.{arith}
 use denote.Ref.{now}
 use borrow.Author.Needs.{needs}
-use Rattle.reader.specs.Step.{valuesIn, stepSeen}
 use Rattle.reader.specs.Read.{surveySeen, primeSeen}
-use Rattle.reader.specs.declared.state.Stepped.{Stepped}
 use Rattle.reader.proofs.Walk.{Walked, walk-ready, walk-start, walk-end, walk-stopped, walk-next}
 use Rattle.reader.proofs.read.survey_from.Statement.{statement}
 use Rattle.reader.proofs.read.survey_from.Tie as tie

@@ -8,44 +8,48 @@ use Rattle.number.proofs.Bounded.{bounded-difference, difference-fits}
 use borrow.Author.Needs.{needs}
 use Rattle.reader.proofs.rule.apart.Statement.{statement}
 use Rattle.reader.proofs.rule.apart.Tie as tie
+use Rattle.reader.proofs.rule.apart.Reads as reads
+use Rattle.reader.proofs.rule.apart.Lts as lts
+use Rattle.number.proofs.whole.whole_difference.Reads as whole-difference-reads
 
-sub-low : tie.Need-sub-low
-sub-low c =
-    let start = c .before .before .before .before in
-    let f : SFits w64 (start .args .u .low) = search needs in
-    let g : SFits w64 (start .args .v .high) = search needs in
-    rw (back f, back g) (difference-fits (start .args .u .low) (start .args .v .high) (start .pre .0 .low-sized)
-    (start .pre .1 .high-sized) tt)
+-- src/rule.rt:143:9
+whole-difference-requires : tie.Need-whole-difference-requires
+whole-difference-requires c κs =
+    let S = c .before .before in
+    let f : SFits w64 (S .args .u .low) = search needs in
+    let g : SFits w64 (S .args .v .high) = search needs in
+    rw (back f, back g) (difference-fits (S .args .u .low) (S .args .v .high) (S .pre .0 .low-sized) (S .pre .1 .high-sized) tt)
 
-sub-high : tie.Need-sub-high
-sub-high c =
-    let start = c .before .before .before .before .before .before .before .before in
-    let f : SFits w64 (start .args .u .high) = search needs in
-    let g : SFits w64 (start .args .v .low) = search needs in
-    rw (back f, back g) (difference-fits (start .args .u .high) (start .args .v .low) (start .pre .0 .high-sized)
-    (start .pre .1 .low-sized) tt)
+-- src/rule.rt:144:9
+whole-difference-requires-2 : tie.Need-whole-difference-requires-2
+whole-difference-requires-2 c κs =
+    let S = c .before .before .before .before .before in
+    let f : SFits w64 (S .args .u .high) = search needs in
+    let g : SFits w64 (S .args .v .low) = search needs in
+    rw (back f, back g) (difference-fits (S .args .u .high) (S .args .v .low) (S .pre .0 .high-sized) (S .pre .1 .low-sized) tt)
 
+-- src/rule.rt:139:1
 returns : tie.Need-returns
 returns c =
-    let start = c .before .before .before .before .before .before .before .before in
-    let u = start .args .u in
-    let v = start .args .v in
-    let f : SFits w64 (u .low) = search needs in
-    let g : SFits w64 (v .high) = search needs in
-    let h : SFits w64 (u .high) = search needs in
-    let k : SFits w64 (v .low) = search needs in
-    let low : toZ w64 (ofZ w64 (toZ w64 (ofZ w64 (u .low)) -ℤ toZ w64 (ofZ w64 (v .high)))) ≡ u .low -ℤ v .high =
-    back (sub-low (c .before .before .before .before)) ∙ rw (back f, back g) in
-    let high : toZ w64 (ofZ w64 (toZ w64 (ofZ w64 (u .high)) -ℤ toZ w64 (ofZ w64 (v .low)))) ≡ u .high -ℤ v .low =
-    back (sub-high c) ∙ rw (back h, back k) in
+    let S = c .before .before .before .before .before .before .before .before in
+    let u = S .args .u in
+    let v = S .args .v in
+    let u-low : SFits w64 (u .low) = search needs in
+    let v-high : SFits w64 (v .high) = search needs in
+    let u-high : SFits w64 (u .high) = search needs in
+    let v-low : SFits w64 (v .low) = search needs in
+    let low-fits : SFits w64 (c .before .before .before .before .before .whole-difference .result .0) = search needs in
+    let low : toZ w64 (ofZ w64 (c .before .before .before .before .before .whole-difference .result .0)) ≡ u .low -ℤ v .high = back low-fits ∙ (rw (back u-low, back v-high) at (c .before .before .before .before .before .whole-difference .ensures)) in
+    let high-fits : SFits w64 (c .before .before .whole-difference2 .result .0) = search needs in
+    let high : toZ w64 (ofZ w64 (c .before .before .whole-difference2 .result .0)) ≡ u .high -ℤ v .low = back high-fits ∙ (rw (back u-high, back v-low) at (c .before .before .whole-difference2 .ensures)) in
     record {
       sized = record {
-        low-sized = rw low (bounded-difference (start .pre .0 .low-sized) (start .pre .1 .high-sized));
-        high-sized = rw high (bounded-difference (start .pre .0 .high-sized) (start .pre .1 .low-sized));
+        low-sized = rw low (bounded-difference (S .pre .0 .low-sized) (S .pre .1 .high-sized));
+        high-sized = rw high (bounded-difference (S .pre .0 .high-sized) (S .pre .1 .low-sized));
       };
       low-is = low;
       high-is = high;
     }
 
 pub apart-spec : {M : Type 1} → statement M
-apart-spec = tie.close (tie.spec sub-low sub-high returns)
+apart-spec = tie.close (tie.spec whole-difference-requires whole-difference-requires-2 returns)

@@ -1,7 +1,7 @@
 -- L + c - 1 fits; the new ends are the larger and the smaller, and the test is the definition's own, read from bits.
 use mathlib.Core.Path.{_≡_, _∙_}
 use native.Mathlib.Omega.{arith}
-use lib.IntN.{ℤ, pos, _+ℤ_}
+use lib.IntN.{pos, _+ℤ_}
 use mir.Syntax.{w64}
 use mir.Val.{SFits, toZ, ofZ}
 use Rattle.meaning.specs.Known.{larger, smaller}

@@ -1,6 +1,5 @@
 -- Above p the digit rule is broken; else what is left of it is `is_narrow`, and then the ends are `shared_ends`.
 use mathlib.Core.Path.{_≡_, sym, _∙_}
-use Prim.Native.Nat.{_-_}
 use native.Mathlib.Omega.{arith}
 use borrow.Author.Tests.{not-true, not-false}
 use Rattle.meaning.specs.Known.{digitRule}

@@ -6,69 +6,71 @@ use mir.Val.{SFits, toZ, ofZ}
 use Rattle.meaning.specs.Known.{larger, smaller}
 use Rattle.number.specs.Bounded.{Bounded}
 use Rattle.number.proofs.Word.{back}
-use Rattle.number.proofs.Bounded.{bounded-product, product-fits}
-use Rattle.reader.proofs.Values.{larger-bounded, smaller-bounded}
+use Rattle.number.proofs.Bounded.{bounded-product, larger-bounded, smaller-bounded, product-fits}
 use borrow.Author.Needs.{needs}
 use Rattle.reader.proofs.sum.scaled.Statement.{statement}
 use Rattle.reader.proofs.sum.scaled.Tie as tie
+use Rattle.reader.proofs.sum.scaled.Reads as reads
+use Rattle.reader.proofs.sum.scaled.Lts as lts
+use Rattle.number.proofs.whole.larger.Reads as larger-reads
+use Rattle.number.proofs.whole.smaller.Reads as smaller-reads
+use Rattle.number.proofs.whole.whole_product.Reads as whole-product-reads
 
-mul-one : tie.Need-mul-one
-mul-one c =
-    let start = c .before .before in
-    let f : SFits w64 (start .args .e .low) = search needs in
-    rw (back (start .fits .c), back f) (product-fits (start .args .c) (start .args .e .low) (start .pre .0) (start .pre .1 .low-sized) tt)
+-- src/sum.rt:137:9
+whole-product-requires : tie.Need-whole-product-requires
+whole-product-requires c κs =
+    let S = c .before in
+    let f : SFits w64 (S .args .e .low) = search needs in
+    rw (back (S .fits .c), back f) (product-fits (S .args .c) (S .args .e .low) (S .pre .0) (S .pre .1 .low-sized) tt)
 
-mul-other : tie.Need-mul-other
-mul-other c =
-    let start = c .before .before .before .before in
-    let f : SFits w64 (start .args .e .high) = search needs in
-    rw (back (start .fits .c), back f) (product-fits (start .args .c) (start .args .e .high) (start .pre .0) (start .pre .1 .high-sized) tt)
+-- src/sum.rt:138:9
+whole-product-requires-2 : tie.Need-whole-product-requires-2
+whole-product-requires-2 c κs =
+    let S = c .before .before .before in
+    let f : SFits w64 (S .args .e .high) = search needs in
+    rw (back (S .fits .c), back f) (product-fits (S .args .c) (S .args .e .high) (S .pre .0) (S .pre .1 .high-sized) tt)
 
-one-is : (c : tie.After-struct-told)
-    → let a = c .before .before .args in toZ w64 (ofZ w64 (toZ w64 (ofZ w64 (a .c)) *ℤ toZ w64 (ofZ w64 (a .e .low)))) ≡ a .c *ℤ a .e .low
-one-is c =
-    let start = c .before .before in
-    let f : SFits w64 (start .args .e .low) = search needs in
-    back (mul-one c) ∙ rw (back (start .fits .c), back f)
-
-other-is : (c : tie.After-struct-told2)
-    → let a = c .before .before .before .before .args in toZ w64 (ofZ w64 (toZ w64 (ofZ w64 (a .c)) *ℤ toZ w64 (ofZ w64 (a .e .high))))
-    ≡ a .c *ℤ a .e .high
-other-is c =
-    let start = c .before .before .before .before in
-    let f : SFits w64 (start .args .e .high) = search needs in
-    back (mul-other c) ∙ rw (back (start .fits .c), back f)
-
+-- src/sum.rt:139:9
 smaller-requires : tie.Need-smaller-requires
 smaller-requires c κs = search needs
 
+-- src/sum.rt:140:9
 larger-requires : tie.Need-larger-requires
 larger-requires c κs = search needs
 
+-- src/sum.rt:133:1
 returns : tie.Need-returns
 returns c =
-    let at-larger = c .before .before in
-    let at-smaller = at-larger .before in
-    let at-other = at-smaller .before in
-    let start = at-other .before .before .before .before in
-    let one : ℤ = start .args .c *ℤ start .args .e .low in
-    let other : ℤ = start .args .c *ℤ start .args .e .high in
-    let f : SFits w64 (at-smaller .smaller .result .0) = search needs in
-    let g : SFits w64 (at-larger .larger .result .0) = search needs in
-    let small : toZ w64 (ofZ w64 (at-smaller .smaller .result .0)) ≡ smaller one other =
-    back f ∙ (rw (one-is (at-other .before .before), other-is at-other) at (at-smaller .smaller .ensures)) in
-    let large : toZ w64 (ofZ w64 (at-larger .larger .result .0)) ≡ larger one other =
-    back g ∙ (rw (one-is (at-other .before .before), other-is at-other) at (at-larger .larger .ensures)) in
-    let first : Bounded 4611686014132420609 one = bounded-product (start .pre .0) (start .pre .1 .low-sized) in
-    let second : Bounded 4611686014132420609 other = bounded-product (start .pre .0) (start .pre .1 .high-sized) in
+    let S = c .before .before .before .before .before .before .before .before in
+    let f : SFits w64 (S .args .e .low) = search needs in
+    let g : SFits w64 (S .args .e .high) = search needs in
+    let one-is = rw (back (S .fits .c), back f) at (c .before .before .before .before .before .before .whole-product .ensures) in
+    let other-is = rw (back (S .fits .c), back g) at (c .before .before .before .before .whole-product2 .ensures) in
+    let one : ℤ = S .args .c *ℤ S .args .e .low in
+    let other : ℤ = S .args .c *ℤ S .args .e .high in
+    let small-fits : SFits w64 (c .before .before .before .smaller .result .0) = search needs in
+    let large-fits : SFits w64 (c .before .before .larger .result .0) = search needs in
+    let small : toZ w64 (ofZ w64 (c .before .before .before .smaller .result .0)) ≡ smaller one other =
+    back small-fits ∙ (rw (one-is, other-is) at (c .before .before .before .smaller .ensures)) in
+    let large : toZ w64 (ofZ w64 (c .before .before .larger .result .0)) ≡ larger one other =
+    back large-fits ∙ (rw (one-is, other-is) at (c .before .before .larger .ensures)) in
+    let first : Bounded 4611686014132420609 one = bounded-product (S .pre .0) (S .pre .1 .low-sized) in
+    let second : Bounded 4611686014132420609 other = bounded-product (S .pre .0) (S .pre .1 .high-sized) in
     record {
       sized = record {
-        low-sized = rw small (smaller-bounded 4611686014132420609 one other first second);
-        high-sized = rw large (larger-bounded 4611686014132420609 one other first second);
+        low-sized = rw small (smaller-bounded first second);
+        high-sized = rw large (larger-bounded first second);
       };
       low-is = small;
       high-is = large;
     }
 
 pub scaled-spec : {M : Type 1} → statement M
-scaled-spec = tie.close (tie.spec mul-one mul-other smaller-requires larger-requires returns)
+scaled-spec =
+    tie.close
+    (tie.spec
+    whole-product-requires
+    whole-product-requires-2
+    smaller-requires
+    larger-requires
+    returns)

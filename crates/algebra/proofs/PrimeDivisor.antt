@@ -1,13 +1,12 @@
 -- Every number above 1 has a prime divisor, the least of its divisors above 1: so trying primes up to the square root proves a prime.
--- Pure mathematics, beside the primes by trial of algebra.
 use mathlib.Core.Path.{_≡_}
 use mathlib.Core.Logic.{_≢_}
 use Prim.Native.Nat.{ℕ, zero, suc, _+_, _-_, _*_, _%_, _≤_, _<_, _∣_}
 use native.Mathlib.Omega.{arith}
 use native.Mathlib.Decide.{ℕ-discrete}
 use native.Mathlib.Nat.{dvd-refl, dvd-trans, le-of-dvd, dvd-of-mod-eq-zero, mod-eq-zero-of-dvd, mul-le-mul}
 use Rattle.algebra.specs.Prime.{Prime}
 use Rattle.algebra.proofs.Prime.{prime-by-trial, prime-by-roots}
 
 -- none below d divides n: d is tried, and then what is left, m more
 least : (m n d : ℕ) → d + m ≡ n → 1 < d → ((e : ℕ) → 1 < e → e < d → n % e ≢ 0) → (q : ℕ) × Prime q × (q ∣ n)
