@@ -4,15 +4,15 @@
 //
 // A function that writes cells is lent the part of the table that starts at the line's first cell. It writes the line's cells
 // there and leaves the rest of the part as it was. Checking writes nothing: the table is a shared slice.
-pub mod group;
+mod group;
 pub mod input;
 pub mod line_rows;
 pub mod max;
-pub mod numbers;
+mod numbers;
 pub mod relu;
 pub mod root;
-pub mod rows;
-pub mod sign;
+mod rows;
+mod sign;
 pub mod span;
 pub mod sum;
 pub mod value;

@@ -68,7 +68,7 @@ pub fn relu_cells(out: &mut [u32], p: u32, v: i64, b: u32, k: usize, c: u64)
 
 // ---- rows
 
-pub fn relu_rows(table: &[u32], p: u32, place: Cell, at: Cell, b: u32, k: usize) -> Rows
+fn relu_rows(table: &[u32], p: u32, place: Cell, at: Cell, b: u32, k: usize) -> Rows
     requires { ⌜ (1 < p) × Below p (now table) × (place .0 < length (now table)) × (at .0 + k + 3 ≤ length (now table)) × (0 < b) × (0 < k) ⌝ }
     ensures { λ r. ⌜ ((s : Known) (v : ℕ) → s .p ≡ p → placeOf s v ≡ place .0 → s .cells ≡ at .0
         → rowsSeen r ≡ firstFail (holds p (now (table .entry))) 0 (reluLine s v b k .rows)) ⌝ }

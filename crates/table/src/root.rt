@@ -93,7 +93,7 @@ fn rest_cells(out: &mut [u32], v: i64, r: i64, b: u32, k: usize)
 
 // ---- rows
 
-pub fn root_rows(table: &[u32], p: u32, place: Cell, at: Cell, b: u32, k: usize) -> Rows
+fn root_rows(table: &[u32], p: u32, place: Cell, at: Cell, b: u32, k: usize) -> Rows
     requires { ⌜ (2 < p) × Below p (now table) × (place .0 < length (now table)) × (at .0 + 2 + 4 * k ≤ length (now table)) ⌝ }
     ensures { λ r. ⌜ ((s : Known) (v : ℕ) → s .p ≡ p → placeOf s v ≡ place .0 → s .cells ≡ at .0
         → rowsSeen r ≡ firstFail (holds p (now (table .entry))) 0 (rootLine s v b k .rows)) ⌝ }

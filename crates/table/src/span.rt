@@ -48,7 +48,7 @@ pub fn span_cells(out: &mut [u32], v: i64, b: u32, k: usize, shift: i64)
 
 // ---- rows
 
-pub fn span_rows(table: &[u32], p: u32, place: Cell, at: Cell, b: u32, k: usize, shift: i64) -> Rows
+fn span_rows(table: &[u32], p: u32, place: Cell, at: Cell, b: u32, k: usize, shift: i64) -> Rows
     requires { ⌜ (0 < p) × Below p (now table) × (place .0 < length (now table)) × (at .0 + k ≤ length (now table)) ⌝ }
     ensures { λ r. ⌜ ((s : Known) (v : ℕ) → s .p ≡ p → placeOf s v ≡ place .0 → s .cells ≡ at .0
         → rowsSeen r ≡ firstFail (holds p (now (table .entry))) 0 (spanLine s v b k shift .rows)) ⌝ }

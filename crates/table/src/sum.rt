@@ -52,7 +52,7 @@ pub fn sum_cells(out: &mut [u32], p: u32, x: i64)
 
 // ---- rows
 
-pub fn sum_rows(
+fn sum_rows(
     table: &[u32],
     p: u32,
     at: Cell,

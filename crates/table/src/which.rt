@@ -65,7 +65,7 @@ pub fn which_cells(out: &mut [u32], p: u32, u: i64, v: i64, b: u32, k: usize, c:
 
 // ---- rows
 
-pub fn which_rows(
+fn which_rows(
     table: &[u32],
     p: u32,
     place_u: Cell,
