@@ -10,6 +10,7 @@ pub mod WorksSign
 pub mod WorksSum
 pub mod WorksSumFits
 pub mod LineNumbers
+pub mod LineKinds
 pub mod RowsFirst
 pub mod RowsForm
 pub mod RowsGroup
