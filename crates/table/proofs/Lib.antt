@@ -11,6 +11,7 @@ pub mod WorksSign
 pub mod WorksSum
 pub mod WorksSumFits
 pub mod LineNumbers
+pub mod LineKinds
 pub mod LineValues
 pub mod WorksLine
 pub mod RowsFirst

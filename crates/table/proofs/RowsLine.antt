@@ -1,39 +1,33 @@
--- A line of a list that was read, as the functions that check its rows take it: what its kind says of its numbers, the places that its
--- names lead to, the room for its cells, and that what is told of the code's numbers is told of the line. One law for all kinds that name
--- one value, and one for all that name two.
+-- A line of a list that was read, as the functions that check its rows take it: its word in the code's own type, the places that its
+-- names lead to, the room for its cells, and that what is told of the code's numbers is told of the line.
 use mathlib.Core.Path.{_≡_, refl, sym, ap, subst, _∙_}
 use mathlib.Core.Bool.{false}
-use mathlib.Core.List.{List, [], _∷_}
+use mathlib.Core.List.{List, []}
 use mathlib.Core.Option.{Option}
-use Prim.Native.Nat.{ℕ, suc, _+_, _≤_, _<_}
+use Prim.Native.Nat.{ℕ, _+_, _≤_, _<_}
 use native.Mathlib.Omega.{arith}
 use lib.Dec.{eqb}
 use lib.IntN.{ℤ, pos, natAbs}
 use lib.ListN.{length, getD, take}
 use lib.Seq.{getD-take}
 use lib.Signed.{_≤ℤ_}
-use Rattle.meaning.specs.Line.{Word, span, relu, which, max, root, isCount, numberAt, sizeAt, namesOf, digitsAt, digitsOf}
+use Rattle.meaning.specs.Line.{Word, isCount}
 use Rattle.meaning.specs.Known.{Known, placeOf}
 use Rattle.meaning.specs.Row.{holds}
 use Rattle.meaning.specs.Reply.{firstFail}
 use Rattle.meaning.specs.Gadget.Interface.{Gadget}
-use Rattle.meaning.specs.Gadget.Span.{spanLine}
-use Rattle.meaning.specs.Gadget.Relu.{reluLine}
-use Rattle.meaning.specs.Gadget.Which.{whichLine}
-use Rattle.meaning.specs.Gadget.Max.{maxLine}
-use Rattle.meaning.specs.Gadget.Root.{rootLine}
 use Rattle.meaning.specs.Meaning.{byWord, gadget}
 use Rattle.meaning.specs.Refusal.{isField}
 use Rattle.text.specs.Word.{wordOf}
 use Rattle.text.specs.declared.Word.{Word as CodeWord}
-use Rattle.reader.specs.State.{greatest}
 use Rattle.reader.proofs.Sizes.{count-is}
 use Rattle.table.specs.Rows.{rowsSeen}
 use Rattle.table.specs.Line.{gadgetOf, knownCount}
 use Rattle.table.specs.LineRows.{RowsAsked, RowsTold}
 use Rattle.table.specs.declared.rows.Rows.{Rows}
 use Rattle.table.specs.declared.rows.Rows.the-variants.{AllHold}
-use Rattle.table.proofs.LineNumbers.{NameAt, first-name, second-name, DigitsFrom, digits-from, size-is, prime-is}
+use Rattle.table.proofs.LineNumbers.{NameAt, prime-is}
+use Rattle.table.proofs.LineKinds.{OneWord, one-name, one-is, TwoWord, two-first, two-second, two-is}
 
 -- ---- a line by its word, in the code's own type
 
@@ -68,63 +62,7 @@ pub no-row : (p : ℕ) (w : Word) (numbers : List ℤ) (count : ℕ) (table : Li
 unfolding gadget rowsSeen firstFail
 no-row p w numbers count table cells places none a = rw (none (a .kept .state) (take count numbers)) refl
 
--- ---- kinds of lines
-
--- a base stands at place i and its digit count after it
-pub record DigitWord (w : Word) (numbers : List ℤ) (count i : ℕ) : Type 0 where
-  pub late : isField w ≡ false
-  pub long : suc i < count
-  pub digits : digitsOf w (take count numbers) ≡ digitsAt (take count numbers) i
-
--- before it one value is named
-pub record OneWord (w : Word) (numbers : List ℤ) (count : ℕ) (line : Known → (v b k : ℕ) → Gadget) : Type 0 where
-  pub has-digits : DigitWord w numbers count 1
-  pub names : namesOf w (take count numbers) ≡ numberAt (take count numbers) 0 ∷ []
-  pub is : (s : Known) → byWord w s (take count numbers)
-      ≡ line s (sizeAt (take count numbers) 0) (sizeAt (take count numbers) 1) (sizeAt (take count numbers) 2)
-
--- or two
-pub record TwoWord (w : Word) (numbers : List ℤ) (count : ℕ) (line : Known → (u v b k : ℕ) → Gadget) : Type 0 where
-  pub has-digits : DigitWord w numbers count 2
-  pub names : namesOf w (take count numbers) ≡ numberAt (take count numbers) 0 ∷ numberAt (take count numbers) 1 ∷ []
-  pub is : (s : Known) → byWord w s (take count numbers)
-      ≡ line s (sizeAt (take count numbers) 0) (sizeAt (take count numbers) 1) (sizeAt (take count numbers) 2) (sizeAt (take count numbers) 3)
-
-module _ (numbers : List ℤ) where
-  pub relu-word : OneWord relu numbers 3 reluLine
-  unfolding isField digitsOf namesOf byWord
-  relu-word = record { has-digits = record { late = refl; long = omega arith; digits = refl }; names = refl; is = λ s. refl }
-
-  pub root-word : OneWord root numbers 3 rootLine
-  unfolding isField digitsOf namesOf byWord
-  root-word = record { has-digits = record { late = refl; long = omega arith; digits = refl }; names = refl; is = λ s. refl }
-
-  pub span-word : OneWord span numbers 4 (λ s v b k. spanLine s v b k (getD numbers 3 (pos 0)))
-  unfolding isField digitsOf namesOf byWord numberAt
-  span-word =
-      let shift : getD (take 4 numbers) 3 (pos 0) ≡ getD numbers 3 (pos 0) = getD-take 4 numbers 3 (pos 0) (omega arith) in
-      record {
-        has-digits = record { late = refl; long = omega arith; digits = refl };
-        names = refl;
-        is = λ s. ap (λ (z : ℤ). spanLine s (sizeAt (take 4 numbers) 0) (sizeAt (take 4 numbers) 1) (sizeAt (take 4 numbers) 2) z) shift;
-      }
-
-  pub which-word : TwoWord which numbers 4 whichLine
-  unfolding isField digitsOf namesOf byWord
-  which-word = record { has-digits = record { late = refl; long = omega arith; digits = refl }; names = refl; is = λ s. refl }
-
-  pub max-word : TwoWord max numbers 4 maxLine
-  unfolding isField digitsOf namesOf byWord
-  max-word = record { has-digits = record { late = refl; long = omega arith; digits = refl }; names = refl; is = λ s. refl }
-
--- ---- what the numbers are asked with
-
-module _ {numbers : List ℤ} (i : ℕ) (d : DigitsFrom numbers i) where
-  pub base-asked : (i < length numbers) × (pos 0 ≤ℤ getD numbers i (pos 0)) × (natAbs (getD numbers i (pos 0)) ≤ greatest)
-  base-asked = (d .base-inside, d .base-natural, d .base-most)
-
-  pub count-asked : (suc i < length numbers) × (pos 0 ≤ℤ getD numbers (suc i) (pos 0))
-  count-asked = (d .count-inside, d .count-natural)
+-- ---- what is asked, and what is told
 
 module _ {p : ℕ} {w : Word} {numbers : List ℤ} {count : ℕ} {table : List ℕ} {cells : ℕ} {places : List ℕ}
     (a : RowsAsked p w numbers count table cells places) where
@@ -144,58 +82,34 @@ module _ {p : ℕ} {w : Word} {numbers : List ℤ} {count : ℕ} {table : List �
     unfolding placeOf
     name-placed e = rw (a .places-are) (getD-take (knownCount (a .kept)) places (natAbs (getD numbers i (pos 0))) 0 (name .below) ∙ sym e)
 
-  pub word-digits : (i : ℕ) → DigitWord w numbers count i → DigitsFrom numbers i
-  word-digits i d = digits-from (a .kept) i (d .long) (d .late) (d .digits)
-
   -- ---- a line that names one value
 
-  module _ {line : Known → (v b k : ℕ) → Gadget} (word : OneWord w numbers count line) where
-    pub one-name : NameAt (knownCount (a .kept)) numbers 0
-    one-name = first-name (a .kept) 0 [] (omega (arith, word .has-digits .long)) (word .names)
+  module _ {line : Known → (v b k : ℕ) → Gadget} (word : OneWord w numbers count line)
+      {b k : ℕ} (b-is : b ≡ natAbs (getD numbers 1 (pos 0))) (k-is : k ≡ natAbs (getD numbers 2 (pos 0))) where
+    pub one-room : cells + line (a .kept .state) (natAbs (getD numbers 0 (pos 0))) b k .width ≤ length table
+    one-room = subst (λ (g : Gadget). cells + g .width ≤ length table) (one-is (a .kept) word b-is k-is) (a .room)
 
-    module _ {b k : ℕ} (b-is : b ≡ natAbs (getD numbers 1 (pos 0))) (k-is : k ≡ natAbs (getD numbers 2 (pos 0))) where
-      pub one-is : gadgetOf (a .kept) ≡ line (a .kept .state) (natAbs (getD numbers 0 (pos 0))) b k
-      unfolding gadget
-      one-is =
-          let h = word .has-digits .long in
-          word .is (a .kept .state)
-          ∙ rw (size-is (a .kept) 0 (omega arith), size-is (a .kept) 1 (omega arith), size-is (a .kept) 2 h, b-is, k-is) refl
-
-      pub one-room : cells + line (a .kept .state) (natAbs (getD numbers 0 (pos 0))) b k .width ≤ length table
-      one-room = subst (λ (g : Gadget). cells + g .width ≤ length table) one-is (a .room)
-
-      pub one-told : {place : ℕ} {seen : Option ℕ} → place ≡ getD places (natAbs (getD numbers 0 (pos 0))) 0
-          → ((s : Known) (v : ℕ) → s .p ≡ p → placeOf s v ≡ place → s .cells ≡ cells → seen ≡ firstFail (holds p table) 0 (line s v b k .rows))
-          → seen ≡ firstFail (holds p table) 0 (gadgetOf (a .kept) .rows)
-      one-told place-is told =
-          told (a .kept .state) (natAbs (getD numbers 0 (pos 0))) (a .prime (word .has-digits .late)) (name-placed 0 one-name place-is) (a .cells-are)
-          ∙ ap (λ (g : Gadget). firstFail (holds p table) 0 (g .rows)) (sym one-is)
+    pub one-told : {place : ℕ} {seen : Option ℕ} → place ≡ getD places (natAbs (getD numbers 0 (pos 0))) 0
+        → ((s : Known) (v : ℕ) → s .p ≡ p → placeOf s v ≡ place → s .cells ≡ cells → seen ≡ firstFail (holds p table) 0 (line s v b k .rows))
+        → seen ≡ firstFail (holds p table) 0 (gadgetOf (a .kept) .rows)
+    one-told place-is told =
+        told (a .kept .state) (natAbs (getD numbers 0 (pos 0))) (a .prime (word .has-digits .late))
+        (name-placed 0 (one-name (a .kept) word) place-is) (a .cells-are)
+        ∙ ap (λ (g : Gadget). firstFail (holds p table) 0 (g .rows)) (sym (one-is (a .kept) word b-is k-is))
 
   -- ---- a line that names two
 
-  module _ {line : Known → (u v b k : ℕ) → Gadget} (word : TwoWord w numbers count line) where
-    pub two-first : NameAt (knownCount (a .kept)) numbers 0
-    two-first = first-name (a .kept) 0 _ (omega (arith, word .has-digits .long)) (word .names)
+  module _ {line : Known → (u v b k : ℕ) → Gadget} (word : TwoWord w numbers count line)
+      {b k : ℕ} (b-is : b ≡ natAbs (getD numbers 2 (pos 0))) (k-is : k ≡ natAbs (getD numbers 3 (pos 0))) where
+    pub two-room : cells + line (a .kept .state) (natAbs (getD numbers 0 (pos 0))) (natAbs (getD numbers 1 (pos 0))) b k .width ≤ length table
+    two-room = subst (λ (g : Gadget). cells + g .width ≤ length table) (two-is (a .kept) word b-is k-is) (a .room)
 
-    pub two-second : NameAt (knownCount (a .kept)) numbers 1
-    two-second = second-name (a .kept) 1 _ [] (omega (arith, word .has-digits .long)) (word .names)
-
-    module _ {b k : ℕ} (b-is : b ≡ natAbs (getD numbers 2 (pos 0))) (k-is : k ≡ natAbs (getD numbers 3 (pos 0))) where
-      pub two-is : gadgetOf (a .kept) ≡ line (a .kept .state) (natAbs (getD numbers 0 (pos 0))) (natAbs (getD numbers 1 (pos 0))) b k
-      unfolding gadget
-      two-is =
-          let h = word .has-digits .long in
-          word .is (a .kept .state) ∙ rw (size-is (a .kept) 0 (omega arith), size-is (a .kept) 1 (omega arith), size-is (a .kept) 2 (omega arith), size-is (a .kept) 3 h, b-is, k-is) refl
-
-      pub two-room : cells + line (a .kept .state) (natAbs (getD numbers 0 (pos 0))) (natAbs (getD numbers 1 (pos 0))) b k .width ≤ length table
-      two-room = subst (λ (g : Gadget). cells + g .width ≤ length table) two-is (a .room)
-
-      pub two-told : {place-u place-v : ℕ} {seen : Option ℕ}
-          → place-u ≡ getD places (natAbs (getD numbers 0 (pos 0))) 0 → place-v ≡ getD places (natAbs (getD numbers 1 (pos 0))) 0
-          → ((s : Known) (u v : ℕ) → s .p ≡ p → placeOf s u ≡ place-u → placeOf s v ≡ place-v → s .cells ≡ cells
-          → seen ≡ firstFail (holds p table) 0 (line s u v b k .rows))
-          → seen ≡ firstFail (holds p table) 0 (gadgetOf (a .kept) .rows)
-      two-told u-is v-is told =
-          told (a .kept .state) (natAbs (getD numbers 0 (pos 0))) (natAbs (getD numbers 1 (pos 0))) (a .prime (word .has-digits .late))
-          (name-placed 0 two-first u-is) (name-placed 1 two-second v-is) (a .cells-are)
-          ∙ ap (λ (g : Gadget). firstFail (holds p table) 0 (g .rows)) (sym two-is)
+    pub two-told : {place-u place-v : ℕ} {seen : Option ℕ}
+        → place-u ≡ getD places (natAbs (getD numbers 0 (pos 0))) 0 → place-v ≡ getD places (natAbs (getD numbers 1 (pos 0))) 0
+        → ((s : Known) (u v : ℕ) → s .p ≡ p → placeOf s u ≡ place-u → placeOf s v ≡ place-v → s .cells ≡ cells
+        → seen ≡ firstFail (holds p table) 0 (line s u v b k .rows))
+        → seen ≡ firstFail (holds p table) 0 (gadgetOf (a .kept) .rows)
+    two-told u-is v-is told =
+        told (a .kept .state) (natAbs (getD numbers 0 (pos 0))) (natAbs (getD numbers 1 (pos 0))) (a .prime (word .has-digits .late))
+        (name-placed 0 (two-first (a .kept) word) u-is) (name-placed 1 (two-second (a .kept) word) v-is) (a .cells-are)
+        ∙ ap (λ (g : Gadget). firstFail (holds p table) 0 (g .rows)) (sym (two-is (a .kept) word b-is k-is))

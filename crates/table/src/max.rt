@@ -97,15 +97,7 @@ pub fn max_line_cells(numbers: &[i64], p: u32, values: &[i64], part: &mut [u32])
 
 // ---- rows
 
-pub fn max_rows(
-    table: &[u32],
-    p: u32,
-    place_u: Cell,
-    place_v: Cell,
-    at: Cell,
-    b: u32,
-    k: usize,
-) -> Rows
+fn max_rows(table: &[u32], p: u32, place_u: Cell, place_v: Cell, at: Cell, b: u32, k: usize) -> Rows
     requires { ⌜ (0 < p) × Below p (now table) × («place_u» .0 < length (now table)) × («place_v» .0 < length (now table))
         × (at .0 + 1 + 2 * k ≤ length (now table)) ⌝ }
     ensures { λ r. ⌜ ((s : Known) (u v : ℕ) → s .p ≡ p → placeOf s u ≡ «place_u» .0 → placeOf s v ≡ «place_v» .0 → s .cells ≡ at .0

@@ -120,7 +120,7 @@ pub fn root_line_cells(numbers: &[i64], p: u32, values: &[i64], part: &mut [u32]
 
 // ---- rows
 
-pub fn root_rows(table: &[u32], p: u32, place: Cell, at: Cell, b: u32, k: usize) -> Rows
+fn root_rows(table: &[u32], p: u32, place: Cell, at: Cell, b: u32, k: usize) -> Rows
     requires { ⌜ (2 < p) × Below p (now table) × (place .0 < length (now table)) × (at .0 + 2 + 4 * k ≤ length (now table)) ⌝ }
     ensures { λ r. ⌜ ((s : Known) (v : ℕ) → s .p ≡ p → placeOf s v ≡ place .0 → s .cells ≡ at .0
         → rowsSeen r ≡ firstFail (holds p (now (table .entry))) 0 (rootLine s v b k .rows)) ⌝ }

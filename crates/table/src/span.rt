@@ -84,7 +84,7 @@ pub fn span_line_cells(numbers: &[i64], values: &[i64], part: &mut [u32])
 
 // ---- rows
 
-pub fn span_rows(table: &[u32], p: u32, place: Cell, at: Cell, b: u32, k: usize, shift: i64) -> Rows
+fn span_rows(table: &[u32], p: u32, place: Cell, at: Cell, b: u32, k: usize, shift: i64) -> Rows
     requires { ⌜ (0 < p) × Below p (now table) × (place .0 < length (now table)) × (at .0 + k ≤ length (now table)) ⌝ }
     ensures { λ r. ⌜ ((s : Known) (v : ℕ) → s .p ≡ p → placeOf s v ≡ place .0 → s .cells ≡ at .0
         → rowsSeen r ≡ firstFail (holds p (now (table .entry))) 0 (spanLine s v b k shift .rows)) ⌝ }

@@ -74,7 +74,7 @@ pub fn sum_line_cells(p: u32, values: &[i64], known: usize, part: &mut [u32])
 
 // ---- rows
 
-pub fn sum_rows(
+fn sum_rows(
     table: &[u32],
     p: u32,
     at: Cell,

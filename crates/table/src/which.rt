@@ -95,7 +95,7 @@ pub fn which_line_cells(numbers: &[i64], p: u32, values: &[i64], part: &mut [u32
 
 // ---- rows
 
-pub fn which_rows(
+fn which_rows(
     table: &[u32],
     p: u32,
     place_u: Cell,

@@ -7,27 +7,25 @@ use mir.Syntax.{w64}
 use mir.Val.{SFits}
 use Rattle.number.proofs.Word.{back}
 use Rattle.meaning.specs.Gadget.Span.{spanLine}
-use Rattle.table.proofs.RowsLine.{name-asked, base-asked, count-asked, name-inside, p-three, span-word, word-digits, one-name, one-room, one-told}
+use Rattle.table.proofs.LineKinds.{span-word, base-asked, count-asked, one-name}
+use Rattle.table.proofs.RowsLine.{name-asked, name-inside, p-three, one-room, one-told}
 use Rattle.table.proofs.span.span_line_rows.Statement.{statement}
 use Rattle.table.proofs.span.span_line_rows.Tie as tie
 
 place-at-requires : tie.Need-place-at-requires
 place-at-requires c κs =
     let start = c .before .before in
-    let word = span-word (start .args .numbers .now) in
-    name-asked (start .pre) 0 (one-name (start .pre) word)
+    name-asked (start .pre) 0 (one-name (start .pre .kept) (span-word (start .args .numbers .now)))
 
 base-at-requires : tie.Need-base-at-requires
 base-at-requires c κs =
     let start = c .before .before .before in
-    let word = span-word (start .args .numbers .now) in
-    base-asked 1 (word-digits (start .pre) 1 (word .has-digits))
+    base-asked (start .pre .kept) 1 (span-word (start .args .numbers .now) .has-digits)
 
 size-at-requires : tie.Need-size-at-requires
 size-at-requires c κs =
     let start = c .before .before .before .before in
-    let word = span-word (start .args .numbers .now) in
-    count-asked 1 (word-digits (start .pre) 1 (word .has-digits))
+    count-asked (start .pre .kept) 1 (span-word (start .args .numbers .now) .has-digits)
 
 shared-slice-copy-out-span-rows : tie.Need-shared-slice-copy-out-span-rows
 shared-slice-copy-out-span-rows c =
@@ -47,9 +45,8 @@ span-rows-requires c κs =
     let start = at-place .before .before .before in
     let word = span-word (start .args .numbers .now) in
     let three = p-three (start .pre) (word .has-digits .late) in
-    let d = word-digits (start .pre) 1 (word .has-digits) in
     let room = one-room (start .pre) word (at-b .base-at .ensures) (at-k .size-at .ensures) in
-    (omega arith, start .pre .below, name-inside (start .pre) 0 (one-name (start .pre) word) (at-place .place-at .ensures), omega (arith, room))
+    (omega arith, start .pre .below, name-inside (start .pre) 0 (one-name (start .pre .kept) word) (at-place .place-at .ensures), omega (arith, room))
 
 returns : tie.Need-returns
 returns c a =

@@ -1,33 +1,30 @@
 -- The numbers of a which line, and its rows by them.
 use native.Mathlib.Omega.{arith}
 use Rattle.meaning.specs.Gadget.Which.{whichLine}
-use Rattle.table.proofs.RowsLine.{name-asked, base-asked, count-asked, name-inside, p-three, which-word, word-digits, two-first, two-second, two-room, two-told}
+use Rattle.table.proofs.LineKinds.{which-word, word-digits, base-asked, count-asked, two-first, two-second}
+use Rattle.table.proofs.RowsLine.{name-asked, name-inside, p-three, two-room, two-told}
 use Rattle.table.proofs.which.which_line_rows.Statement.{statement}
 use Rattle.table.proofs.which.which_line_rows.Tie as tie
 
 place-at-requires : tie.Need-place-at-requires
 place-at-requires c κs =
     let start = c .before .before in
-    let word = which-word (start .args .numbers .now) in
-    name-asked (start .pre) 0 (two-first (start .pre) word)
+    name-asked (start .pre) 0 (two-first (start .pre .kept) (which-word (start .args .numbers .now)))
 
 place-at-requires-2 : tie.Need-place-at-requires-2
 place-at-requires-2 c κs =
     let start = c .before .before .before in
-    let word = which-word (start .args .numbers .now) in
-    name-asked (start .pre) 1 (two-second (start .pre) word)
+    name-asked (start .pre) 1 (two-second (start .pre .kept) (which-word (start .args .numbers .now)))
 
 base-at-requires : tie.Need-base-at-requires
 base-at-requires c κs =
     let start = c .before .before .before .before in
-    let word = which-word (start .args .numbers .now) in
-    base-asked 2 (word-digits (start .pre) 2 (word .has-digits))
+    base-asked (start .pre .kept) 2 (which-word (start .args .numbers .now) .has-digits)
 
 size-at-requires : tie.Need-size-at-requires
 size-at-requires c κs =
     let start = c .before .before .before .before .before in
-    let word = which-word (start .args .numbers .now) in
-    count-asked 2 (word-digits (start .pre) 2 (word .has-digits))
+    count-asked (start .pre .kept) 2 (which-word (start .args .numbers .now) .has-digits)
 
 which-rows-requires : tie.Need-which-rows-requires
 unfolding whichLine
@@ -37,13 +34,15 @@ which-rows-requires c κs =
     let at-u = at-v .before in
     let start = at-u .before .before .before in
     let word = which-word (start .args .numbers .now) in
+    let u = name-inside (start .pre) 0 (two-first (start .pre .kept) word) (at-u .place-at .ensures) in
+    let v = name-inside (start .pre) 1 (two-second (start .pre .kept) word) (at-v .place-at2 .ensures) in
     let three = p-three (start .pre) (word .has-digits .late) in
-    let d = word-digits (start .pre) 2 (word .has-digits) in
+    let d = word-digits (start .pre .kept) 2 (word .has-digits) in
     let room = two-room (start .pre) word (at-b .base-at .ensures) (c .size-at .ensures) in (
       omega arith,
       start .pre .below,
-      name-inside (start .pre) 0 (two-first (start .pre) word) (at-u .place-at .ensures),
-      name-inside (start .pre) 1 (two-second (start .pre) word) (at-v .place-at2 .ensures),
+      omega arith,
+      omega arith,
       omega (arith, room),
       omega (arith, d .base-two, at-b .base-at .ensures),
       omega (arith, d .count-one, c .size-at .ensures),
