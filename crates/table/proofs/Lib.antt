@@ -13,6 +13,7 @@ pub mod WorksSumFits
 pub mod LineNumbers
 pub mod LineValues
 pub mod WorksLine
+pub mod LineKinds
 pub mod RowsFirst
 pub mod RowsForm
 pub mod RowsGroup
@@ -20,3 +21,4 @@ pub mod RowsSign
 pub mod RowsMax
 pub mod RowsRoot
 pub mod RowsSum
+pub mod RowsLine

@@ -29,6 +29,9 @@ module _ (p : ℕ) (t : List ℕ) where
       let l : getD t i 0 < p = below-at p t i h k in
       record { below = l; is = sym (remainder-of-residue p (getD t i 0) l) }
 
+  pub leaves-read : (i : ℕ) {r : ℕ} → Below p t → i < length t → r ≡ getD t i 0 → Leaves p t r (cell i)
+  leaves-read i h k e = rw e (leaves-cell i h k)
+
   pub leaves-constant : (n : ℕ) → n < p → Leaves p t n (constant (pos n))
   unfolding eval
   leaves-constant n h = record { below = h; is = sym (remainder-of-residue p n h) }

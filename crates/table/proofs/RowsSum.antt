@@ -1,22 +1,32 @@
 -- The row of a sum line: the terms one after another.
 use mathlib.Core.Path.{_≡_, refl, sym, ap, _∙_}
-use mathlib.Core.Bool.{cond}
+use mathlib.Core.Bool.{Bool, true, cond}
 use mathlib.Core.List.{List, [], _∷_}
 use mathlib.Core.Option.{Option, none, some}
-use Prim.Native.Nat.{ℕ, suc, _+_, _%_, _≤_, _<_}
+use Prim.Native.Nat.{ℕ, zero, suc, _+_, _%_, _≤_, _<_}
 use native.Mathlib.Omega.{arith}
-use lib.Dec.{eqb}
+use lib.Dec.{T, eqb}
 use lib.IntN.{ℤ, pos, natAbs, _+ℤ_, _*ℤ_}
 use lib.Signed.{_≤ℤ_}
 use lib.ListN.{length, getD, take, drop}
 use lib.Seq.{drop-cons, drop-length, length-take-le, getD-take}
 use Rattle.meaning.specs.Number.{remainder}
-use Rattle.meaning.specs.Line.{numberAt, withoutFirst}
+use Rattle.algebra.specs.Digits.{Below}
+use Rattle.algebra.proofs.Test.{left, right}
+use Rattle.meaning.specs.Line.{sum, numberAt, withoutFirst, alternate, namesOf}
 use Rattle.meaning.specs.Known.{Known, placeOf}
 use Rattle.meaning.specs.Row.{Form, cell, constant, _⊕_, _⊗_, _≅_, holds}
 use Rattle.meaning.specs.Reply.{firstFail}
 use Rattle.meaning.specs.Gadget.Sum.{termsOf, sumForm, sumLine}
+use Rattle.meaning.specs.Meaning.{byWord, gadget}
+use Rattle.meaning.specs.Refusal.{all, isField, isMade}
+use Rattle.text.specs.Word.{wordOf}
+use Rattle.reader.proofs.Steps.{sum-count}
+use Rattle.table.specs.Line.{KeptLine, gadgetOf, knownCount}
+use Rattle.table.specs.LineRows.{RowsAsked}
 use Rattle.table.specs.Rows.{Leaves, NamesBelow, PlacesInside}
+use Rattle.table.proofs.LineNumbers.{made-is, values-most}
+use Rattle.table.proofs.RowsLine.{p-three}
 use Rattle.table.proofs.RowsFirst.{first-none, first-row}
 use Rattle.table.proofs.RowsForm.{leaves-whole, leaves-⊕, leaves-⊗, row-test}
 
@@ -60,13 +70,13 @@ module _ (p : ℕ) (t : List ℕ) (ns : List ℤ) (count : ℕ) (places : List �
     same = rw (without-first (take count ns), getD-take count ns 0 (pos 0) l) refl;
   }
 
-  pub sum-next : {total factor part next place : ℕ} (i : ℕ) → 0 < p → count ≤ length ns → SoFar total i → i + 1 < count → i % 2 ≡ 1
+  pub sum-next : {total factor part next place found : ℕ} (i : ℕ) → 0 < p → count ≤ length ns → SoFar total i → i + 1 < count → i % 2 ≡ 1
       → factor ≡ remainder p (getD ns i (pos 0)) → place ≡ getD places (natAbs (getD ns (i + 1) (pos 0))) 0
-      → Leaves p t (getD t place 0) (cell place)
-      → (part < p) × (part ≡ remainder p (pos factor *ℤ pos (getD t place 0))) → (next < p) × (next ≡ remainder p (pos total +ℤ pos part))
+      → Leaves p t found (cell place)
+      → (part < p) × (part ≡ remainder p (pos factor *ℤ pos found)) → (next < p) × (next ≡ remainder p (pos total +ℤ pos part))
       → SoFar next (i + 2)
   unfolding sumForm placeOf
-  sum-next {total} {factor} {part} {next} {place} i h r before l o factor-is place-is cell-is part-is next-is s n known named =
+  sum-next {total} {factor} {part} {next} {place} {found} i h r before l o factor-is place-is cell-is part-is next-is s n known named =
       let b = before s n known named in
       let coefficient = getD ns i (pos 0) in
       let value = natAbs (getD ns (i + 1) (pos 0)) in
@@ -81,12 +91,12 @@ module _ (p : ℕ) (t : List ℕ) (ns : List ℤ) (count : ℕ) (places : List �
             (ap (λ (q : ℕ). sumForm s (b .form ⊕ constant coefficient ⊗ cell q) (termsOf (drop (i + 2) (take count ns)))) e);
       }
 
-  pub sum-end : {total : ℕ} {r : Option ℕ} (i at : ℕ) → count ≤ length ns → SoFar total i → i ≡ count → Leaves p t (getD t at 0) (cell at)
-      → r ≡ cond (eqb (getD t at 0) total) none (some 0)
+  pub sum-end : {total made : ℕ} {r : Option ℕ} (i at : ℕ) → count ≤ length ns → SoFar total i → i ≡ count → Leaves p t made (cell at)
+      → r ≡ cond (eqb made total) none (some 0)
       → (s : Known) (n : ℕ) → s .cells ≡ at → s .places ≡ take n places → NamesBelow n ns count
       → r ≡ firstFail (holds p t) 0 (sumLine s (numberAt (take count ns) 0) (termsOf (withoutFirst (take count ns))) .rows)
   unfolding sumLine sumForm
-  sum-end {total} i at l before e cell-is r-is s n cells-is known named =
+  sum-end {total} {made} i at l before e cell-is r-is s n cells-is known named =
       let b = before s n known named in
       let end = terms-end (take count ns) i (e ∙ sym (length-take-le count ns l)) in
       rw (b .same, end)
@@ -109,3 +119,59 @@ pair-names ns count places cells i h l o =
       placed = omega (arith, v, h .placed);
       inside = h .inside _ v;
     }
+
+-- ---- the line, as a list that was read has it
+
+-- a test of every other number of a list, from its first
+alternate-at : (f : ℤ → Bool) (i : ℕ) (xs : List ℤ) → i % 2 ≡ 0 → i < length xs → T (all f (alternate xs)) → T (f (getD xs i (pos 0)))
+unfolding all alternate
+alternate-at f i [] e h t = absurd (omega arith)
+alternate-at f zero (x ∷ []) e h t = left (f x) true t
+alternate-at f (suc i) (x ∷ []) e h t = absurd (omega arith)
+alternate-at f zero (x ∷ (y ∷ xs)) e h t = left (f x) (all f (alternate xs)) t
+alternate-at f (suc zero) (x ∷ (y ∷ xs)) e h t = absurd (omega arith)
+alternate-at f (suc (suc i)) (x ∷ (y ∷ xs)) e h t = alternate-at f i xs (omega arith) (omega arith) (right (f x) (all f (alternate xs)) t)
+
+-- and so of those after the first two
+named-at : (f : ℤ → Bool) (i : ℕ) (xs : List ℤ) → 0 < i → i < length xs → i % 2 ≡ 0
+    → T (all f (alternate (withoutFirst (withoutFirst xs)))) → T (f (getD xs i (pos 0)))
+unfolding withoutFirst
+named-at f zero xs l h e t = absurd (omega arith)
+named-at f (suc zero) xs l h e t = absurd (omega arith)
+named-at f (suc (suc i)) [] l h e t = absurd (omega arith)
+named-at f (suc (suc i)) (x ∷ []) l h e t = absurd (omega arith)
+named-at f (suc (suc i)) (x ∷ (y ∷ xs)) l h e t = alternate-at f i xs (omega arith) (omega arith) t
+
+sum-names : {numbers : List ℤ} {count : ℕ} (l : KeptLine sum numbers count) → NamesBelow (knownCount l) numbers count
+unfolding namesOf
+sum-names {numbers} {count} l = record { natural = λ i h k e. name i h k e .0; below = λ i h k e. name i h k e .1 }
+  where
+    name : (i : ℕ) → 0 < i → i < count → i % 2 ≡ 0 → (pos 0 ≤ℤ getD numbers i (pos 0)) × (natAbs (getD numbers i (pos 0)) < knownCount l)
+    name i h k e =
+        let long : length (take count numbers) ≡ count = length-take-le count numbers (omega (arith, l .numbers-long, l .few)) in
+        let made = named-at (isMade (knownCount l)) i (take count numbers) h (omega arith) e (l .keeps .names-made) in
+        made-is (knownCount l) (getD numbers i (pos 0)) (rw (getD-take count numbers i (pos 0) k) at made)
+
+module _ {p : ℕ} {numbers : List ℤ} {count : ℕ} {table : List ℕ} {cells : ℕ} {places : List ℕ} (a : RowsAsked p sum numbers count table cells places) where
+  pub sum-asked : (0 < p) × Below p table × (cells < length table) × (count % 2 ≡ 1) × (count ≤ length numbers)
+      × PlacesInside numbers count places (length table)
+  unfolding isField gadget byWord sumLine wordOf
+  sum-asked = (
+    omega (arith, p-three a refl),
+    a .below,
+    omega (arith, a .room),
+    sum-count refl count (a .kept .counted),
+    omega (arith, a .kept .numbers-long, a .kept .few),
+    record {
+      known = knownCount (a .kept);
+      named = sum-names (a .kept);
+      placed = omega (arith, values-most (a .kept), a .places-long);
+      inside = a .inside;
+    },
+  )
+
+  pub sum-told : {seen : Option ℕ} → ((s : Known) (n : ℕ) → s .p ≡ p → s .cells ≡ cells → s .places ≡ take n places → NamesBelow n numbers count
+      → seen ≡ firstFail (holds p table) 0 (sumLine s (numberAt (take count numbers) 0) (termsOf (withoutFirst (take count numbers))) .rows))
+      → seen ≡ firstFail (holds p table) 0 (gadgetOf (a .kept) .rows)
+  unfolding isField gadget byWord
+  sum-told told = told (a .kept .state) (knownCount (a .kept)) (a .prime refl) (a .cells-are) (a .places-are) (sum-names (a .kept))

@@ -6,6 +6,7 @@
 use super::rows::Rows;
 use super::rows::row_before;
 use super::rows::rows_before;
+use number::Cell;
 use number::Residue;
 use number::power::Power;
 use number::power::capped_power;
@@ -83,13 +84,13 @@ pub fn group_rows(
     p: u32,
     number: Residue,
     first: usize,
-    at: usize,
+    at: Cell,
     b: u32,
     k: usize,
 ) -> Rows
-    requires { ⌜ (0 < p) × (at + k ≤ length (now table)) × (first + k < 2 ^ 64) ⌝ }
+    requires { ⌜ (0 < p) × (at .0 + k ≤ length (now table)) × (first + k < 2 ^ 64) ⌝ }
     ensures { λ r. ⌜ ((f : Form) (L : ℤ) → remainder p (eval (now (table .entry)) f -ℤ L) ≡ number .0
-        → rowsSeen r ≡ firstFail (holds p (now (table .entry))) first (group f L at b k)) ⌝ }
+        → rowsSeen r ≡ firstFail (holds p (now (table .entry))) first (group f L (at .0) b k)) ⌝ }
 {
     let value = place_value(table, p, at, b, k);
     let last = row_before(number.0 == value.0, first + k, Rows::AllHold);
@@ -97,13 +98,13 @@ pub fn group_rows(
 }
 
 // The rows of the digits. They hold or fail modulo every p alike.
-fn digit_rows(table: &[u32], first: usize, at: usize, b: u32, k: usize) -> Rows
-    requires { ⌜ (at + k ≤ length (now table)) × (first + k < 2 ^ 64) ⌝ }
-    ensures { λ r. ⌜ ((p : ℕ) → rowsSeen r ≡ firstFail (holds p (now (table .entry))) first (digitRows at b k)) ⌝ }
+fn digit_rows(table: &[u32], first: usize, at: Cell, b: u32, k: usize) -> Rows
+    requires { ⌜ (at .0 + k ≤ length (now table)) × (first + k < 2 ^ 64) ⌝ }
+    ensures { λ r. ⌜ ((p : ℕ) → rowsSeen r ≡ firstFail (holds p (now (table .entry))) first (digitRows (at .0) b k)) ⌝ }
 {
     let mut i: usize = 0;
     while i < k {
-        if b <= table[at + i] {
+        if b <= table[at.0 + i] {
             return Rows::Fails(first + i);
         }
         i += 1;
@@ -112,15 +113,15 @@ fn digit_rows(table: &[u32], first: usize, at: usize, b: u32, k: usize) -> Rows
 }
 
 // d0 + d1·b + .. + d(k-1)·b^(k-1) modulo p, from the highest digit down: a turn is exact in a u64, as the value is below p before it.
-fn place_value(table: &[u32], p: u32, at: usize, b: u32, k: usize) -> Residue
-    requires { ⌜ (0 < p) × (at + k ≤ length (now table)) ⌝ }
-    ensures { λ r. ⌜ Leaves p (now (table .entry)) (r .0) (placeValues 1 at b k) ⌝ }
+fn place_value(table: &[u32], p: u32, at: Cell, b: u32, k: usize) -> Residue
+    requires { ⌜ (0 < p) × (at .0 + k ≤ length (now table)) ⌝ }
+    ensures { λ r. ⌜ Leaves p (now (table .entry)) (r .0) (placeValues 1 (at .0) b k) ⌝ }
 {
     let mut value: u64 = 0;
     let mut left = k;
     while 0 < left {
         left -= 1;
-        value = (value * b as u64 + table[at + left] as u64) % p as u64;
+        value = (value * b as u64 + table[at.0 + left] as u64) % p as u64;
     }
     Residue(value as u32)
 }

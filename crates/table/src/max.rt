@@ -7,13 +7,16 @@ use super::group::group_rows;
 use super::group::power_of;
 use super::group::two_groups;
 use super::numbers::base_at;
+use super::numbers::place_at;
 use super::numbers::size_at;
 use super::rows::Rows;
+use super::rows::residue_at;
 use super::rows::row_before;
 use super::rows::rows_before;
 use super::value::Worked;
 use super::value::value_cell;
 use super::value::value_named;
+use number::Cell;
 use number::Residue;
 use number::Whole;
 use number::residue::difference;
@@ -36,6 +39,7 @@ ghost use Rattle.algebra.specs.Digits.{Below};
 ghost use Rattle.meaning.specs.Row.{holds};
 ghost use Rattle.meaning.specs.Reply.{firstFail};
 ghost use Rattle.meaning.specs.Gadget.Max.{maxLine};
+ghost use Rattle.table.specs.LineRows.{RowsAsked, RowsTold};
 ghost use Rattle.table.specs.Rows.{rowsSeen};
 
 pub fn max_value(u: i64, v: i64) -> i64
@@ -93,24 +97,29 @@ pub fn max_line_cells(numbers: &[i64], p: u32, values: &[i64], part: &mut [u32])
 
 // ---- rows
 
-pub fn max_rows(
-    table: &[u32],
-    p: u32,
-    place_u: usize,
-    place_v: usize,
-    at: usize,
-    b: u32,
-    k: usize,
-) -> Rows
-    requires { ⌜ (0 < p) × Below p (now table) × («place_u» < length (now table)) × («place_v» < length (now table))
-        × (at + 1 + 2 * k ≤ length (now table)) ⌝ }
-    ensures { λ r. ⌜ ((s : Known) (u v : ℕ) → s .p ≡ p → placeOf s u ≡ «place_u» → placeOf s v ≡ «place_v» → s .cells ≡ at
+fn max_rows(table: &[u32], p: u32, place_u: Cell, place_v: Cell, at: Cell, b: u32, k: usize) -> Rows
+    requires { ⌜ (0 < p) × Below p (now table) × («place_u» .0 < length (now table)) × («place_v» .0 < length (now table))
+        × (at .0 + 1 + 2 * k ≤ length (now table)) ⌝ }
+    ensures { λ r. ⌜ ((s : Known) (u v : ℕ) → s .p ≡ p → placeOf s u ≡ «place_u» .0 → placeOf s v ≡ «place_v» .0 → s .cells ≡ at .0
         → rowsSeen r ≡ firstFail (holds p (now (table .entry))) 0 (maxLine s u v b k .rows)) ⌝ }
 {
-    let over_u = difference(Residue(table[at]), Residue(table[place_u]), p);
-    let over_v = difference(Residue(table[at]), Residue(table[place_v]), p);
+    let made = residue_at(table, at);
+    let over_u = difference(made, residue_at(table, place_u), p);
+    let over_v = difference(made, residue_at(table, place_v), p);
     let either = product(over_u, over_v, p);
-    let group_u = group_rows(table, p, over_u, 1, at + 1, b, k);
-    let group_v = group_rows(table, p, over_v, k + 2, at + 1 + k, b, k);
+    let group_u = group_rows(table, p, over_u, 1, Cell(at.0 + 1), b, k);
+    let group_v = group_rows(table, p, over_v, k + 2, Cell(at.0 + 1 + k), b, k);
     row_before(either.0 == 0, 0, rows_before(group_u, group_v))
+}
+
+// The rows of a max line of a list that was read.
+pub fn max_line_rows(numbers: &[i64], table: &[u32], p: u32, at: Cell, places: &[usize]) -> Rows
+    requires { ⌜ RowsAsked p max (now numbers) 4 (now table) (at .0) (now places) ⌝ }
+    ensures { λ r. ⌜ RowsTold p max (now (numbers .entry)) 4 (now (table .entry)) (at .0) (now (places .entry)) r ⌝ }
+{
+    let place_u = place_at(numbers, 0, places);
+    let place_v = place_at(numbers, 1, places);
+    let b = base_at(numbers, 2);
+    let k = size_at(numbers, 3);
+    max_rows(table, p, place_u, place_v, at, b, k)
 }

@@ -1,5 +1,6 @@
 // The numbers of a line as machine words: the name of a value, a base, a digit count. The rules of reading say that these are not negative,
 // and how great they are.
+use number::Cell;
 ghost use mathlib.Core.Path.{_≡_};
 ghost use Prim.Native.Nat.{_≤_, _<_};
 ghost use lib.IntN.{pos, natAbs};
@@ -23,4 +24,13 @@ pub fn base_at(numbers: &[i64], at: usize) -> u32
 {
     let number = numbers[at];
     number as u32
+}
+
+// The cell of the value that the number at a place names.
+pub fn place_at(numbers: &[i64], at: usize, places: &[usize]) -> Cell
+    requires { ⌜ (at < length (now numbers)) × (pos 0 ≤ℤ getD (now numbers) at (pos 0)) × (natAbs (getD (now numbers) at (pos 0)) < length (now places)) ⌝ }
+    ensures { λ r. ⌜ r .0 ≡ getD (now (places .entry)) (natAbs (getD (now (numbers .entry)) at (pos 0))) 0 ⌝ }
+{
+    let value = size_at(numbers, at);
+    Cell(places[value])
 }

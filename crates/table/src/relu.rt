@@ -4,8 +4,10 @@
 // The rows of a relu line: those of its sign, and then f·v ≡ y.
 use super::group::power_of;
 use super::numbers::base_at;
+use super::numbers::place_at;
 use super::numbers::size_at;
 use super::rows::Rows;
+use super::rows::residue_at;
 use super::sign::sign_cells;
 use super::sign::sign_rows;
 use super::sign::sign_works;
@@ -13,6 +15,7 @@ use super::sign::top_part;
 use super::value::Worked;
 use super::value::value_cell;
 use super::value::value_named;
+use number::Cell;
 use number::Residue;
 use number::Whole;
 use number::residue::product;
@@ -37,6 +40,7 @@ ghost use Rattle.algebra.specs.Digits.{Below};
 ghost use Rattle.meaning.specs.Row.{holds};
 ghost use Rattle.meaning.specs.Reply.{firstFail};
 ghost use Rattle.meaning.specs.Gadget.Relu.{reluLine};
+ghost use Rattle.table.specs.LineRows.{RowsAsked, RowsTold};
 ghost use Rattle.table.specs.Rows.{rowsSeen};
 
 pub fn relu_value(v: i64) -> i64
@@ -92,14 +96,26 @@ pub fn relu_line_cells(numbers: &[i64], p: u32, values: &[i64], part: &mut [u32]
 
 // ---- rows
 
-pub fn relu_rows(table: &[u32], p: u32, place: usize, at: usize, b: u32, k: usize) -> Rows
-    requires { ⌜ (1 < p) × Below p (now table) × (place < length (now table)) × (at + k + 3 ≤ length (now table)) × (0 < b) × (0 < k) ⌝ }
-    ensures { λ r. ⌜ ((s : Known) (v : ℕ) → s .p ≡ p → placeOf s v ≡ place → s .cells ≡ at
+fn relu_rows(table: &[u32], p: u32, place: Cell, at: Cell, b: u32, k: usize) -> Rows
+    requires { ⌜ (1 < p) × Below p (now table) × (place .0 < length (now table)) × (at .0 + k + 3 ≤ length (now table)) × (0 < b) × (0 < k) ⌝ }
+    ensures { λ r. ⌜ ((s : Known) (v : ℕ) → s .p ≡ p → placeOf s v ≡ place .0 → s .cells ≡ at .0
         → rowsSeen r ≡ firstFail (holds p (now (table .entry))) 0 (reluLine s v b k .rows)) ⌝ }
 {
-    let value = Residue(table[place]);
+    let value = residue_at(table, place);
     let number = sum(value, top_part(p, b, k), p);
-    let kept = product(Residue(table[at + 1 + k]), value, p);
-    let last = kept.0 == table[at];
-    sign_rows(table, p, number, last, at + 1, b, k)
+    let flag = residue_at(table, Cell(at.0 + 1 + k));
+    let kept = product(flag, value, p);
+    let made = residue_at(table, at);
+    sign_rows(table, p, number, kept.0 == made.0, Cell(at.0 + 1), b, k)
+}
+
+// The rows of a relu line of a list that was read.
+pub fn relu_line_rows(numbers: &[i64], table: &[u32], p: u32, at: Cell, places: &[usize]) -> Rows
+    requires { ⌜ RowsAsked p relu (now numbers) 3 (now table) (at .0) (now places) ⌝ }
+    ensures { λ r. ⌜ RowsTold p relu (now (numbers .entry)) 3 (now (table .entry)) (at .0) (now (places .entry)) r ⌝ }
+{
+    let place = place_at(numbers, 0, places);
+    let b = base_at(numbers, 1);
+    let k = size_at(numbers, 2);
+    relu_rows(table, p, place, at, b, k)
 }

@@ -7,13 +7,16 @@ use super::group::group_rows;
 use super::group::power_of;
 use super::group::two_groups;
 use super::numbers::base_at;
+use super::numbers::place_at;
 use super::numbers::size_at;
 use super::rows::Rows;
+use super::rows::residue_at;
 use super::rows::row_before;
 use super::rows::rows_before;
 use super::value::Worked;
 use super::value::value_cell;
 use super::value::value_named;
+use number::Cell;
 use number::Residue;
 use number::Whole;
 use number::residue::difference;
@@ -38,6 +41,7 @@ ghost use Rattle.algebra.specs.Digits.{Below};
 ghost use Rattle.meaning.specs.Known.{Known, placeOf};
 ghost use Rattle.meaning.specs.Row.{Form, holds};
 ghost use Rattle.meaning.specs.Reply.{firstFail};
+ghost use Rattle.table.specs.LineRows.{RowsAsked, RowsTold};
 ghost use Rattle.table.specs.Rows.{rowsSeen, Leaves, fourGroups};
 
 pub fn root_value(v: i64) -> i64
@@ -116,19 +120,19 @@ pub fn root_line_cells(numbers: &[i64], p: u32, values: &[i64], part: &mut [u32]
 
 // ---- rows
 
-pub fn root_rows(table: &[u32], p: u32, place: usize, at: usize, b: u32, k: usize) -> Rows
-    requires { ⌜ (2 < p) × Below p (now table) × (place < length (now table)) × (at + 2 + 4 * k ≤ length (now table)) ⌝ }
-    ensures { λ r. ⌜ ((s : Known) (v : ℕ) → s .p ≡ p → placeOf s v ≡ place → s .cells ≡ at
+fn root_rows(table: &[u32], p: u32, place: Cell, at: Cell, b: u32, k: usize) -> Rows
+    requires { ⌜ (2 < p) × Below p (now table) × (place .0 < length (now table)) × (at .0 + 2 + 4 * k ≤ length (now table)) ⌝ }
+    ensures { λ r. ⌜ ((s : Known) (v : ℕ) → s .p ≡ p → placeOf s v ≡ place .0 → s .cells ≡ at .0
         → rowsSeen r ≡ firstFail (holds p (now (table .entry))) 0 (rootLine s v b k .rows)) ⌝ }
 {
-    let value = Residue(table[place]);
-    let root = Residue(table[at]);
-    let square = Residue(table[at + 1]);
+    let value = residue_at(table, place);
+    let root = residue_at(table, at);
+    let square = residue_at(table, Cell(at.0 + 1));
     let squared = product(root, root, p);
     let over = difference(value, square, p);
     let twice = product(Residue(2), root, p);
     let under = difference(sum(square, twice, p), value, p);
-    let later = four_groups(table, p, value, root, over, under, at + 2, b, k);
+    let later = four_groups(table, p, value, root, over, under, Cell(at.0 + 2), b, k);
     row_before(squared.0 == square.0, 0, later)
 }
 
@@ -140,19 +144,30 @@ fn four_groups(
     root: Residue,
     over: Residue,
     under: Residue,
-    at: usize,
+    at: Cell,
     b: u32,
     k: usize,
 ) -> Rows
-    requires { ⌜ (0 < p) × (at + 4 * k ≤ length (now table)) ⌝ }
+    requires { ⌜ (0 < p) × (at .0 + 4 * k ≤ length (now table)) ⌝ }
     ensures { λ r. ⌜ ((A B C D : Form) → Leaves p (now (table .entry)) (value .0) A → Leaves p (now (table .entry)) (root .0) B
         → Leaves p (now (table .entry)) (over .0) C → Leaves p (now (table .entry)) (under .0) D
-        → rowsSeen r ≡ firstFail (holds p (now (table .entry))) 1 (fourGroups A B C D at b k)) ⌝ }
+        → rowsSeen r ≡ firstFail (holds p (now (table .entry))) 1 (fourGroups A B C D (at .0) b k)) ⌝ }
 {
     let first = group_rows(table, p, value, 1, at, b, k);
-    let second = group_rows(table, p, root, k + 2, at + k, b, k);
-    let third = group_rows(table, p, over, 2 * k + 3, at + 2 * k, b, k);
-    let fourth = group_rows(table, p, under, 3 * k + 4, at + 3 * k, b, k);
+    let second = group_rows(table, p, root, k + 2, Cell(at.0 + k), b, k);
+    let third = group_rows(table, p, over, 2 * k + 3, Cell(at.0 + 2 * k), b, k);
+    let fourth = group_rows(table, p, under, 3 * k + 4, Cell(at.0 + 3 * k), b, k);
     let last_two = rows_before(third, fourth);
     rows_before(first, rows_before(second, last_two))
+}
+
+// The rows of a root line of a list that was read.
+pub fn root_line_rows(numbers: &[i64], table: &[u32], p: u32, at: Cell, places: &[usize]) -> Rows
+    requires { ⌜ RowsAsked p root (now numbers) 3 (now table) (at .0) (now places) ⌝ }
+    ensures { λ r. ⌜ RowsTold p root (now (numbers .entry)) 3 (now (table .entry)) (at .0) (now (places .entry)) r ⌝ }
+{
+    let place = place_at(numbers, 0, places);
+    let b = base_at(numbers, 1);
+    let k = size_at(numbers, 2);
+    root_rows(table, p, place, at, b, k)
 }

@@ -8,8 +8,10 @@ use super::group::apart;
 use super::group::group_cells;
 use super::group::group_rows;
 use super::rows::Rows;
+use super::rows::residue_at;
 use super::rows::row_before;
 use super::rows::rows_before;
+use number::Cell;
 use number::Residue;
 use number::Whole;
 use number::inverse::inverse_of;
@@ -95,18 +97,19 @@ pub fn sign_rows(
     p: u32,
     number: Residue,
     last: bool,
-    at: usize,
+    at: Cell,
     b: u32,
     k: usize,
 ) -> Rows
-    requires { ⌜ (1 < p) × Below p (now table) × (at + k + 2 ≤ length (now table)) × (0 < b) × (0 < k) ⌝ }
+    requires { ⌜ (1 < p) × Below p (now table) × (at .0 + k + 2 ≤ length (now table)) × (0 < b) × (0 < k) ⌝ }
     ensures { λ r. ⌜ ((form : Form) (row : Form → Row) → remainder p (eval (now (table .entry)) form -ℤ signShift b k) ≡ number .0
-        → last ≡ holds p (now (table .entry)) (row (cell (at + k)))
-        → rowsSeen r ≡ firstFail (holds p (now (table .entry))) 0 (signRows form at b k row)) ⌝ }
+        → last ≡ holds p (now (table .entry)) (row (cell (at .0 + k)))
+        → rowsSeen r ≡ firstFail (holds p (now (table .entry))) 0 (signRows form (at .0) b k row)) ⌝ }
 {
-    let top = difference(Residue(table[at + (k - 1)]), Residue((b - 1) % p), p);
-    let flag = Residue(table[at + k]);
-    let witness = Residue(table[at + (k + 1)]);
+    let digit = residue_at(table, Cell(at.0 + (k - 1)));
+    let top = difference(digit, Residue((b - 1) % p), p);
+    let flag = residue_at(table, Cell(at.0 + k));
+    let witness = residue_at(table, Cell(at.0 + (k + 1)));
     let later = flag_rows(p, top, flag, witness, last, k + 1);
     rows_before(group_rows(table, p, number, 0, at, b, k), later)
 }

@@ -5,10 +5,13 @@ use super::group::form_cells;
 use super::group::group_rows;
 use super::group::power_of;
 use super::numbers::base_at;
+use super::numbers::place_at;
 use super::numbers::size_at;
 use super::rows::Rows;
+use super::rows::residue_at;
 use super::value::Worked;
 use super::value::value_named;
+use number::Cell;
 use number::Residue;
 use number::Whole;
 use number::residue::difference;
@@ -29,6 +32,7 @@ ghost use Rattle.meaning.specs.Known.{Known, placeOf};
 ghost use Rattle.meaning.specs.Row.{holds};
 ghost use Rattle.meaning.specs.Reply.{firstFail};
 ghost use Rattle.table.specs.LineValues.{ValuesAsked, WorkTold, CellsAsked, CellsTold};
+ghost use Rattle.table.specs.LineRows.{RowsAsked, RowsTold};
 ghost use Rattle.table.specs.Rows.{rowsSeen};
 
 // Whether the line's statement is true, of every b and k with the power c.
@@ -80,20 +84,23 @@ pub fn span_line_cells(numbers: &[i64], values: &[i64], part: &mut [u32])
 
 // ---- rows
 
-pub fn span_rows(
-    table: &[u32],
-    p: u32,
-    place: usize,
-    at: usize,
-    b: u32,
-    k: usize,
-    shift: i64,
-) -> Rows
-    requires { ⌜ (0 < p) × Below p (now table) × (place < length (now table)) × (at + k ≤ length (now table)) ⌝ }
-    ensures { λ r. ⌜ ((s : Known) (v : ℕ) → s .p ≡ p → placeOf s v ≡ place → s .cells ≡ at
+fn span_rows(table: &[u32], p: u32, place: Cell, at: Cell, b: u32, k: usize, shift: i64) -> Rows
+    requires { ⌜ (0 < p) × Below p (now table) × (place .0 < length (now table)) × (at .0 + k ≤ length (now table)) ⌝ }
+    ensures { λ r. ⌜ ((s : Known) (v : ℕ) → s .p ≡ p → placeOf s v ≡ place .0 → s .cells ≡ at .0
         → rowsSeen r ≡ firstFail (holds p (now (table .entry))) 0 (spanLine s v b k shift .rows)) ⌝ }
 {
     let lowest = remainder_of(Whole(shift), p);
-    let number = difference(Residue(table[place]), lowest, p);
+    let number = difference(residue_at(table, place), lowest, p);
     group_rows(table, p, number, 0, at, b, k)
+}
+
+// The rows of a span line of a list that was read.
+pub fn span_line_rows(numbers: &[i64], table: &[u32], p: u32, at: Cell, places: &[usize]) -> Rows
+    requires { ⌜ RowsAsked p span (now numbers) 4 (now table) (at .0) (now places) ⌝ }
+    ensures { λ r. ⌜ RowsTold p span (now (numbers .entry)) 4 (now (table .entry)) (at .0) (now (places .entry)) r ⌝ }
+{
+    let place = place_at(numbers, 0, places);
+    let b = base_at(numbers, 1);
+    let k = size_at(numbers, 2);
+    span_rows(table, p, place, at, b, k, numbers[3])
 }

@@ -2,10 +2,13 @@
 //
 // The row of a sum line: its value is c0 + c1·v1 + .. modulo p. Its numbers are c0, c1, v1, c2, v2, .., the first `count` of `numbers`;
 // `places` has the cell of each value that a pair can name.
+use super::numbers::place_at;
 use super::rows::Rows;
+use super::rows::residue_at;
 use super::rows::row_before;
 use super::value::Worked;
 use super::value::value_cell;
+use number::Cell;
 use number::Residue;
 use number::Whole;
 use number::residue::product;
@@ -25,6 +28,7 @@ ghost use Rattle.meaning.specs.Known.{Known};
 ghost use Rattle.meaning.specs.Row.{holds};
 ghost use Rattle.meaning.specs.Reply.{firstFail};
 ghost use Rattle.meaning.specs.Gadget.Sum.{termsOf, sumLine};
+ghost use Rattle.table.specs.LineRows.{RowsAsked, RowsTold};
 ghost use Rattle.table.specs.Rows.{rowsSeen, NamesBelow, PlacesInside};
 
 // The first count numbers are the line's, and the first n values, for some n, are those before it.
@@ -70,17 +74,17 @@ pub fn sum_line_cells(p: u32, values: &[i64], known: usize, part: &mut [u32])
 
 // ---- rows
 
-pub fn sum_rows(
+fn sum_rows(
     table: &[u32],
     p: u32,
-    at: usize,
+    at: Cell,
     numbers: &[i64],
     count: usize,
     places: &[usize],
 ) -> Rows
-    requires { ⌜ (0 < p) × Below p (now table) × (at < length (now table)) × (count % 2 ≡ 1) × (count ≤ length (now numbers))
+    requires { ⌜ (0 < p) × Below p (now table) × (at .0 < length (now table)) × (count % 2 ≡ 1) × (count ≤ length (now numbers))
         × PlacesInside (now numbers) count (now places) (length (now table)) ⌝ }
-    ensures { λ r. ⌜ ((s : Known) (n : ℕ) → s .p ≡ p → s .cells ≡ at → s .places ≡ take n (now (places .entry))
+    ensures { λ r. ⌜ ((s : Known) (n : ℕ) → s .p ≡ p → s .cells ≡ at .0 → s .places ≡ take n (now (places .entry))
         → NamesBelow n (now (numbers .entry)) count → rowsSeen r ≡ firstFail (holds p (now (table .entry))) 0
         (sumLine s (numberAt (take count (now (numbers .entry))) 0) (termsOf (withoutFirst (take count (now (numbers .entry))))) .rows)) ⌝ }
 {
@@ -88,11 +92,26 @@ pub fn sum_rows(
     let mut i: usize = 1;
     while i < count {
         let factor = remainder_of(Whole(numbers[i]), p);
-        let value = numbers[i + 1] as usize;
-        let place = places[value];
-        let part = product(factor, Residue(table[place]), p);
+        let place = place_at(numbers, i + 1, places);
+        let part = product(factor, residue_at(table, place), p);
         total = sum(Residue(total), part, p).0;
         i += 2;
     }
-    row_before(table[at] == total, 0, Rows::AllHold)
+    let made = residue_at(table, at);
+    row_before(made.0 == total, 0, Rows::AllHold)
+}
+
+// The row of a sum line of a list that was read.
+pub fn sum_line_rows(
+    numbers: &[i64],
+    count: usize,
+    table: &[u32],
+    p: u32,
+    at: Cell,
+    places: &[usize],
+) -> Rows
+    requires { ⌜ RowsAsked p sum (now numbers) count (now table) (at .0) (now places) ⌝ }
+    ensures { λ r. ⌜ RowsTold p sum (now (numbers .entry)) count (now (table .entry)) (at .0) (now (places .entry)) r ⌝ }
+{
+    sum_rows(table, p, at, numbers, count, places)
 }

@@ -4,8 +4,10 @@
 // The rows of a which line: those of the sign of u-v, and then y ≡ 1-f.
 use super::group::power_of;
 use super::numbers::base_at;
+use super::numbers::place_at;
 use super::numbers::size_at;
 use super::rows::Rows;
+use super::rows::residue_at;
 use super::sign::sign_cells;
 use super::sign::sign_rows;
 use super::sign::sign_works;
@@ -13,6 +15,7 @@ use super::sign::top_part;
 use super::value::Worked;
 use super::value::value_cell;
 use super::value::value_named;
+use number::Cell;
 use number::Residue;
 use number::residue::difference;
 use number::residue::sum;
@@ -35,6 +38,7 @@ ghost use Rattle.algebra.specs.Digits.{Below};
 ghost use Rattle.meaning.specs.Known.{Known, placeOf};
 ghost use Rattle.meaning.specs.Row.{holds};
 ghost use Rattle.meaning.specs.Reply.{firstFail};
+ghost use Rattle.table.specs.LineRows.{RowsAsked, RowsTold};
 ghost use Rattle.table.specs.Rows.{rowsSeen};
 
 pub fn which_value(u: i64, v: i64) -> i64
@@ -91,23 +95,36 @@ pub fn which_line_cells(numbers: &[i64], p: u32, values: &[i64], part: &mut [u32
 
 // ---- rows
 
-pub fn which_rows(
+fn which_rows(
     table: &[u32],
     p: u32,
-    place_u: usize,
-    place_v: usize,
-    at: usize,
+    place_u: Cell,
+    place_v: Cell,
+    at: Cell,
     b: u32,
     k: usize,
 ) -> Rows
-    requires { ⌜ (1 < p) × Below p (now table) × («place_u» < length (now table)) × («place_v» < length (now table))
-        × (at + k + 3 ≤ length (now table)) × (0 < b) × (0 < k) ⌝ }
-    ensures { λ r. ⌜ ((s : Known) (u v : ℕ) → s .p ≡ p → placeOf s u ≡ «place_u» → placeOf s v ≡ «place_v» → s .cells ≡ at
+    requires { ⌜ (1 < p) × Below p (now table) × («place_u» .0 < length (now table)) × («place_v» .0 < length (now table))
+        × (at .0 + k + 3 ≤ length (now table)) × (0 < b) × (0 < k) ⌝ }
+    ensures { λ r. ⌜ ((s : Known) (u v : ℕ) → s .p ≡ p → placeOf s u ≡ «place_u» .0 → placeOf s v ≡ «place_v» .0 → s .cells ≡ at .0
         → rowsSeen r ≡ firstFail (holds p (now (table .entry))) 0 (whichLine s u v b k .rows)) ⌝ }
 {
-    let apart = difference(Residue(table[place_u]), Residue(table[place_v]), p);
+    let apart = difference(residue_at(table, place_u), residue_at(table, place_v), p);
     let number = sum(apart, top_part(p, b, k), p);
-    let other = difference(Residue(1), Residue(table[at + 1 + k]), p);
-    let last = table[at] == other.0;
-    sign_rows(table, p, number, last, at + 1, b, k)
+    let flag = residue_at(table, Cell(at.0 + 1 + k));
+    let other = difference(Residue(1), flag, p);
+    let made = residue_at(table, at);
+    sign_rows(table, p, number, made.0 == other.0, Cell(at.0 + 1), b, k)
+}
+
+// The rows of a which line of a list that was read.
+pub fn which_line_rows(numbers: &[i64], table: &[u32], p: u32, at: Cell, places: &[usize]) -> Rows
+    requires { ⌜ RowsAsked p which (now numbers) 4 (now table) (at .0) (now places) ⌝ }
+    ensures { λ r. ⌜ RowsTold p which (now (numbers .entry)) 4 (now (table .entry)) (at .0) (now (places .entry)) r ⌝ }
+{
+    let place_u = place_at(numbers, 0, places);
+    let place_v = place_at(numbers, 1, places);
+    let b = base_at(numbers, 2);
+    let k = size_at(numbers, 3);
+    which_rows(table, p, place_u, place_v, at, b, k)
 }

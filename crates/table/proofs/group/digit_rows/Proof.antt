@@ -11,13 +11,13 @@ use Rattle.table.proofs.group.digit_rows.Tie as tie
 
 abbrev Inv-loop : tie.InvT-loop
 Inv-loop table first at b k i₀ i = (i ≤ k) × ((p : ℕ)
-    → firstFail (holds p table) first (digitRows at b k) ≡ firstFail (holds p table) (first + i) (digitRows (at + i) b (k - i)))
+    → firstFail (holds p table) first (digitRows (at .0) b k) ≡ firstFail (holds p table) (first + i) (digitRows (at .0 + i) b (k - i)))
 
 abbrev μ-loop : tie.MeasureT-loop
 μ-loop table first at b k i₀ i = k - i
 
 loop-holds : tie.Need-loop-holds Inv-loop μ-loop
-loop-holds c = let s = c .args in (search needs, λ p. digits-start p (s .table .now) (s .first) (s .at) (s .b) (s .k))
+loop-holds c = let s = c .args in (search needs, λ p. digits-start p (s .table .now) (s .first) (s .at .0) (s .b) (s .k))
 
 add-if1 : tie.Need-add-if1 Inv-loop μ-loop
 add-if1 c = search needs
@@ -34,11 +34,11 @@ add-t12 c = search needs
 returns : tie.Need-returns Inv-loop μ-loop
 unfolding rowsSeen
 returns c p =
-    let at-test = c .before .before in
+    let at-test = c .before .before .before in
     let at-loop = at-test .before in
     let s = at-loop .before .args in
     sym (at-loop .loop .inv .1 p
-    ∙ digit-fails p (s .table .now) (s .first) (s .at) (s .b) (s .k) (at-loop .loop .i) (at-test .loop-test .taken) (c .if1 .taken))
+    ∙ digit-fails p (s .table .now) (s .first) (s .at .0) (s .b) (s .k) (at-loop .loop .i) (at-test .loop-test .taken) (c .if1 .taken))
 
 add-i : tie.Need-add-i Inv-loop μ-loop
 add-i c = search needs
@@ -48,12 +48,12 @@ loop-less c = search needs
 
 loop-again : tie.Need-loop-again Inv-loop μ-loop
 loop-again c =
-    let at-test = c .before .before in
+    let at-test = c .before .before .before in
     let at-loop = at-test .before in
     let s = at-loop .before .args in (
       search needs,
       λ p. at-loop .loop .inv .1 p
-          ∙ digit-passes p (s .table .now) (s .first) (s .at) (s .b) (s .k) (at-loop .loop .i) (at-test .loop-test .taken) (c .if1 .left),
+          ∙ digit-passes p (s .table .now) (s .first) (s .at .0) (s .b) (s .k) (at-loop .loop .i) (at-test .loop-test .taken) (c .if1 .left),
     )
 
 returns-2 : tie.Need-returns-2 Inv-loop μ-loop
@@ -61,7 +61,7 @@ unfolding rowsSeen
 returns-2 c p =
     let at-loop = c .before in
     let s = at-loop .before .args in
-    sym (at-loop .loop .inv .1 p ∙ digits-end p (s .table .now) (s .first) (s .at) (s .b) (s .k) (at-loop .loop .i) (c .loop-test .left))
+    sym (at-loop .loop .inv .1 p ∙ digits-end p (s .table .now) (s .first) (s .at .0) (s .b) (s .k) (at-loop .loop .i) (c .loop-test .left))
 
 pub digit-rows-spec : {M : Type 1} → statement M
 digit-rows-spec =

@@ -27,7 +27,7 @@ returns c f L e =
     let at-last = at-digits .before in
     let at-value = at-last .before .before .before in
     let s = at-value .before .before .args in
-    group-answer (s .p) (s .table .now) f L (s .first) (s .at) (s .b) (s .k)
+    group-answer (s .p) (s .table .now) f L (s .first) (s .at .0) (s .b) (s .k)
     e (at-value .place-value .ensures) (at-digits .digit-rows .ensures (s .p)) (at-last .row-before .ensures) (c .rows-before .ensures)
 
 pub group-rows-spec : {M : Type 1} → statement M

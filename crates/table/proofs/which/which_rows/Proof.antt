@@ -5,32 +5,35 @@ use lib.IntN.{pos}
 use borrow.Author.Needs.{needs}
 use Rattle.meaning.specs.Known.{topPart}
 use Rattle.meaning.specs.Row.{cell, constant, _⊖_, _≅_}
-use Rattle.meaning.proofs.Law.{below-at}
 use Rattle.table.specs.Rows.{Leaves}
-use Rattle.table.proofs.RowsForm.{leaves-cell, leaves-constant, leaves-whole, leaves-⊕, leaves-⊖, row-test}
+use Rattle.table.proofs.RowsForm.{leaves-read, leaves-constant, leaves-whole, leaves-⊕, leaves-⊖, row-test}
 use Rattle.table.proofs.RowsSign.{sign-number, which-rows-are}
 use Rattle.table.proofs.which.which_rows.Statement.{statement}
 use Rattle.table.proofs.which.which_rows.Tie as tie
 
-mul-last : tie.Need-mul-last
-mul-last c = search needs
+residue-at-requires : tie.Need-residue-at-requires
+residue-at-requires c κs = search needs
 
-shared-slice-read-last : tie.Need-shared-slice-read-last
-shared-slice-read-last c = search needs
+residue-at-requires-2 : tie.Need-residue-at-requires-2
+residue-at-requires-2 c κs = search needs
 
-mul-t16 : tie.Need-mul-t16
-mul-t16 c = search needs
+-- u and v
+u-is : (c : tie.After-residue-at) → let a = c .before .before .args in
+    Leaves (a .p) (a .table .now) (c .residue-at .result .0) (cell (a .place-u .0))
+u-is c =
+    let start = c .before .before in
+    let a = start .args in
+    leaves-read (a .p) (a .table .now) (a .place-u .0) (start .pre .1) (start .pre .2) (c .residue-at .ensures)
 
-shared-slice-read-t18 : tie.Need-shared-slice-read-t18
-shared-slice-read-t18 c = search needs
+v-is : (c : tie.After-residue-at2) → let a = c .before .before .before .args in
+    Leaves (a .p) (a .table .now) (c .residue-at2 .result .0) (cell (a .place-v .0))
+v-is c =
+    let start = c .before .before .before in
+    let a = start .args in
+    leaves-read (a .p) (a .table .now) (a .place-v .0) (start .pre .1) (start .pre .3) (c .residue-at2 .ensures)
 
 difference-requires : tie.Need-difference-requires
-difference-requires c κs =
-    let start = c .before .before .before in
-    let a = start .args in (
-      below-at (a .p) (a .table .now) (a .place-u) (start .pre .1) (start .pre .2),
-      below-at (a .p) (a .table .now) (a .place-v) (start .pre .1) (start .pre .3),
-    )
+difference-requires c κs = (u-is (c .before) .below, v-is c .below)
 
 top-part-requires : tie.Need-top-part-requires
 top-part-requires c κs = search needs
@@ -45,71 +48,70 @@ top c =
 sum-requires : tie.Need-sum-requires
 sum-requires c κs = (c .before .difference .ensures .0, top c .below)
 
-add-t12 : tie.Need-add-t12
-add-t12 c = search needs
+add-t15 : tie.Need-add-t15
+add-t15 c = search needs
 
 add-t16 : tie.Need-add-t16
 add-t16 c = search needs
 
-mul-t20 : tie.Need-mul-t20
-mul-t20 c = search needs
+residue-at-requires-3 : tie.Need-residue-at-requires-3
+residue-at-requires-3 c κs = search needs
 
-shared-slice-read-t18-2 : tie.Need-shared-slice-read-t18-2
-shared-slice-read-t18-2 c = search needs
+-- f
+flag-is : (c : tie.After-residue-at3) → let a = c .before .before .before .before .before .before .before .before .args in
+    Leaves (a .p) (a .table .now) (c .residue-at3 .result .0) (cell (a .at .0 + 1 + a .k))
+flag-is c =
+    let start = c .before .before .before .before .before .before .before .before in
+    let a = start .args in
+    leaves-read (a .p) (a .table .now) (a .at .0 + 1 + a .k) (start .pre .1) (omega arith) (c .residue-at3 .ensures)
 
 difference-requires-2 : tie.Need-difference-requires-2
-difference-requires-2 c κs =
-    let start = c .before .before .before .before .before .before .before in
-    let a = start .args in
-    (start .pre .0, below-at (a .p) (a .table .now) (a .at + 1 + a .k) (start .pre .1) (omega arith))
+difference-requires-2 c κs = (c .before .before .before .before .before .before .before .before .pre .0, flag-is c .below)
 
-mul-last-2 : tie.Need-mul-last-2
-mul-last-2 c = search needs
+residue-at-requires-4 : tie.Need-residue-at-requires-4
+residue-at-requires-4 c κs = search needs
 
-shared-slice-read-last-2 : tie.Need-shared-slice-read-last-2
-shared-slice-read-last-2 c = search needs
-
-add-sign-rows : tie.Need-add-sign-rows
-add-sign-rows c = search needs
+add-t15-2 : tie.Need-add-t15-2
+add-t15-2 c =
+    let start = c .before .before .before .before .before .before .before .before .before .before .before .before .before in
+    omega (arith, start .pre .4)
 
 sign-rows-requires : tie.Need-sign-rows-requires
 sign-rows-requires c κs = search needs
 
 returns : tie.Need-returns
-returns c s u v p-is u-is v-is cells-is =
-    let at-other = c .before .before .before in
-    let at-number = at-other .before .before in
-    let at-apart = at-number .before .before in
-    let start = at-apart .before .before .before .before in
+returns c s u v p-is place-u-is place-v-is cells-is =
+    let at-made = c .before .before .before .before in
+    let at-other = at-made .before in
+    let at-flag = at-other .before in
+    let at-number = at-flag .before .before in
+    let at-top = at-number .before in
+    let at-apart = at-top .before in
+    let at-v = at-apart .before in
+    let start = at-v .before .before .before in
     let a = start .args in
-    let first = leaves-cell (a .p) (a .table .now) (a .place-u) (start .pre .1) (start .pre .2) in
-    let second = leaves-cell (a .p) (a .table .now) (a .place-v) (start .pre .1) (start .pre .3) in
-    let flag = leaves-cell (a .p) (a .table .now) (a .at + 1 + a .k) (start .pre .1) (omega arith) in
-    let made = leaves-cell (a .p) (a .table .now) (a .at) (start .pre .1) (omega arith) in
-    let number = leaves-⊕ (leaves-⊖ first second (at-apart .difference .ensures)) (top (at-number .before)) (at-number .sum .ensures) in
-    let other = leaves-⊖ (leaves-constant (a .p) (a .table .now) 1 (start .pre .0)) flag (at-other .difference2 .ensures) in
-    rw (which-rows-are s u v (a .place-u) (a .place-v) (a .at) (a .b) (a .k) u-is v-is cells-is)
-    (c .sign-rows .ensures (cell (a .place-u) ⊖ cell (a .place-v)) (λ f. cell (a .at) ≅ constant (pos 1) ⊖ f)
-    (sign-number (cell (a .place-u) ⊖ cell (a .place-v)) (a .b) (a .k) number) (row-test made other))
+    let made = leaves-read (a .p) (a .table .now) (a .at .0) (start .pre .1) (omega arith) (at-made .residue-at4 .ensures) in
+    let apart = leaves-⊖ (u-is (at-v .before)) (v-is at-v) (at-apart .difference .ensures) in
+    let number = leaves-⊕ apart (top at-top) (at-number .sum .ensures) in
+    let other = leaves-⊖ (leaves-constant (a .p) (a .table .now) 1 (start .pre .0)) (flag-is at-flag) (at-other .difference2 .ensures) in
+    let F = cell (a .place-u .0) ⊖ cell (a .place-v .0) in
+    rw (which-rows-are s u v (a .place-u .0) (a .place-v .0) (a .at .0) (a .b) (a .k) place-u-is place-v-is cells-is)
+    (c .sign-rows .ensures F (λ f. cell (a .at .0) ≅ constant (pos 1) ⊖ f) (sign-number F (a .b) (a .k) number) (row-test made other))
 
 pub which-rows-spec : {M : Type 1} → statement M
 which-rows-spec =
     tie.close
     (tie.spec
-    mul-last
-    shared-slice-read-last
-    mul-t16
-    shared-slice-read-t18
+    residue-at-requires
+    residue-at-requires-2
     difference-requires
     top-part-requires
     sum-requires
-    add-t12
+    add-t15
     add-t16
-    mul-t20
-    shared-slice-read-t18-2
+    residue-at-requires-3
     difference-requires-2
-    mul-last-2
-    shared-slice-read-last-2
-    add-sign-rows
+    residue-at-requires-4
+    add-t15-2
     sign-rows-requires
     returns)

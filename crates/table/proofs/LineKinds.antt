@@ -1,0 +1,111 @@
+-- The kinds of lines that have a base and a digit count: where these and the names stand among the line's numbers, and the line's gadget
+-- by them. What holds of all such kinds is said once, for those that name one value and for those that name two.
+use mathlib.Core.Path.{_≡_, refl, ap, _∙_}
+use mathlib.Core.Bool.{false}
+use mathlib.Core.List.{List, [], _∷_}
+use Prim.Native.Nat.{ℕ, suc, _≤_, _<_}
+use native.Mathlib.Omega.{arith}
+use lib.IntN.{ℤ, pos, natAbs}
+use lib.ListN.{length, getD, take}
+use lib.Seq.{getD-take}
+use lib.Signed.{_≤ℤ_}
+use Rattle.meaning.specs.Line.{Word, span, relu, which, max, root, numberAt, sizeAt, namesOf, digitsAt, digitsOf}
+use Rattle.meaning.specs.Known.{Known}
+use Rattle.meaning.specs.Gadget.Interface.{Gadget}
+use Rattle.meaning.specs.Gadget.Span.{spanLine}
+use Rattle.meaning.specs.Gadget.Relu.{reluLine}
+use Rattle.meaning.specs.Gadget.Which.{whichLine}
+use Rattle.meaning.specs.Gadget.Max.{maxLine}
+use Rattle.meaning.specs.Gadget.Root.{rootLine}
+use Rattle.meaning.specs.Meaning.{byWord, gadget}
+use Rattle.meaning.specs.Refusal.{isField}
+use Rattle.reader.specs.State.{greatest}
+use Rattle.table.specs.Line.{KeptLine, gadgetOf, knownCount}
+use Rattle.table.proofs.LineNumbers.{NameAt, first-name, second-name, DigitsFrom, digits-from, size-is}
+
+-- a base stands at place i and its digit count after it
+pub record DigitWord (w : Word) (numbers : List ℤ) (count i : ℕ) : Type 0 where
+  pub late : isField w ≡ false
+  pub long : suc i < count
+  pub digits : digitsOf w (take count numbers) ≡ digitsAt (take count numbers) i
+
+-- before it one value is named
+pub record OneWord (w : Word) (numbers : List ℤ) (count : ℕ) (line : Known → (v b k : ℕ) → Gadget) : Type 0 where
+  pub has-digits : DigitWord w numbers count 1
+  pub names : namesOf w (take count numbers) ≡ numberAt (take count numbers) 0 ∷ []
+  pub is : (s : Known) → byWord w s (take count numbers)
+      ≡ line s (sizeAt (take count numbers) 0) (sizeAt (take count numbers) 1) (sizeAt (take count numbers) 2)
+
+-- or two
+pub record TwoWord (w : Word) (numbers : List ℤ) (count : ℕ) (line : Known → (u v b k : ℕ) → Gadget) : Type 0 where
+  pub has-digits : DigitWord w numbers count 2
+  pub names : namesOf w (take count numbers) ≡ numberAt (take count numbers) 0 ∷ numberAt (take count numbers) 1 ∷ []
+  pub is : (s : Known) → byWord w s (take count numbers)
+      ≡ line s (sizeAt (take count numbers) 0) (sizeAt (take count numbers) 1) (sizeAt (take count numbers) 2) (sizeAt (take count numbers) 3)
+
+module _ (numbers : List ℤ) where
+  pub relu-word : OneWord relu numbers 3 reluLine
+  unfolding isField digitsOf namesOf byWord
+  relu-word = record { has-digits = record { late = refl; long = omega arith; digits = refl }; names = refl; is = λ s. refl }
+
+  pub root-word : OneWord root numbers 3 rootLine
+  unfolding isField digitsOf namesOf byWord
+  root-word = record { has-digits = record { late = refl; long = omega arith; digits = refl }; names = refl; is = λ s. refl }
+
+  pub span-word : OneWord span numbers 4 (λ s v b k. spanLine s v b k (getD numbers 3 (pos 0)))
+  unfolding isField digitsOf namesOf byWord numberAt
+  span-word =
+      let shift : getD (take 4 numbers) 3 (pos 0) ≡ getD numbers 3 (pos 0) = getD-take 4 numbers 3 (pos 0) (omega arith) in
+      record {
+        has-digits = record { late = refl; long = omega arith; digits = refl };
+        names = refl;
+        is = λ s. ap (λ (z : ℤ). spanLine s (sizeAt (take 4 numbers) 0) (sizeAt (take 4 numbers) 1) (sizeAt (take 4 numbers) 2) z) shift;
+      }
+
+  pub which-word : TwoWord which numbers 4 whichLine
+  unfolding isField digitsOf namesOf byWord
+  which-word = record { has-digits = record { late = refl; long = omega arith; digits = refl }; names = refl; is = λ s. refl }
+
+  pub max-word : TwoWord max numbers 4 maxLine
+  unfolding isField digitsOf namesOf byWord
+  max-word = record { has-digits = record { late = refl; long = omega arith; digits = refl }; names = refl; is = λ s. refl }
+
+-- ---- a line of such a kind that keeps its rules
+
+module _ {w : Word} {numbers : List ℤ} {count : ℕ} (l : KeptLine w numbers count) where
+  module _ (i : ℕ) (word : DigitWord w numbers count i) where
+    pub word-digits : DigitsFrom numbers i
+    word-digits = digits-from l i (word .long) (word .late) (word .digits)
+
+    -- as `base_at` and `size_at` ask
+    pub base-asked : (i < length numbers) × (pos 0 ≤ℤ getD numbers i (pos 0)) × (natAbs (getD numbers i (pos 0)) ≤ greatest)
+    base-asked = let d = word-digits in (d .base-inside, d .base-natural, d .base-most)
+
+    pub count-asked : (suc i < length numbers) × (pos 0 ≤ℤ getD numbers (suc i) (pos 0))
+    count-asked = let d = word-digits in (d .count-inside, d .count-natural)
+
+  module _ {line : Known → (v b k : ℕ) → Gadget} (word : OneWord w numbers count line) where
+    pub one-name : NameAt (knownCount l) numbers 0
+    one-name = first-name l 0 [] (omega (arith, word .has-digits .long)) (word .names)
+
+    pub one-is : {b k : ℕ} → b ≡ natAbs (getD numbers 1 (pos 0)) → k ≡ natAbs (getD numbers 2 (pos 0))
+        → gadgetOf l ≡ line (l .state) (natAbs (getD numbers 0 (pos 0))) b k
+    unfolding gadget
+    one-is b-is k-is =
+        let h = word .has-digits .long in
+        word .is (l .state) ∙ rw (size-is l 0 (omega arith), size-is l 1 (omega arith), size-is l 2 h, b-is, k-is) refl
+
+  module _ {line : Known → (u v b k : ℕ) → Gadget} (word : TwoWord w numbers count line) where
+    pub two-first : NameAt (knownCount l) numbers 0
+    two-first = first-name l 0 _ (omega (arith, word .has-digits .long)) (word .names)
+
+    pub two-second : NameAt (knownCount l) numbers 1
+    two-second = second-name l 1 _ [] (omega (arith, word .has-digits .long)) (word .names)
+
+    pub two-is : {b k : ℕ} → b ≡ natAbs (getD numbers 2 (pos 0)) → k ≡ natAbs (getD numbers 3 (pos 0))
+        → gadgetOf l ≡ line (l .state) (natAbs (getD numbers 0 (pos 0))) (natAbs (getD numbers 1 (pos 0))) b k
+    unfolding gadget
+    two-is b-is k-is =
+        let h = word .has-digits .long in
+        word .is (l .state)
+        ∙ rw (size-is l 0 (omega arith), size-is l 1 (omega arith), size-is l 2 (omega arith), size-is l 3 h, b-is, k-is) refl

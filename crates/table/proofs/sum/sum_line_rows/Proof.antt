@@ -1,0 +1,13 @@
+-- The numbers of a sum line, and its row by them.
+use Rattle.table.proofs.RowsSum.{sum-asked, sum-told}
+use Rattle.table.proofs.sum.sum_line_rows.Statement.{statement}
+use Rattle.table.proofs.sum.sum_line_rows.Tie as tie
+
+sum-rows-requires : tie.Need-sum-rows-requires
+sum-rows-requires c κs = sum-asked (c .before .before .pre)
+
+returns : tie.Need-returns
+returns c a = sum-told a (c .sum-rows .ensures)
+
+pub sum-line-rows-spec : {M : Type 1} → statement M
+sum-line-rows-spec = tie.close (tie.spec sum-rows-requires returns)
