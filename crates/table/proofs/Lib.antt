@@ -2,7 +2,6 @@ pub mod CellsPart
 pub mod CellsGroup
 pub mod CellsSign
 pub mod CellsRoot
-pub mod CellsLine
 pub mod LineWord
 pub mod WorksWhole
 pub mod WorksValue
@@ -11,9 +10,10 @@ pub mod WorksSign
 pub mod WorksSum
 pub mod WorksSumFits
 pub mod LineNumbers
+pub mod LineKinds
 pub mod LineValues
 pub mod WorksLine
-pub mod LineKinds
+pub mod CellsLine
 pub mod RowsFirst
 pub mod RowsForm
 pub mod RowsGroup
