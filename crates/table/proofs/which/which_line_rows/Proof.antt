@@ -34,13 +34,15 @@ which-rows-requires c κs =
     let at-u = at-v .before in
     let start = at-u .before .before .before in
     let word = which-word (start .args .numbers .now) in
+    let u = name-inside (start .pre) 0 (two-first (start .pre .kept) word) (at-u .place-at .ensures) in
+    let v = name-inside (start .pre) 1 (two-second (start .pre .kept) word) (at-v .place-at2 .ensures) in
     let three = p-three (start .pre) (word .has-digits .late) in
     let d = word-digits (start .pre .kept) 2 (word .has-digits) in
     let room = two-room (start .pre) word (at-b .base-at .ensures) (c .size-at .ensures) in (
       omega arith,
       start .pre .below,
-      name-inside (start .pre) 0 (two-first (start .pre .kept) word) (at-u .place-at .ensures),
-      name-inside (start .pre) 1 (two-second (start .pre .kept) word) (at-v .place-at2 .ensures),
+      omega arith,
+      omega arith,
       omega (arith, room),
       omega (arith, d .base-two, at-b .base-at .ensures),
       omega (arith, d .count-one, c .size-at .ensures),
