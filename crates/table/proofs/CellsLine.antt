@@ -1,5 +1,5 @@
 -- The cells that are written for a line of each kind are those that its gadget has for the values before it.
-use mathlib.Core.Path.{_≡_, refl, sym, ap, ap₂, subst, _∙_}
+use mathlib.Core.Path.{_≡_, refl, ap, subst, _∙_}
 use mathlib.Core.Bool.{false}
 use mathlib.Core.List.{List, [], _∷_, _++_}
 use Prim.Native.Nat.{ℕ, suc, _+_, _*_, _≤_, _<_}
@@ -10,9 +10,10 @@ use lib.ListN.{length, getD, take, drop}
 use lib.Seq.{drop-cons}
 use Rattle.meaning.specs.Line.{Word, field, input, span, sum, relu, which, max, root}
 use Rattle.meaning.specs.Number.{remainder}
-use Rattle.meaning.specs.Known.{larger}
+use Rattle.meaning.specs.Known.{Known, larger}
 use Rattle.meaning.specs.Meaning.{byWord, gadget}
 use Rattle.meaning.specs.Refusal.{valueLimit, isField}
+use Rattle.meaning.specs.Gadget.Interface.{Gadget}
 use Rattle.meaning.specs.Gadget.Digits.{groupCells}
 use Rattle.meaning.specs.Gadget.Field.{fieldLine}
 use Rattle.meaning.specs.Gadget.Input.{inputLine}
@@ -27,9 +28,10 @@ use Rattle.meaning.proofs.Number.{OddPrime}
 use Rattle.table.specs.Cells.{maxCells, rootCells}
 use Rattle.table.specs.Line.{KeptLine, gadgetOf, knownCount}
 use Rattle.table.specs.LineValues.{CellsAsked, CellsTold}
-use Rattle.table.proofs.LineNumbers.{NameAt, number-is, size-is, prime-is}
-use Rattle.table.proofs.LineValues.{size, named, one-read, two-read}
-use Rattle.table.proofs.WorksLine.{span-name, relu-name, root-name, which-first, which-second, max-first, max-second}
+use Rattle.table.proofs.LineNumbers.{NameAt, prime-is}
+use Rattle.table.proofs.LineKinds.{OneWord, one-name, one-is, TwoWord, two-first, two-second, two-is}
+use Rattle.table.proofs.LineKinds.{span-word, relu-word, which-word, max-word, root-word}
+use Rattle.table.proofs.LineValues.{size, named, value-named}
 
 module _ {p : ℕ} {w : Word} {numbers : List ℤ} {count : ℕ} {values : List ℤ} {known : ℕ} {part : List ℕ}
     (a : CellsAsked p w numbers count values known part) where
@@ -39,28 +41,14 @@ module _ {p : ℕ} {w : Word} {numbers : List ℤ} {count : ℕ} {values : List 
   name-known : {i : ℕ} → NameAt (knownCount (a .asked .kept)) numbers i → size numbers i < known
   name-known name = omega (arith, name .below, a .known-are)
 
--- ---- the room
+  -- the room for the cells of a line that names one value, and of one that names two
+  pub one-room : {line : Known → (v b k : ℕ) → Gadget} (word : OneWord w numbers count line) {b k : ℕ} → b ≡ size numbers 1
+      → k ≡ size numbers 2 → line (a .asked .kept .state) (size numbers 0) b k .width ≤ length part
+  one-room word base digits = subst (λ (g : Gadget). g .width ≤ length part) (one-is (a .asked .kept) word base digits) (a .room)
 
-module _ {p : ℕ} {numbers values : List ℤ} {known : ℕ} {part : List ℕ} {k : ℕ} where
-  pub span-room : CellsAsked p span numbers 4 values known part → k ≡ size numbers 2 → k ≤ length part
-  unfolding gadget byWord spanLine
-  span-room a digits = rw (digits, ← size-is (a .asked .kept) 2 (omega arith)) (a .room)
-
-  pub relu-room : CellsAsked p relu numbers 3 values known part → k ≡ size numbers 2 → k + 3 ≤ length part
-  unfolding gadget byWord reluLine
-  relu-room a digits = rw (digits, ← size-is (a .asked .kept) 2 (omega arith)) (a .room)
-
-  pub root-room : CellsAsked p root numbers 3 values known part → k ≡ size numbers 2 → 2 + 4 * k ≤ length part
-  unfolding gadget byWord rootLine
-  root-room a digits = rw (digits, ← size-is (a .asked .kept) 2 (omega arith)) (a .room)
-
-  pub which-room : CellsAsked p which numbers 4 values known part → k ≡ size numbers 3 → k + 3 ≤ length part
-  unfolding gadget byWord whichLine
-  which-room a digits = rw (digits, ← size-is (a .asked .kept) 3 (omega arith)) (a .room)
-
-  pub max-room : CellsAsked p max numbers 4 values known part → k ≡ size numbers 3 → suc (2 * k) ≤ length part
-  unfolding gadget byWord maxLine
-  max-room a digits = rw (digits, ← size-is (a .asked .kept) 3 (omega arith)) (a .room)
+  pub two-room : {line : Known → (u v b k : ℕ) → Gadget} (word : TwoWord w numbers count line) {b k : ℕ} → b ≡ size numbers 2
+      → k ≡ size numbers 3 → line (a .asked .kept .state) (size numbers 0) (size numbers 1) b k .width ≤ length part
+  two-room word base digits = subst (λ (g : Gadget). g .width ≤ length part) (two-is (a .asked .kept) word base digits) (a .room)
 
 -- ---- one value, and a digit group
 
@@ -68,25 +56,30 @@ module _ {numbers values : List ℤ} {v : ℤ} {b k : ℕ} (value : v ≡ named 
     (digits : k ≡ size numbers 2) {p known : ℕ} {part after : List ℕ} where
   pub relu-cells-told : after ≡ (remainder p (larger (pos 0) v) ∷ signCells p b k v) ++ drop (k + 3) part
       → CellsTold p relu numbers 3 values known part after
-  unfolding gadget byWord reluLine isField
+  unfolding reluLine
   relu-cells-told h a next made =
-      let read = one-read numbers values 3 known (omega arith) (name-known a (relu-name (a .asked .kept))) value base digits in
-      rw (a .prime refl, read .value-read, read .base-read, read .digits-read) h
+      let l = a .asked .kept in
+      let word = relu-word numbers in
+      let read = value-named numbers values 0 known (name-known a (one-name l word)) in
+      rw (one-is l word base digits, a .prime (word .has-digits .late), read, ← value) h
 
   pub root-cells-told : after ≡ rootCells p b k v ++ drop (2 + 4 * k) part
       → CellsTold p root numbers 3 values known part after
-  unfolding gadget byWord rootLine isField rootCells
+  unfolding rootLine rootCells
   root-cells-told h a next made =
-      let read = one-read numbers values 3 known (omega arith) (name-known a (root-name (a .asked .kept))) value base digits in
-      rw (a .prime refl, read .value-read, read .base-read, read .digits-read) h
+      let l = a .asked .kept in
+      let word = root-word numbers in
+      let read = value-named numbers values 0 known (name-known a (one-name l word)) in
+      rw (one-is l word base digits, a .prime (word .has-digits .late), read, ← value) h
 
   pub span-cells-told : {shift : ℤ} → shift ≡ getD numbers 3 (pos 0) → after ≡ groupCells b k v shift ++ drop k part
       → CellsTold p span numbers 4 values known part after
-  unfolding gadget byWord spanLine
+  unfolding spanLine
   span-cells-told e h a next made =
       let l = a .asked .kept in
-      let read = one-read numbers values 4 known (omega arith) (name-known a (span-name l)) value base digits in
-      rw (read .value-read, read .base-read, read .digits-read, number-is l 3 (omega arith), ← e) h
+      let word = span-word numbers in
+      let read = value-named numbers values 0 known (name-known a (one-name l word)) in
+      rw (one-is l word base digits, read, ← value, ← e) h
 
 -- ---- two values, and a digit group
 
@@ -94,23 +87,23 @@ module _ {numbers values : List ℤ} {u v : ℤ} {b k : ℕ} (first : u ≡ name
     (base : b ≡ size numbers 2) (digits : k ≡ size numbers 3) {p known : ℕ} {part after : List ℕ} where
   pub which-cells-told : after ≡ (remainder p (whichValue u v) ∷ signCells p b k (u -ℤ v)) ++ drop (k + 3) part
       → CellsTold p which numbers 4 values known part after
-  unfolding gadget byWord whichLine isField
+  unfolding whichLine
   which-cells-told h a next made =
       let l = a .asked .kept in
-      let read = two-read numbers values 4 known (omega arith) (name-known a (which-first l)) (name-known a (which-second l)) first second base
-      digits in
-      rw (a .prime refl, read .first-read, read .second-read, read .base-read, read .digits-read) h
+      let word = which-word numbers in
+      let read-u = value-named numbers values 0 known (name-known a (two-first l word)) in
+      let read-v = value-named numbers values 1 known (name-known a (two-second l word)) in
+      rw (two-is l word base digits, a .prime (word .has-digits .late), read-u, read-v, ← first, ← second) h
 
   pub max-cells-told : after ≡ maxCells p b k u v ++ drop (suc (2 * k)) part
       → CellsTold p max numbers 4 values known part after
-  unfolding gadget byWord maxLine isField maxCells
+  unfolding maxLine maxCells
   max-cells-told h a next made =
       let l = a .asked .kept in
-      let read = two-read numbers values 4 known (omega arith) (name-known a (max-first l)) (name-known a (max-second l)) first second base
-      digits in
-      let cells : gadgetOf l .cells (take known values) next ≡ maxCells p b k u v =
-      rw (a .prime refl, read .first-read, read .second-read, read .base-read, read .digits-read) refl in
-      h ∙ sym (ap₂ (λ (cs : List ℕ) (n : ℕ). cs ++ drop (suc (2 * n)) part) cells (read .digits-read))
+      let word = max-word numbers in
+      let read-u = value-named numbers values 0 known (name-known a (two-first l word)) in
+      let read-v = value-named numbers values 1 known (name-known a (two-second l word)) in
+      rw (two-is l word base digits, a .prime (word .has-digits .late), read-u, read-v, ← first, ← second) h
 
 -- ---- lines without a digit group
 

@@ -2,7 +2,6 @@ pub mod CellsPart
 pub mod CellsGroup
 pub mod CellsSign
 pub mod CellsRoot
-pub mod CellsLine
 pub mod LineWord
 pub mod WorksWhole
 pub mod WorksValue
@@ -14,6 +13,7 @@ pub mod LineNumbers
 pub mod LineKinds
 pub mod LineValues
 pub mod WorksLine
+pub mod CellsLine
 pub mod RowsFirst
 pub mod RowsForm
 pub mod RowsGroup
