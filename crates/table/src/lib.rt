@@ -5,11 +5,11 @@
 // A function that writes cells is lent the part of the table that starts at the line's first cell. It writes the line's cells
 // there and leaves the rest of the part as it was. Checking writes nothing: the table is a shared slice.
 mod group;
-pub mod input;
+mod input;
 pub mod line_cells;
 pub mod line_rows;
 pub mod line_works;
-pub mod max;
+mod max;
 mod numbers;
 mod relu;
 mod root;
