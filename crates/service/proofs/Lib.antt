@@ -4,3 +4,5 @@ pub mod Places
 pub mod Scan
 pub mod Shown
 pub mod Checked
+pub mod Worked
+pub mod Written

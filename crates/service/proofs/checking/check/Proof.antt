@@ -2,7 +2,7 @@
 use mathlib.Core.Path.{_∙_}
 use denote.Ref.{now}
 use Rattle.service.specs.Reply.{replySeen}
-use Rattle.service.proofs.Listed.{Listed, survey-refused, survey-counted}
+use Rattle.service.proofs.Listed.{survey-refused, survey-counted}
 use Rattle.service.proofs.Checked.{check-refused, check-read}
 use borrow.Author.Needs.{needs}
 use Rattle.service.proofs.checking.check.Statement.{statement}
