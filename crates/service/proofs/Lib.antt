@@ -6,3 +6,4 @@ pub mod Shown
 pub mod Checked
 pub mod Worked
 pub mod Written
+pub mod Made
