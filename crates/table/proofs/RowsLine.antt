@@ -1,60 +1,28 @@
--- A line of a list that was read, as the functions that check its rows take it: its word in the code's own type, the places that its
--- names lead to, the room for its cells, and that what is told of the code's numbers is told of the line.
+-- A line of a list that was read, as the functions that check its rows take it: the places that its names lead to, the room for its
+-- cells, and that what is told of the code's numbers is told of the line.
 use mathlib.Core.Path.{_≡_, refl, sym, ap, subst, _∙_}
 use mathlib.Core.Bool.{false}
 use mathlib.Core.List.{List, []}
 use mathlib.Core.Option.{Option}
 use Prim.Native.Nat.{ℕ, _+_, _≤_, _<_}
 use native.Mathlib.Omega.{arith}
-use lib.Dec.{eqb}
 use lib.IntN.{ℤ, pos, natAbs}
 use lib.ListN.{length, getD, take}
 use lib.Seq.{getD-take}
 use lib.Signed.{_≤ℤ_}
-use Rattle.meaning.specs.Line.{Word, isCount}
+use Rattle.meaning.specs.Line.{Word}
 use Rattle.meaning.specs.Known.{Known, placeOf}
 use Rattle.meaning.specs.Row.{holds}
 use Rattle.meaning.specs.Reply.{firstFail}
 use Rattle.meaning.specs.Gadget.Interface.{Gadget}
 use Rattle.meaning.specs.Meaning.{byWord, gadget}
 use Rattle.meaning.specs.Refusal.{isField}
-use Rattle.text.specs.Word.{wordOf}
-use Rattle.text.specs.declared.Word.{Word as CodeWord}
-use Rattle.reader.proofs.Sizes.{count-is}
 use Rattle.table.specs.Rows.{rowsSeen}
 use Rattle.table.specs.Line.{gadgetOf, knownCount}
 use Rattle.table.specs.LineRows.{RowsAsked, RowsTold}
-use Rattle.table.specs.declared.rows.Rows.{Rows}
 use Rattle.table.specs.declared.rows.Rows.the-variants.{AllHold}
 use Rattle.table.proofs.LineNumbers.{NameAt, prime-is}
 use Rattle.table.proofs.LineKinds.{OneWord, one-name, one-is, TwoWord, two-first, two-second, two-is}
-
--- ---- a line by its word, in the code's own type
-
-module _ {p : ℕ} {v w : CodeWord} {numbers : List ℤ} {count n : ℕ} {table : List ℕ} {cells : ℕ} {places : List ℕ} (word-is : v ≡ w) where
-  same-asked : count ≡ n → RowsAsked p (wordOf v) numbers count table cells places → RowsAsked p (wordOf w) numbers n table cells places
-  same-asked e a = subst (λ (m : ℕ). RowsAsked p (wordOf w) numbers m table cells places) e
-      (subst (λ (u : CodeWord). RowsAsked p (wordOf u) numbers count table cells places) word-is a)
-
-  same-told : (r : Rows) → count ≡ n → RowsTold p (wordOf w) numbers n table cells places r → RowsTold p (wordOf v) numbers count table cells places r
-  same-told r e t = subst (λ (u : CodeWord). RowsTold p (wordOf u) numbers count table cells places r) (sym word-is)
-      (subst (λ (m : ℕ). RowsTold p (wordOf w) numbers m table cells places r) (sym e) t)
-
-module _ {p : ℕ} {v w : CodeWord} {numbers : List ℤ} {count : ℕ} {table : List ℕ} {cells : ℕ} {places : List ℕ} (word-is : v ≡ w) where
-  -- a word that may be followed by any such count
-  pub asked-as : RowsAsked p (wordOf v) numbers count table cells places → RowsAsked p (wordOf w) numbers count table cells places
-  asked-as = same-asked word-is refl
-
-  pub told-as : (r : Rows) → RowsTold p (wordOf w) numbers count table cells places r → RowsTold p (wordOf v) numbers count table cells places r
-  told-as r = same-told word-is r refl
-
-  -- a word that is followed by n numbers
-  module _ (n : ℕ) (counts : isCount (wordOf w) count ≡ eqb count n) where
-    pub asked-with : RowsAsked p (wordOf v) numbers count table cells places → RowsAsked p (wordOf w) numbers n table cells places
-    asked-with a = same-asked word-is (count-is n count word-is counts (a .kept .counted)) a
-
-    pub told-with : (r : Rows) → RowsTold p (wordOf w) numbers n table cells places r → RowsTold p (wordOf v) numbers count table cells places r
-    told-with r t a = same-told word-is r (count-is n count word-is counts (a .kept .counted)) t a
 
 -- a line that has no row
 pub no-row : (p : ℕ) (w : Word) (numbers : List ℤ) (count : ℕ) (table : List ℕ) (cells : ℕ) (places : List ℕ)

@@ -17,7 +17,6 @@ use super::value::Worked;
 use super::value::value_cell;
 use super::value::value_named;
 use number::Cell;
-use number::Residue;
 use number::Whole;
 use number::residue::difference;
 use number::residue::product;

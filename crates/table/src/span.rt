@@ -12,7 +12,6 @@ use super::rows::residue_at;
 use super::value::Worked;
 use super::value::value_named;
 use number::Cell;
-use number::Residue;
 use number::Whole;
 use number::residue::difference;
 use number::residue::remainder_of;
