@@ -4,7 +4,6 @@ use mathlib.Core.Bool.{false}
 use mathlib.Core.List.{List, [], _∷_, _++_}
 use Prim.Native.Nat.{ℕ, suc, _+_, _*_, _≤_, _<_}
 use native.Mathlib.Omega.{arith}
-use lib.Dec.{leb→le}
 use lib.IntN.{ℤ, pos, _-ℤ_}
 use lib.ListN.{length, getD, take, drop}
 use lib.Seq.{drop-cons}
@@ -12,7 +11,7 @@ use Rattle.meaning.specs.Line.{Word, field, input, span, sum, relu, which, max,
 use Rattle.meaning.specs.Number.{remainder}
 use Rattle.meaning.specs.Known.{Known, larger}
 use Rattle.meaning.specs.Meaning.{byWord, gadget}
-use Rattle.meaning.specs.Refusal.{valueLimit, isField}
+use Rattle.meaning.specs.Refusal.{isField}
 use Rattle.meaning.specs.Gadget.Interface.{Gadget}
 use Rattle.meaning.specs.Gadget.Digits.{groupCells}
 use Rattle.meaning.specs.Gadget.Field.{fieldLine}
@@ -26,9 +25,9 @@ use Rattle.meaning.specs.Gadget.Max.{maxLine}
 use Rattle.meaning.specs.Gadget.Root.{rootLine}
 use Rattle.meaning.proofs.Number.{OddPrime}
 use Rattle.table.specs.Cells.{maxCells, rootCells}
-use Rattle.table.specs.Line.{KeptLine, gadgetOf, knownCount}
+use Rattle.table.specs.Line.{knownCount}
 use Rattle.table.specs.LineValues.{CellsAsked, CellsTold}
-use Rattle.table.proofs.LineNumbers.{NameAt, prime-is}
+use Rattle.table.proofs.LineNumbers.{NameAt, prime-is, made-fit}
 use Rattle.table.proofs.LineKinds.{OneWord, one-name, one-is, TwoWord, two-first, two-second, two-is}
 use Rattle.table.proofs.LineKinds.{span-word, relu-word, which-word, max-word, root-word}
 use Rattle.table.proofs.LineValues.{size, named, value-named}
@@ -110,10 +109,6 @@ module _ {numbers values : List ℤ} {u v : ℤ} {b k : ℕ} (first : u ≡ name
 pub field-cells-told : (p : ℕ) (numbers values : List ℤ) (known : ℕ) (part : List ℕ) → CellsTold p field numbers 1 values known part part
 unfolding gadget byWord fieldLine
 field-cells-told p numbers values known part a next made = refl
-
-made-fit : {w : Word} {numbers : List ℤ} {count : ℕ} (l : KeptLine w numbers count) → knownCount l + length (gadgetOf l .made) ≤ 256
-unfolding valueLimit
-made-fit l = leb→le (knownCount l + length (gadgetOf l .made)) 256 (l .keeps .values-fit)
 
 -- the one value that a line makes stands in values at known
 made-at : (values : List ℤ) (known : ℕ) {x : ℤ} → known < length values → x ∷ [] ≡ take 1 (drop known values)

@@ -4,12 +4,12 @@ pub mod CellsSign
 pub mod CellsRoot
 pub mod LineWord
 pub mod WorksWhole
-pub mod WorksValue
 pub mod WorksAnswer
 pub mod WorksSign
 pub mod WorksSum
 pub mod WorksSumFits
 pub mod LineNumbers
+pub mod LineSum
 pub mod LineKinds
 pub mod LineValues
 pub mod WorksLine

@@ -1,15 +1,14 @@
 -- What working a line of each kind answers is what its gadget says of the values before it.
 use mathlib.Core.Path.{_≡_, refl, ap}
-use mathlib.Core.Bool.{true, cond}
+use mathlib.Core.Bool.{cond}
 use mathlib.Core.List.{List, [], _∷_}
 use mathlib.Core.Option.{none, some}
-use Prim.Native.Nat.{ℕ, _%_, _^_, _≤_}
+use Prim.Native.Nat.{ℕ, _^_}
 use native.Mathlib.Omega.{arith}
-use lib.Dec.{eqb, leb, ltb, eqb→eq}
+use lib.Dec.{ltb}
 use lib.IntN.{ℤ, pos, natAbs, _-ℤ_}
 use lib.ListN.{getD, take}
-use Rattle.algebra.proofs.Test.{left, ≡-test}
-use Rattle.meaning.specs.Line.{field, input, span, sum, relu, which, max, root, isCount, numberAt, withoutFirst, namesOf}
+use Rattle.meaning.specs.Line.{field, input, span, sum, relu, which, max, root, numberAt, withoutFirst, namesOf}
 use Rattle.meaning.specs.Number.{between}
 use Rattle.meaning.specs.Known.{larger}
 use Rattle.meaning.specs.Meaning.{byWord, gadget}
@@ -25,7 +24,10 @@ use Rattle.meaning.specs.Gadget.Max.{maxLine}
 use Rattle.meaning.specs.Gadget.Root.{rootValue, rootLine}
 use Rattle.meaning.proofs.Lines.{terms-named}
 use Rattle.number.specs.Bounded.{Bounded}
+use Rattle.text.specs.Word.{wordOf}
+use Rattle.text.specs.declared.Word.the-variants.{Sum}
 use Rattle.reader.specs.State.{greatest}
+use Rattle.reader.proofs.Steps.{sum-count}
 use Rattle.table.specs.Line.{KeptLine, knownCount}
 use Rattle.table.specs.Cells.{workedSeen, sumOf, SumAsked}
 use Rattle.table.specs.LineValues.{ValuesAsked, WorkTold}
@@ -106,20 +108,14 @@ pub input-told : (numbers values : List ℤ) {next x : ℤ} → x ≡ next → W
 unfolding gadget byWord inputLine workedSeen
 input-told numbers values e a = ap (λ (y : ℤ). some (y ∷ [])) e
 
-odd-count : (count : ℕ) → isCount sum count ≡ true → 1 ≤ count
-unfolding isCount
-odd-count count e =
-    let odd = eqb→eq (count % 2) 1 (left (eqb (count % 2) 1) (leb count 33) (≡-test (isCount sum count) e)) in
-    omega (arith, odd)
-
 module _ {numbers : List ℤ} {count : ℕ} {values : List ℤ} where
   pub sum-asked : (a : ValuesAsked sum numbers count values) → SumAsked numbers count values (knownCount (a .kept))
-  unfolding isField gadget byWord sumLine namesOf
+  unfolding isField gadget byWord sumLine namesOf wordOf
   sum-asked a =
       let l = a .kept in
       let ns : List ℤ = take count numbers in
       record {
-        some-number = odd-count count (l .counted);
+        some-number = omega (arith, sum-count {v = Sum} refl count (l .counted));
         all-numbers = omega (arith, l .few, l .numbers-long);
         all-values = omega (arith, values-most l, a .values-long);
         named = l .keeps .names-made;
