@@ -17,13 +17,11 @@ use number::residue::difference;
 use number::residue::remainder_of;
 use number::whole::within;
 ghost use mathlib.Core.Path.{_≡_};
-ghost use mathlib.Core.List.{_++_};
 ghost use Prim.Native.Nat.{ℕ, _^_, _≤_, _<_, _+_};
 ghost use lib.IntN.{ℤ};
-ghost use lib.ListN.{length, drop};
+ghost use lib.ListN.{length};
 ghost use Rattle.meaning.specs.Line.{span};
 ghost use Rattle.meaning.specs.Number.{between};
-ghost use Rattle.meaning.specs.Gadget.Digits.{groupCells};
 ghost use Rattle.meaning.specs.Gadget.Span.{spanTop, spanLine};
 ghost use Rattle.number.specs.Bounded.{Bounded};
 ghost use Rattle.algebra.specs.Digits.{Below};
@@ -41,13 +39,6 @@ pub fn span_works(v: i64, c: u64, shift: i64) -> bool
 {
     let top = shift + (c - 1) as i64;
     within(Whole(shift), Whole(v), Whole(top))
-}
-
-pub fn span_cells(out: &mut [u32], v: i64, b: u32, k: usize, shift: i64)
-    requires { ⌜ (0 < b) × (k ≤ length (now out)) × Bounded (2 ^ 30) v × Bounded (2 ^ 31) shift ⌝ }
-    ensures { λ _. ⌜ now (out .exit) ≡ groupCells b k v shift ++ drop k (now (out .entry)) ⌝ }
-{
-    form_cells(out, v, shift, b, k);
 }
 
 // ---- the line
@@ -78,7 +69,7 @@ pub fn span_line_cells(numbers: &[i64], values: &[i64], part: &mut [u32])
     let b = base_at(numbers, 1);
     let k = size_at(numbers, 2);
     let shift = numbers[3];
-    span_cells(part, v, b, k, shift);
+    form_cells(part, v, shift, b, k);
 }
 
 // ---- rows

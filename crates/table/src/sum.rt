@@ -15,11 +15,10 @@ use number::residue::product;
 use number::residue::remainder_of;
 use number::residue::sum;
 ghost use mathlib.Core.Path.{_≡_};
-ghost use mathlib.Core.List.{List, _∷_};
+ghost use mathlib.Core.List.{List};
 ghost use Prim.Native.Nat.{_<_, ℕ, _%_, _≤_};
 ghost use lib.IntN.{ℤ};
-ghost use lib.ListN.{length, take, drop};
-ghost use Rattle.meaning.specs.Number.{remainder};
+ghost use lib.ListN.{length, take};
 ghost use Rattle.table.specs.Cells.{sumOf, SumAsked};
 ghost use Rattle.table.specs.LineValues.{ValuesAsked, WorkTold, CellsAsked, CellsTold};
 ghost use Rattle.algebra.specs.Digits.{Below};
@@ -47,13 +46,6 @@ pub fn sum_works(numbers: &[i64], count: usize, values: &[i64]) -> i64
     total
 }
 
-pub fn sum_cells(out: &mut [u32], p: u32, x: i64)
-    requires { ⌜ (0 < p) × (0 < length (now out)) ⌝ }
-    ensures { λ _. ⌜ now (out .exit) ≡ remainder p x ∷ drop 1 (now (out .entry)) ⌝ }
-{
-    value_cell(out, p, x);
-}
-
 // ---- the line
 
 pub fn sum_line_works(numbers: &[i64], count: usize, values: &[i64]) -> Worked
@@ -69,7 +61,7 @@ pub fn sum_line_cells(p: u32, values: &[i64], known: usize, part: &mut [u32])
     ensures { λ _. ⌜ ((numbers : List ℤ) (count : ℕ)
         → CellsTold p sum numbers count (now (values .entry)) known (now (part .entry)) (now (part .exit))) ⌝ }
 {
-    sum_cells(part, p, values[known]);
+    value_cell(part, p, values[known]);
 }
 
 // ---- rows
