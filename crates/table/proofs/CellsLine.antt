@@ -27,10 +27,10 @@ use Rattle.meaning.proofs.Number.{OddPrime}
 use Rattle.table.specs.Cells.{maxCells, rootCells, sumOf}
 use Rattle.table.specs.Line.{KeptLine, gadgetOf, knownCount}
 use Rattle.table.specs.LineValues.{CellsAsked, CellsTold}
-use Rattle.table.proofs.LineNumbers.{NameAt, prime-is, made-fit}
+use Rattle.table.proofs.LineNumbers.{size, NameAt, prime-is, made-fit}
 use Rattle.table.proofs.LineKinds.{OneWord, one-name, one-is, TwoWord, two-first, two-second, two-is}
 use Rattle.table.proofs.LineKinds.{span-word, relu-word, which-word, max-word, root-word}
-use Rattle.table.proofs.LineValues.{size, named, value-named}
+use Rattle.table.proofs.LineValues.{named, value-named}
 
 module _ {p : ℕ} {w : Word} {numbers : List ℤ} {count : ℕ} {values : List ℤ} {known : ℕ} {part : List ℕ}
     (a : CellsAsked p w numbers count values known part) where

@@ -37,6 +37,10 @@ use Rattle.reader.proofs.Sizes.{digits-given}
 use Rattle.reader.proofs.Steps.{not-below}
 use Rattle.table.specs.Line.{KeptLine, gadgetOf, knownCount}
 
+-- the size of the number at a place: a name, a base or a digit count, where the number is not negative
+abbrev pub size : (numbers : List ℤ) (i : ℕ) → ℕ
+size numbers i = natAbs (getD numbers i (pos 0))
+
 -- ---- names
 
 pub made-is : (n : ℕ) (v : ℤ) → T (isMade n v) → (pos 0 ≤ℤ v) × (natAbs v < n)
@@ -47,8 +51,8 @@ made-is n v t = (not-below v (left (nonNeg v) (ltb (natAbs v) n) t), made-name n
 pub record NameAt (n : ℕ) (numbers : List ℤ) (i : ℕ) : Type 0 where
   pub inside : i < length numbers
   pub natural : pos 0 ≤ℤ getD numbers i (pos 0)
-  pub below : natAbs (getD numbers i (pos 0)) < n
-  pub most : natAbs (getD numbers i (pos 0)) < 256
+  pub below : size numbers i < n
+  pub most : size numbers i < 256
 
 -- ---- bases and digit counts
 
@@ -56,13 +60,13 @@ pub record NameAt (n : ℕ) (numbers : List ℤ) (i : ℕ) : Type 0 where
 pub record DigitsFrom (numbers : List ℤ) (i : ℕ) : Type 0 where
   pub base-inside : i < length numbers
   pub base-natural : pos 0 ≤ℤ getD numbers i (pos 0)
-  pub base-two : 2 ≤ natAbs (getD numbers i (pos 0))
-  pub base-most : natAbs (getD numbers i (pos 0)) ≤ greatest
+  pub base-two : 2 ≤ size numbers i
+  pub base-most : size numbers i ≤ greatest
   pub count-inside : suc i < length numbers
   pub count-natural : pos 0 ≤ℤ getD numbers (suc i) (pos 0)
-  pub count-one : 1 ≤ natAbs (getD numbers (suc i) (pos 0))
-  pub count-most : natAbs (getD numbers (suc i) (pos 0)) ≤ 31
-  pub power-most : natAbs (getD numbers i (pos 0)) ^ natAbs (getD numbers (suc i) (pos 0)) ≤ greatest
+  pub count-one : 1 ≤ size numbers (suc i)
+  pub count-most : size numbers (suc i) ≤ 31
+  pub power-most : size numbers i ^ size numbers (suc i) ≤ greatest
 
 -- c = b ^ k is at most m, for each base and digit count of a line
 unfoldable Powers : ℕ → List Digits → Type 0
@@ -112,7 +116,7 @@ module _ {w : Word} {numbers : List ℤ} {count : ℕ} (l : KeptLine w numbers c
   unfolding numberAt
   number-is i h = getD-take count numbers i (pos 0) h
 
-  pub size-is : (i : ℕ) → i < count → sizeAt (take count numbers) i ≡ natAbs (getD numbers i (pos 0))
+  pub size-is : (i : ℕ) → i < count → sizeAt (take count numbers) i ≡ size numbers i
   unfolding sizeAt
   size-is i h = ap natAbs (number-is i h)
 
@@ -181,7 +185,7 @@ module _ {w : Word} {numbers : List ℤ} {count : ℕ} (l : KeptLine w numbers c
         let base = number-is i (omega arith) in
         let digits = number-is (suc i) inside in
         let a : Allowed (getD numbers i (pos 0)) (getD numbers (suc i) (pos 0)) = rw (base, digits) at allowed in
-        let c : natAbs (getD numbers i (pos 0)) ^ natAbs (getD numbers (suc i) (pos 0)) ≤ l .state .p = rw (base, digits) at power in
+        let c : size numbers i ^ size numbers (suc i) ≤ l .state .p = rw (base, digits) at power in
         record {
           base-inside = omega (arith, l .numbers-long, l .few, inside);
           base-natural = not-below (getD numbers i (pos 0)) (a .base-counts);

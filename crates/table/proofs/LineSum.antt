@@ -6,7 +6,7 @@ use mathlib.Core.List.{List, [], _∷_}
 use Prim.Native.Nat.{ℕ, zero, suc, _+_, _%_, _≤_, _<_}
 use native.Mathlib.Omega.{arith}
 use lib.Dec.{T}
-use lib.IntN.{ℤ, pos, natAbs}
+use lib.IntN.{ℤ, pos}
 use lib.ListN.{length, getD, take, drop, length-drop}
 use lib.Seq.{getD-take, drop-cons, length-take-le}
 use lib.Signed.{_≤ℤ_}
@@ -14,7 +14,7 @@ use Rattle.algebra.proofs.Test.{left, right}
 use Rattle.meaning.specs.Line.{sum, withoutFirst, alternate, namesOf}
 use Rattle.meaning.specs.Refusal.{all, isMade}
 use Rattle.meaning.specs.Gadget.Sum.{termsOf}
-use Rattle.table.proofs.LineNumbers.{made-is}
+use Rattle.table.proofs.LineNumbers.{size, made-is}
 
 pub without-first : (ns : List ℤ) → withoutFirst ns ≡ drop 1 ns
 unfolding withoutFirst
@@ -58,7 +58,7 @@ module _ (numbers : List ℤ) (count : ℕ) (all-numbers : count ≤ length numb
   long = length-take-le count numbers all-numbers
 
   pub name-made : (n i : ℕ) → T (all (isMade n) (namesOf sum (take count numbers))) → 0 < i → i < count → i % 2 ≡ 0
-      → (pos 0 ≤ℤ getD numbers i (pos 0)) × (natAbs (getD numbers i (pos 0)) < n)
+      → (pos 0 ≤ℤ getD numbers i (pos 0)) × (size numbers i < n)
   unfolding namesOf
   name-made n i named h k e =
       let made = named-at (isMade n) i (take count numbers) h (omega (arith, long)) e named in

@@ -6,7 +6,7 @@ use mathlib.Core.List.{List}
 use Prim.Native.Nat.{ℕ, suc, _^_, _≤_, _<_}
 use native.Mathlib.Omega.{arith}
 use native.Mathlib.Nat.{one-le-pow}
-use lib.IntN.{ℤ, pos, natAbs}
+use lib.IntN.{ℤ, pos}
 use lib.ListN.{length, getD, take}
 use lib.Seq.{getD-take}
 use lib.Signed.{_≤ℤ_}
@@ -18,14 +18,11 @@ use Rattle.reader.specs.State.{greatest}
 use Rattle.table.specs.Cells.{GroupOf}
 use Rattle.table.specs.Line.{knownCount}
 use Rattle.table.specs.LineValues.{ValuesAsked}
-use Rattle.table.proofs.LineNumbers.{NameAt, DigitsFrom, value-bounded}
+use Rattle.table.proofs.LineNumbers.{size, NameAt, DigitsFrom, value-bounded}
 
 -- ---- values
 
--- the size of the number at a place, and the value that it names
-abbrev pub size : (numbers : List ℤ) (i : ℕ) → ℕ
-size numbers i = natAbs (getD numbers i (pos 0))
-
+-- the value that the number at a place names
 abbrev pub named : (numbers : List ℤ) (i : ℕ) (values : List ℤ) → ℤ
 named numbers i values = getD values (size numbers i) (pos 0)
 

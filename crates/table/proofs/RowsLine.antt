@@ -6,7 +6,7 @@ use mathlib.Core.List.{List, []}
 use mathlib.Core.Option.{Option}
 use Prim.Native.Nat.{ℕ, _+_, _≤_, _<_}
 use native.Mathlib.Omega.{arith}
-use lib.IntN.{ℤ, pos, natAbs}
+use lib.IntN.{ℤ, pos}
 use lib.ListN.{length, getD, take}
 use lib.Seq.{getD-take}
 use lib.Signed.{_≤ℤ_}
@@ -21,7 +21,7 @@ use Rattle.table.specs.Rows.{rowsSeen}
 use Rattle.table.specs.Line.{gadgetOf, knownCount}
 use Rattle.table.specs.LineRows.{RowsAsked, RowsTold}
 use Rattle.table.specs.declared.rows.Rows.the-variants.{AllHold}
-use Rattle.table.proofs.LineNumbers.{NameAt, prime-is}
+use Rattle.table.proofs.LineNumbers.{size, NameAt, prime-is}
 use Rattle.table.proofs.LineKinds.{OneWord, one-name, one-is, TwoWord, two-first, two-second, two-is}
 
 -- a line that has no row
@@ -39,45 +39,45 @@ module _ {p : ℕ} {w : Word} {numbers : List ℤ} {count : ℕ} {table : List �
 
   -- the value that the number at place i names
   module _ (i : ℕ) (name : NameAt (knownCount (a .kept)) numbers i) where
-    pub name-asked : (i < length numbers) × (pos 0 ≤ℤ getD numbers i (pos 0)) × (natAbs (getD numbers i (pos 0)) < length places)
+    pub name-asked : (i < length numbers) × (pos 0 ≤ℤ getD numbers i (pos 0)) × (size numbers i < length places)
     name-asked = (name .inside, name .natural, omega (arith, name .most, a .places-long))
 
-    pub name-inside : {place : ℕ} → place ≡ getD places (natAbs (getD numbers i (pos 0))) 0 → place < length table
-    name-inside e = rw e (a .inside (natAbs (getD numbers i (pos 0))) (name .below))
+    pub name-inside : {place : ℕ} → place ≡ getD places (size numbers i) 0 → place < length table
+    name-inside e = rw e (a .inside (size numbers i) (name .below))
 
-    name-placed : {place : ℕ} → place ≡ getD places (natAbs (getD numbers i (pos 0))) 0
-        → placeOf (a .kept .state) (natAbs (getD numbers i (pos 0))) ≡ place
+    name-placed : {place : ℕ} → place ≡ getD places (size numbers i) 0
+        → placeOf (a .kept .state) (size numbers i) ≡ place
     unfolding placeOf
-    name-placed e = rw (a .places-are) (getD-take (knownCount (a .kept)) places (natAbs (getD numbers i (pos 0))) 0 (name .below) ∙ sym e)
+    name-placed e = rw (a .places-are) (getD-take (knownCount (a .kept)) places (size numbers i) 0 (name .below) ∙ sym e)
 
   -- ---- a line that names one value
 
   module _ {line : Known → (v b k : ℕ) → Gadget} (word : OneWord w numbers count line)
-      {b k : ℕ} (b-is : b ≡ natAbs (getD numbers 1 (pos 0))) (k-is : k ≡ natAbs (getD numbers 2 (pos 0))) where
-    pub one-room : cells + line (a .kept .state) (natAbs (getD numbers 0 (pos 0))) b k .width ≤ length table
+      {b k : ℕ} (b-is : b ≡ size numbers 1) (k-is : k ≡ size numbers 2) where
+    pub one-room : cells + line (a .kept .state) (size numbers 0) b k .width ≤ length table
     one-room = subst (λ (g : Gadget). cells + g .width ≤ length table) (one-is (a .kept) word b-is k-is) (a .room)
 
-    pub one-told : {place : ℕ} {seen : Option ℕ} → place ≡ getD places (natAbs (getD numbers 0 (pos 0))) 0
+    pub one-told : {place : ℕ} {seen : Option ℕ} → place ≡ getD places (size numbers 0) 0
         → ((s : Known) (v : ℕ) → s .p ≡ p → placeOf s v ≡ place → s .cells ≡ cells → seen ≡ firstFail (holds p table) 0 (line s v b k .rows))
         → seen ≡ firstFail (holds p table) 0 (gadgetOf (a .kept) .rows)
     one-told place-is told =
-        told (a .kept .state) (natAbs (getD numbers 0 (pos 0))) (a .prime (word .has-digits .late))
+        told (a .kept .state) (size numbers 0) (a .prime (word .has-digits .late))
         (name-placed 0 (one-name (a .kept) word) place-is) (a .cells-are)
         ∙ ap (λ (g : Gadget). firstFail (holds p table) 0 (g .rows)) (sym (one-is (a .kept) word b-is k-is))
 
   -- ---- a line that names two
 
   module _ {line : Known → (u v b k : ℕ) → Gadget} (word : TwoWord w numbers count line)
-      {b k : ℕ} (b-is : b ≡ natAbs (getD numbers 2 (pos 0))) (k-is : k ≡ natAbs (getD numbers 3 (pos 0))) where
-    pub two-room : cells + line (a .kept .state) (natAbs (getD numbers 0 (pos 0))) (natAbs (getD numbers 1 (pos 0))) b k .width ≤ length table
+      {b k : ℕ} (b-is : b ≡ size numbers 2) (k-is : k ≡ size numbers 3) where
+    pub two-room : cells + line (a .kept .state) (size numbers 0) (size numbers 1) b k .width ≤ length table
     two-room = subst (λ (g : Gadget). cells + g .width ≤ length table) (two-is (a .kept) word b-is k-is) (a .room)
 
     pub two-told : {place-u place-v : ℕ} {seen : Option ℕ}
-        → place-u ≡ getD places (natAbs (getD numbers 0 (pos 0))) 0 → place-v ≡ getD places (natAbs (getD numbers 1 (pos 0))) 0
+        → place-u ≡ getD places (size numbers 0) 0 → place-v ≡ getD places (size numbers 1) 0
         → ((s : Known) (u v : ℕ) → s .p ≡ p → placeOf s u ≡ place-u → placeOf s v ≡ place-v → s .cells ≡ cells
         → seen ≡ firstFail (holds p table) 0 (line s u v b k .rows))
         → seen ≡ firstFail (holds p table) 0 (gadgetOf (a .kept) .rows)
     two-told u-is v-is told =
-        told (a .kept .state) (natAbs (getD numbers 0 (pos 0))) (natAbs (getD numbers 1 (pos 0))) (a .prime (word .has-digits .late))
+        told (a .kept .state) (size numbers 0) (size numbers 1) (a .prime (word .has-digits .late))
         (name-placed 0 (two-first (a .kept) word) u-is) (name-placed 1 (two-second (a .kept) word) v-is) (a .cells-are)
         ∙ ap (λ (g : Gadget). firstFail (holds p table) 0 (g .rows)) (sym (two-is (a .kept) word b-is k-is))

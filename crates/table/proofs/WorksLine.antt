@@ -35,10 +35,10 @@ use Rattle.table.specs.Cells.{workedSeen, sumOf, SumAsked}
 use Rattle.table.specs.LineValues.{ValuesAsked, WorkTold}
 use Rattle.table.specs.declared.value.Worked.{Worked}
 use Rattle.table.specs.declared.value.Worked.the-variants.{Value, NoValue}
-use Rattle.table.proofs.LineNumbers.{values-most, half-most}
+use Rattle.table.proofs.LineNumbers.{size, values-most, half-most}
 use Rattle.table.proofs.LineKinds.{span-word, relu-word, which-word, max-word, root-word}
 use Rattle.table.proofs.LineKinds.{OneWord, one-name, one-is, TwoWord, two-first, two-second, two-is}
-use Rattle.table.proofs.LineValues.{size, named, value-named}
+use Rattle.table.proofs.LineValues.{named, value-named}
 use Rattle.table.proofs.WorksSumFits.{sum-small}
 
 -- ---- one value, and a digit group
