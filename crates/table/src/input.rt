@@ -1,4 +1,4 @@
-// A line `in`: its value is the next input, and its one cell is that of the value.
+// A line `in`: its value is the next input. Its one cell is that of the value, and it has no row.
 use super::value::Worked;
 use super::value::value_cell;
 ghost use mathlib.Core.List.{List};
@@ -6,11 +6,15 @@ ghost use lib.IntN.{ℤ};
 ghost use Rattle.meaning.specs.Line.{input};
 ghost use Rattle.table.specs.LineValues.{WorkTold, CellsAsked, CellsTold};
 
+// ---- working
+
 pub fn input_line_works(next: i64) -> Worked
     ensures { λ r. ⌜ ((numbers values : List ℤ) → WorkTold input numbers 0 values next r) ⌝ }
 {
     Worked::Value(next)
 }
+
+// ---- cells
 
 // The input stands in values, as the line's value.
 pub fn input_line_cells(p: u32, values: &[i64], known: usize, part: &mut [u32])
