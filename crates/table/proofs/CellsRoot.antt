@@ -16,7 +16,7 @@ use Rattle.meaning.proofs.Group.{length-group}
 use Rattle.number.specs.Bounded.{Bounded}
 use Rattle.number.proofs.Bounded.{bounded-more, bounded-sum, bounded-difference, bounded-product, bounded-fits}
 use Rattle.table.specs.Cells.{restCells, rootCells}
-use Rattle.table.proofs.WorksWhole.{pos-bounded}
+use Rattle.table.proofs.Whole.{pos-bounded}
 
 -- a root is as small as the value that it is of
 pub root-bounded : {bound : ℕ} {v : ℤ} → Bounded bound v → Bounded bound (rootValue v)

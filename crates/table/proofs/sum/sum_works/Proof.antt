@@ -11,7 +11,7 @@ use borrow.Author.Needs.{needs}
 use Rattle.number.proofs.Word.{back}
 use Rattle.number.proofs.Bounded.{bounded-fits}
 use Rattle.table.specs.Cells.{SumAsked}
-use Rattle.table.proofs.WorksWhole.{cast-fits}
+use Rattle.table.proofs.Whole.{cast-fits}
 use Rattle.table.proofs.WorksSum.{Summing, Turn, term, summing-start, summing-turn, summing-end}
 use Rattle.table.proofs.sum.sum_works.Statement.{statement}
 use Rattle.table.proofs.sum.sum_works.Tie as tie
