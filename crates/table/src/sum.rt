@@ -6,6 +6,7 @@ use super::rows::residue_at;
 use super::rows::row_before;
 use super::value::Worked;
 use super::value::value_cell;
+use super::value::value_named;
 use number::Cell;
 use number::Residue;
 use number::Whole;
@@ -39,8 +40,8 @@ fn sum_works(numbers: &[i64], count: usize, values: &[i64]) -> i64
     let mut total = numbers[0];
     let mut i: usize = 1;
     while i < count - 1 {
-        let at = numbers[i + 1] as usize;
-        total += numbers[i] * values[at];
+        let value = value_named(numbers, i + 1, values);
+        total += numbers[i] * value;
         i += 2;
     }
     total
