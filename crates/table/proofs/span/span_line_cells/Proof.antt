@@ -9,7 +9,7 @@ use mir.Val.{SFits, toZ, ofZ}
 use Rattle.meaning.specs.Gadget.Span.{spanLine}
 use Rattle.number.proofs.Word.{back}
 use Rattle.number.proofs.Bounded.{bounded-more}
-use Rattle.table.proofs.LineKinds.{span-word, base-asked, count-asked, word-digits, one-name}
+use Rattle.table.proofs.LineKinds.{span-word, base-asked, count-asked, one-name}
 use Rattle.table.proofs.LineValues.{named, value-asked, named-bounded, group-read}
 use Rattle.table.proofs.WorksLine.{span-shift}
 use Rattle.table.proofs.CellsLine.{one-room, span-cells-told}
@@ -48,7 +48,7 @@ form-cells-requires c κs =
     let a = s .pre .2 in
     let word = span-word (s .args .numbers .now) in
     let late = word .has-digits .late in (
-      omega (arith, group-read (word-digits (a .asked .kept) 1 (word .has-digits)) (base .base-at .ensures) (digits .size-at .ensures) refl .base),
+      omega (arith, group-read (a .asked .kept) 1 (word .has-digits) (base .base-at .ensures) (digits .size-at .ensures) refl .base),
       one-room a word (base .base-at .ensures) (digits .size-at .ensures),
       rw (value (base .before)) (bounded-more (named-bounded (a .asked) (one-name (a .asked .kept) word) late) (lit≤ tt)),
       rw (shift (c .before)) (bounded-more (span-shift (a .asked .kept)) (lit≤ tt)),
