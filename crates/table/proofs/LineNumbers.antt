@@ -3,20 +3,20 @@
 use mathlib.Core.Path.{_≡_, ap}
 use mathlib.Core.Bool.{Bool, true, false, _&&_}
 use mathlib.Core.List.{List, [], _∷_}
-use Prim.Native.Nat.{ℕ, suc, _+_, _-_, _*_, _^_, _≤_, _<_}
+use Prim.Native.Nat.{ℕ, suc, _+_, _*_, _^_, _≤_, _<_}
 use native.Mathlib.Omega.{arith}
 use native.Mathlib.Nat.{mul-le-mul-right, one-mul}
 use lib.Dec.{T, leb, ltb, leb→le}
-use lib.IntN.{ℤ, pos, natAbs, _+ℤ_, _-ℤ_}
+use lib.IntN.{ℤ, pos, natAbs}
 use lib.ListN.{length, getD, take}
 use lib.Seq.{getD-take}
-use lib.Signed.{_≤ℤ_, leZ, nonNeg}
+use lib.Signed.{_≤ℤ_, nonNeg}
 use Rattle.algebra.proofs.Test.{left, right, test-≡}
 use Rattle.algebra.proofs.Integer.Linear.{linear}
 use Rattle.meaning.specs.Number.{half, lowest, highest}
 use Rattle.meaning.specs.Line.{Word, field, input, span, sum, relu, which, max, root, numberAt, sizeAt}
 use Rattle.meaning.specs.Line.{namesOf, Digits, digitsAt, digitsOf}
-use Rattle.meaning.specs.Known.{Known, Ends, endsOf, apart, above, digitRule}
+use Rattle.meaning.specs.Known.{Known, endsOf, apart, above, digitRule}
 use Rattle.meaning.specs.Gadget.Digits.{valueAt}
 use Rattle.meaning.specs.Gadget.Sign.{signShift}
 use Rattle.meaning.specs.Gadget.Span.{spanLine}
@@ -28,6 +28,7 @@ use Rattle.meaning.specs.Meaning.{byWord, gadget}
 use Rattle.meaning.specs.Refusal.{valueLimit, all, isField, isMade, isDigits}
 use Rattle.meaning.proofs.Number.{OddPrime}
 use Rattle.meaning.proofs.Lines.{made-name, after-field}
+use Rattle.meaning.proofs.Group.{rule-power}
 use Rattle.meaning.proofs.Law.{Within, low-end, high-end, low-ranged, high-ranged}
 use Rattle.number.specs.Bounded.{Bounded}
 use Rattle.number.proofs.Bounded.{bounded-more, bounded-range}
@@ -73,13 +74,6 @@ unfoldable Powers : ℕ → List Digits → Type 0
 Powers m [] = Unit {0}
 Powers m (d ∷ ds) = (natAbs (d .b) ^ natAbs (d .k) ≤ m) × Powers m ds
 
-power-ruled : (p b k : ℕ) (es : Ends) (L : ℤ) → T (digitRule p b k es L) → b ^ k ≤ p
-unfolding digitRule
-power-ruled p b k es L t =
-    let high : Bool = leZ (es .F -ℤ L) (pos (p - 1)) in
-    let low : Bool = leZ (L +ℤ pos (b ^ k - 1) -ℤ es .E) (pos (p - 1)) in
-    leb→le (b ^ k) p (left (leb (b ^ k) p) high (left (leb (b ^ k) p && high) low t))
-
 power-rooted : (p c : ℕ) → 3 ≤ p → T (leb 3 c && leb (c * c) (half p + 1)) → c ≤ p
 unfolding half
 power-rooted p c h t =
@@ -92,18 +86,18 @@ powers-ruled : (w : Word) (s : Known) (ns : List ℤ) → 3 ≤ s .p → T (byWo
 unfolding Powers digitsOf digitsAt byWord spanLine reluLine whichLine maxLine rootLine sizeAt
 powers-ruled field s ns h t = tt
 powers-ruled input s ns h t = tt
-powers-ruled span s ns h t = (power-ruled (s .p) (sizeAt ns 1) (sizeAt ns 2) (endsOf s (sizeAt ns 0)) (numberAt ns 3) t, tt)
+powers-ruled span s ns h t = (rule-power (s .p) (sizeAt ns 1) (sizeAt ns 2) (endsOf s (sizeAt ns 0)) (numberAt ns 3) t, tt)
 powers-ruled sum s ns h t = tt
-powers-ruled relu s ns h t = (power-ruled (s .p) (sizeAt ns 1) (sizeAt ns 2) (endsOf s (sizeAt ns 0)) (signShift (sizeAt ns 1) (sizeAt ns 2)) t, tt)
+powers-ruled relu s ns h t = (rule-power (s .p) (sizeAt ns 1) (sizeAt ns 2) (endsOf s (sizeAt ns 0)) (signShift (sizeAt ns 1) (sizeAt ns 2)) t, tt)
 powers-ruled which s ns h t =
     let es = apart (endsOf s (sizeAt ns 0)) (endsOf s (sizeAt ns 1)) in
-    (power-ruled (s .p) (sizeAt ns 2) (sizeAt ns 3) es (signShift (sizeAt ns 2) (sizeAt ns 3)) t, tt)
+    (rule-power (s .p) (sizeAt ns 2) (sizeAt ns 3) es (signShift (sizeAt ns 2) (sizeAt ns 3)) t, tt)
 powers-ruled max s ns h t =
     let es = above (endsOf s (sizeAt ns 0)) (endsOf s (sizeAt ns 1)) in
     let fs = above (endsOf s (sizeAt ns 1)) (endsOf s (sizeAt ns 0)) in
     let b : ℕ = sizeAt ns 2 in
     let k : ℕ = sizeAt ns 3 in
-    (power-ruled (s .p) b k es (pos 0) (left (digitRule (s .p) b k es (pos 0)) (digitRule (s .p) b k fs (pos 0)) t), tt)
+    (rule-power (s .p) b k es (pos 0) (left (digitRule (s .p) b k es (pos 0)) (digitRule (s .p) b k fs (pos 0)) t), tt)
 powers-ruled root s ns h t = (power-rooted (s .p) (sizeAt ns 1 ^ sizeAt ns 2) h t, tt)
 
 -- ---- the line
