@@ -1,6 +1,6 @@
--- The numbers of a line `sum c0 c1 v1 c2 v2 ..`, as a loop over its terms takes them: the pair at a place, that the numbers at the even
--- places after c0 name values, and that there are no more terms at the end.
-use mathlib.Core.Path.{_≡_, refl, ap, ap₂, _∙_}
+-- The numbers of a line `sum c0 c1 v1 c2 v2 ..`, as a loop over its terms takes them: that those at the even places after c0 name values,
+-- and that there are no more terms at the end.
+use mathlib.Core.Path.{_≡_, refl}
 use mathlib.Core.Bool.{Bool, true}
 use mathlib.Core.List.{List, [], _∷_}
 use Prim.Native.Nat.{ℕ, zero, suc, _+_, _%_, _≤_, _<_}
@@ -8,18 +8,13 @@ use native.Mathlib.Omega.{arith}
 use lib.Dec.{T}
 use lib.IntN.{ℤ, pos}
 use lib.ListN.{length, getD, take, drop, length-drop}
-use lib.Seq.{getD-take, drop-cons, length-take-le}
+use lib.Seq.{getD-take, length-take-le}
 use lib.Signed.{_≤ℤ_}
 use Rattle.algebra.proofs.Test.{left, right}
 use Rattle.meaning.specs.Line.{sum, withoutFirst, alternate, namesOf}
 use Rattle.meaning.specs.Refusal.{all, isMade}
 use Rattle.meaning.specs.Gadget.Sum.{termsOf}
 use Rattle.table.proofs.LineNumbers.{size, made-is}
-
-pub without-first : (ns : List ℤ) → withoutFirst ns ≡ drop 1 ns
-unfolding withoutFirst
-without-first [] = refl
-without-first (n ∷ ns) = refl
 
 -- ---- names
 
@@ -63,24 +58,6 @@ module _ (numbers : List ℤ) (count : ℕ) (all-numbers : count ≤ length numb
   name-made n i named h k e =
       let made = named-at (isMade n) i (take count numbers) h (omega (arith, long)) e named in
       made-is n (getD numbers i (pos 0)) (rw (getD-take count numbers i (pos 0) k) at made)
-
-  pub pair-at : (i : ℕ) → i + 1 < count
-      → drop i (take count numbers) ≡ getD numbers i (pos 0) ∷ (getD numbers (i + 1) (pos 0) ∷ drop (i + 2) (take count numbers))
-  pair-at i h =
-      drop-cons ns i (pos 0) (omega (arith, long)) ∙ ap₂ (λ (y : ℤ) (l : List ℤ). y ∷ l)
-      (getD-take count numbers i (pos 0) (omega arith))
-      (drop-cons ns (suc i) (pos 0) (omega (arith, long)) ∙ ap₂ (λ (y : ℤ) (l : List ℤ). y ∷ l)
-      (getD-take count numbers (suc i) (pos 0) (omega arith) ∙ ap (λ (j : ℕ). getD numbers j (pos 0)) one)
-      (ap (λ (j : ℕ). drop j ns) two))
-    where
-      ns : List ℤ
-      ns = take count numbers
-
-      one : suc i ≡ i + 1
-      one = omega arith
-
-      two : suc (suc i) ≡ i + 2
-      two = omega arith
 
   pub terms-end : (i : ℕ) → count ≤ i + 1 → termsOf (drop i (take count numbers)) ≡ []
   terms-end i h = short-terms (drop i (take count numbers)) (omega (arith, length-drop i (take count numbers), long))

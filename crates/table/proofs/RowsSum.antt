@@ -21,11 +21,12 @@ use Rattle.meaning.specs.Meaning.{byWord, gadget}
 use Rattle.meaning.specs.Refusal.{isField}
 use Rattle.text.specs.Word.{wordOf}
 use Rattle.reader.proofs.Steps.{sum-count}
+use Rattle.reader.proofs.SumLine.{without-drop, terms-at}
 use Rattle.table.specs.Line.{KeptLine, gadgetOf, knownCount}
 use Rattle.table.specs.LineRows.{RowsAsked}
 use Rattle.table.specs.Rows.{Leaves, NamesBelow, PlacesInside}
 use Rattle.table.proofs.LineNumbers.{values-most}
-use Rattle.table.proofs.LineSum.{without-first, name-made, pair-at, terms-end}
+use Rattle.table.proofs.LineSum.{name-made, terms-end}
 use Rattle.table.proofs.RowsLine.{p-three}
 use Rattle.table.proofs.RowsFirst.{first-none, first-row}
 use Rattle.table.proofs.RowsForm.{leaves-whole, leaves-⊕, leaves-⊗, row-test}
@@ -48,7 +49,7 @@ module _ (p : ℕ) (t : List ℕ) (ns : List ℤ) (count : ℕ) (places : List �
   sum-start total h l e s n _ _ = record {
     form = constant (getD ns 0 (pos 0));
     leaves = leaves-whole p t (getD ns 0 (pos 0)) h e;
-    same = rw (without-first (take count ns), getD-take count ns 0 (pos 0) l) refl;
+    same = rw (without-drop (take count ns) 0, getD-take count ns 0 (pos 0) l) refl;
   }
 
   pub sum-next : {total factor part next place found : ℕ} (i : ℕ) → 0 < p → count ≤ length ns → SoFar total i → i + 1 < count → i % 2 ≡ 1
@@ -56,7 +57,7 @@ module _ (p : ℕ) (t : List ℕ) (ns : List ℤ) (count : ℕ) (places : List �
       → Leaves p t found (cell place)
       → (part < p) × (part ≡ remainder p (pos factor *ℤ pos found)) → (next < p) × (next ≡ remainder p (pos total +ℤ pos part))
       → SoFar next (i + 2)
-  unfolding termsOf sumForm placeOf
+  unfolding sumForm placeOf
   sum-next {total} {factor} {part} {next} {place} {found} i h r before l o factor-is place-is cell-is part-is next-is s n known named =
       let b = before s n known named in
       let coefficient = getD ns i (pos 0) in
@@ -66,7 +67,7 @@ module _ (p : ℕ) (t : List ℕ) (ns : List ℤ) (count : ℕ) (places : List �
       record {
         form = b .form ⊕ constant coefficient ⊗ cell place;
         leaves = leaves-⊕ (b .leaves) (leaves-⊗ (leaves-whole p t coefficient h factor-is) cell-is part-is) next-is;
-        same = b .same ∙ rw (pair-at ns count r i l)
+        same = b .same ∙ rw (terms-at ns count i r l)
             (ap (λ (q : ℕ). sumForm s (b .form ⊕ constant coefficient ⊗ cell q) (termsOf (drop (i + 2) (take count ns)))) e);
       }
 

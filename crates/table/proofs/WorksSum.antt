@@ -15,8 +15,9 @@ use Rattle.meaning.specs.Gadget.Digits.{valueAt}
 use Rattle.meaning.specs.Gadget.Sum.{Term, termsOf, sumValue}
 use Rattle.number.specs.Bounded.{Bounded}
 use Rattle.number.proofs.Bounded.{bounded-difference}
+use Rattle.reader.proofs.SumLine.{without-drop, terms-at}
 use Rattle.table.specs.Cells.{sumOf, SumSmall, SumAsked}
-use Rattle.table.proofs.LineSum.{without-first, name-made, pair-at, terms-end}
+use Rattle.table.proofs.LineSum.{name-made, terms-end}
 
 -- x is the sum up to place i
 pub record Summing (numbers : List ℤ) (count : ℕ) (values : List ℤ) (n i : ℕ) (x : ℤ) : Type 0 where
@@ -42,15 +43,6 @@ unfolding SumSmall
 small-now vs x [] s = s
 small-now vs x (t ∷ ts) s = s .0
 
-module _ (vs : List ℤ) (x c v : ℤ) (rest : List ℤ) where
-  small-later : SumSmall vs x (termsOf (c ∷ (v ∷ rest))) → SumSmall vs (x +ℤ c *ℤ valueAt vs (natAbs v)) (termsOf rest)
-  unfolding SumSmall termsOf
-  small-later s = s .1
-
-  value-later : sumValue vs (x +ℤ c *ℤ valueAt vs (natAbs v)) (termsOf rest) ≡ sumValue vs x (termsOf (c ∷ (v ∷ rest)))
-  unfolding sumValue termsOf
-  value-later = refl
-
 step-bounded : (x t : ℤ) → Bounded (2 ^ 30) x → Bounded (2 ^ 30) (x +ℤ t) → Bounded (2 ^ 31) t
 step-bounded x t s u = subst (Bounded (2 ^ 31)) step (bounded-difference u s)
   where
@@ -66,30 +58,26 @@ module _ (numbers : List ℤ) (count : ℕ) (values : List ℤ) (n : ℕ) (asked
   summing-start = record {
     within = asked .some-number;
     odd = refl;
-    small = rw (first, without-first ns) at (asked .small);
-    same = ap₂ (λ (x : ℤ) (l : List ℤ). sumValue (take n values) x (termsOf l)) (sym first) (sym (without-first ns));
+    small = rw (first, without-drop ns 0) at (asked .small);
+    same = ap₂ (λ (x : ℤ) (l : List ℤ). sumValue (take n values) x (termsOf l)) (sym first) (sym (without-drop ns 0));
   }
     where
       first : getD ns 0 (pos 0) ≡ getD numbers 0 (pos 0)
       first = getD-take count numbers 0 (pos 0) (omega (arith, asked .some-number))
 
   module _ (i : ℕ) (x : ℤ) (s : Summing numbers count values n i x) where
-    listed : i < count - 1 → drop i ns ≡ getD numbers i (pos 0) ∷ (getD numbers (i + 1) (pos 0) ∷ drop (i + 2) ns)
-    listed h = pair-at numbers count (asked .all-numbers) i (omega arith)
-
     pub summing-turn : i < count - 1 → Turn numbers count values n i x
-    unfolding valueAt
+    unfolding SumSmall sumValue valueAt
     summing-turn h = record {
       made = name .1;
       size = name .0;
-      product = step-bounded x (term numbers values i) (small-now (take n values) x _ (s .small)) now;
+      product = step-bounded x (term numbers values i) (steps .0) now;
       total = now;
       next = record {
         within = omega arith;
         odd = omega (arith, s .odd);
         small = later;
-        same = ap (λ (y : ℤ). sumValue (take n values) (x +ℤ c *ℤ y) (termsOf rest)) (sym value)
-            ∙ value-later (take n values) x c v rest ∙ (rw (listed h) at (s .same));
+        same = ap (λ (y : ℤ). sumValue (take n values) (x +ℤ c *ℤ y) rest) (sym value) ∙ (rw listed at (s .same));
       };
     }
       where
@@ -99,8 +87,11 @@ module _ (numbers : List ℤ) (count : ℕ) (values : List ℤ) (n : ℕ) (asked
         v : ℤ
         v = getD numbers (i + 1) (pos 0)
 
-        rest : List ℤ
-        rest = drop (i + 2) ns
+        rest : List Term
+        rest = termsOf (drop (i + 2) ns)
+
+        listed : termsOf (drop i ns) ≡ record { coefficient = c; value = natAbs v } ∷ rest
+        listed = terms-at numbers count i (asked .all-numbers) (omega arith)
 
         name : (pos 0 ≤ℤ v) × (natAbs v < n)
         name = name-made numbers count (asked .all-numbers) n (i + 1) (asked .named) (omega arith) (omega arith) (omega (arith, s .odd))
@@ -108,11 +99,14 @@ module _ (numbers : List ℤ) (count : ℕ) (values : List ℤ) (n : ℕ) (asked
         value : getD (take n values) (natAbs v) (pos 0) ≡ getD values (natAbs v) (pos 0)
         value = getD-take n values (natAbs v) (pos 0) (name .1)
 
-        later : SumSmall (take n values) (x +ℤ term numbers values i) (termsOf rest)
-        later = rw value at (small-later (take n values) x c v rest (rw (listed h) at (s .small)))
+        steps : Bounded (2 ^ 30) x × SumSmall (take n values) (x +ℤ c *ℤ getD (take n values) (natAbs v) (pos 0)) rest
+        steps = rw listed at (s .small)
+
+        later : SumSmall (take n values) (x +ℤ term numbers values i) rest
+        later = rw value at (steps .1)
 
         now : Bounded (2 ^ 30) (x +ℤ term numbers values i)
-        now = small-now (take n values) _ (termsOf rest) later
+        now = small-now (take n values) _ rest later
 
     pub summing-end : count - 1 ≤ i → x ≡ sumOf (take count numbers) (take n values)
     unfolding sumValue
