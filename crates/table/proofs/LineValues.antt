@@ -6,7 +6,7 @@ use mathlib.Core.List.{List}
 use Prim.Native.Nat.{ℕ, suc, _^_, _≤_, _<_}
 use native.Mathlib.Omega.{arith}
 use native.Mathlib.Nat.{one-le-pow}
-use lib.IntN.{ℤ, pos, natAbs}
+use lib.IntN.{ℤ, pos}
 use lib.ListN.{length, getD, take}
 use lib.Seq.{getD-take}
 use lib.Signed.{_≤ℤ_}
@@ -16,16 +16,14 @@ use Rattle.meaning.specs.Refusal.{isField}
 use Rattle.number.specs.Bounded.{Bounded}
 use Rattle.reader.specs.State.{greatest}
 use Rattle.table.specs.Cells.{GroupOf}
-use Rattle.table.specs.Line.{knownCount}
+use Rattle.table.specs.Line.{KeptLine, knownCount}
 use Rattle.table.specs.LineValues.{ValuesAsked}
-use Rattle.table.proofs.LineNumbers.{NameAt, DigitsFrom, value-bounded}
+use Rattle.table.proofs.LineNumbers.{size, NameAt, value-bounded}
+use Rattle.table.proofs.LineKinds.{DigitWord, word-digits}
 
 -- ---- values
 
--- the size of the number at a place, and the value that it names
-abbrev pub size : (numbers : List ℤ) (i : ℕ) → ℕ
-size numbers i = natAbs (getD numbers i (pos 0))
-
+-- the value that the number at a place names
 abbrev pub named : (numbers : List ℤ) (i : ℕ) (values : List ℤ) → ℤ
 named numbers i values = getD values (size numbers i) (pos 0)
 
@@ -50,16 +48,14 @@ module _ {w : Word} {numbers : List ℤ} {count : ℕ} {values : List ℤ} (a : 
 pub power-positive : {b k c : ℕ} → GroupOf b k c → 0 < c
 power-positive {b} {k} {c} g = rw (g .power) (one-le-pow k b (omega (arith, g .base)))
 
-module _ {numbers : List ℤ} {i : ℕ} (d : DigitsFrom numbers i) {b k : ℕ} (base : b ≡ size numbers i) (digits : k ≡ size numbers (suc i)) where
+module _ {w : Word} {numbers : List ℤ} {count : ℕ} (l : KeptLine w numbers count) (i : ℕ) (word : DigitWord w numbers count i)
+    {b k : ℕ} (base : b ≡ size numbers i) (digits : k ≡ size numbers (suc i)) where
   -- as `power_of` asks it
   pub power-asked : (k ≤ 31) × (b ^ k ≤ 2 ^ 31)
   unfolding greatest
-  power-asked = rw (base, digits) (d .count-most, omega (arith, d .power-most))
+  power-asked = let d = word-digits l i word in rw (base, digits) (d .count-most, omega (arith, d .power-most))
 
   pub group-read : {c : ℕ} → c ≡ b ^ k → GroupOf b k c
-  group-read e = record {
-    base = rw base (d .base-two);
-    some-digit = rw digits (d .count-one);
-    power = e;
-    small = rw e (power-asked .1);
-  }
+  group-read e =
+      let d = word-digits l i word in
+      record { base = rw base (d .base-two); some-digit = rw digits (d .count-one); power = e; small = rw e (power-asked .1) }

@@ -1,19 +1,20 @@
 -- What working a line of each kind answers is what its gadget says of the values before it.
-use mathlib.Core.Path.{_≡_, refl, ap}
-use mathlib.Core.Bool.{true, cond}
+use mathlib.Core.Path.{_≡_, refl, sym, ap, _∙_}
+use mathlib.Core.Bool.{cond}
 use mathlib.Core.List.{List, [], _∷_}
 use mathlib.Core.Option.{none, some}
-use Prim.Native.Nat.{ℕ, _%_, _^_, _≤_}
+use Prim.Native.Nat.{ℕ, _^_}
 use native.Mathlib.Omega.{arith}
-use lib.Dec.{eqb, leb, ltb, eqb→eq}
+use lib.Dec.{ltb}
 use lib.IntN.{ℤ, pos, natAbs, _-ℤ_}
 use lib.ListN.{getD, take}
-use Rattle.algebra.proofs.Test.{left, ≡-test}
-use Rattle.meaning.specs.Line.{field, input, span, sum, relu, which, max, root, isCount, numberAt, withoutFirst, namesOf}
+use Rattle.meaning.specs.Line.{Word, field, input, span, sum, relu, which, max, root, numberAt, withoutFirst, namesOf}
 use Rattle.meaning.specs.Number.{between}
-use Rattle.meaning.specs.Known.{larger}
+use Rattle.meaning.specs.Known.{Known, larger}
 use Rattle.meaning.specs.Meaning.{byWord, gadget}
 use Rattle.meaning.specs.Refusal.{isField}
+use Rattle.meaning.specs.Gadget.Interface.{Gadget}
+use Rattle.meaning.specs.Gadget.Digits.{valueAt}
 use Rattle.meaning.specs.Gadget.Field.{fieldLine}
 use Rattle.meaning.specs.Gadget.Input.{inputLine}
 use Rattle.meaning.specs.Gadget.Span.{spanTop, spanLine}
@@ -25,16 +26,19 @@ use Rattle.meaning.specs.Gadget.Max.{maxLine}
 use Rattle.meaning.specs.Gadget.Root.{rootValue, rootLine}
 use Rattle.meaning.proofs.Lines.{terms-named}
 use Rattle.number.specs.Bounded.{Bounded}
+use Rattle.text.specs.Word.{wordOf}
+use Rattle.text.specs.declared.Word.the-variants.{Sum}
 use Rattle.reader.specs.State.{greatest}
+use Rattle.reader.proofs.Steps.{sum-count}
 use Rattle.table.specs.Line.{KeptLine, knownCount}
 use Rattle.table.specs.Cells.{workedSeen, sumOf, SumAsked}
 use Rattle.table.specs.LineValues.{ValuesAsked, WorkTold}
 use Rattle.table.specs.declared.value.Worked.{Worked}
 use Rattle.table.specs.declared.value.Worked.the-variants.{Value, NoValue}
-use Rattle.table.proofs.LineNumbers.{values-most, half-most}
+use Rattle.table.proofs.LineNumbers.{size, values-most, half-most}
 use Rattle.table.proofs.LineKinds.{span-word, relu-word, which-word, max-word, root-word}
-use Rattle.table.proofs.LineKinds.{one-name, one-is, two-first, two-second, two-is}
-use Rattle.table.proofs.LineValues.{size, named, value-named}
+use Rattle.table.proofs.LineKinds.{OneWord, one-name, one-is, TwoWord, two-first, two-second, two-is}
+use Rattle.table.proofs.LineValues.{named, value-named}
 use Rattle.table.proofs.WorksSumFits.{sum-small}
 
 -- ---- one value, and a digit group
@@ -45,56 +49,50 @@ span-shift l = record { size = omega (arith, l .small 3 (omega arith)) }
 
 module _ {numbers values : List ℤ} {v : ℤ} {b k : ℕ} (value : v ≡ named numbers 0 values) (base : b ≡ size numbers 1)
     (digits : k ≡ size numbers 2) (next : ℤ) (r : Worked) where
-  pub relu-told : workedSeen r ≡ cond (signStatement b k v) (some (larger (pos 0) v ∷ [])) none
-      → WorkTold relu numbers 3 values next r
-  unfolding reluLine
-  relu-told h a =
+  -- the answer for the line's gadget over v is that for the line
+  one-worked : {w : Word} {count : ℕ} {line : Known → (n b k : ℕ) → Gadget} → OneWord w numbers count line
+      → ((s : Known) (n : ℕ) (vs : List ℤ) → valueAt vs n ≡ v
+      → workedSeen r ≡ cond (line s n b k .statement vs) (some (line s n b k .values vs next)) none) → WorkTold w numbers count values next r
+  one-worked word told a =
       let l = a .kept in
-      let word = relu-word numbers in
       let read = value-named numbers values 0 (knownCount l) (one-name l word .below) in
-      rw (one-is l word base digits, read, ← value) h
+      rw (one-is l word base digits) (told (l .state) (size numbers 0) (take (knownCount l) values) (read ∙ sym value))
+
+  pub relu-told : workedSeen r ≡ cond (signStatement b k v) (some (larger (pos 0) v ∷ [])) none → WorkTold relu numbers 3 values next r
+  unfolding reluLine
+  relu-told h = one-worked (relu-word numbers) (λ s n vs is. rw is h)
 
   pub root-told : workedSeen r ≡ cond (between (pos 0) v (pos (b ^ k) -ℤ pos 1)) (some (rootValue v ∷ [])) none
       → WorkTold root numbers 3 values next r
   unfolding rootLine
-  root-told h a =
-      let l = a .kept in
-      let word = root-word numbers in
-      let read = value-named numbers values 0 (knownCount l) (one-name l word .below) in
-      rw (one-is l word base digits, read, ← value) h
+  root-told h = one-worked (root-word numbers) (λ s n vs is. rw is h)
 
   pub span-told : {shift : ℤ} → shift ≡ getD numbers 3 (pos 0) → workedSeen r ≡ cond (between shift v (spanTop b k shift)) (some []) none
       → WorkTold span numbers 4 values next r
   unfolding spanLine
-  span-told e h a =
-      let l = a .kept in
-      let word = span-word numbers in
-      let read = value-named numbers values 0 (knownCount l) (one-name l word .below) in
-      rw (one-is l word base digits, read, ← value, ← e) h
+  span-told e h = one-worked (span-word numbers) (λ s n vs is. rw (is, ← e) h)
 
 -- ---- two values, and a digit group
 
 module _ {numbers values : List ℤ} {u v : ℤ} {b k : ℕ} (first : u ≡ named numbers 0 values) (second : v ≡ named numbers 1 values)
     (base : b ≡ size numbers 2) (digits : k ≡ size numbers 3) (next : ℤ) (r : Worked) where
-  pub which-told : workedSeen r ≡ cond (signStatement b k (u -ℤ v)) (some (whichValue u v ∷ [])) none
-      → WorkTold which numbers 4 values next r
-  unfolding whichLine
-  which-told h a =
+  two-worked : {w : Word} {count : ℕ} {line : Known → (m n b k : ℕ) → Gadget} → TwoWord w numbers count line
+      → ((s : Known) (m n : ℕ) (vs : List ℤ) → valueAt vs m ≡ u → valueAt vs n ≡ v
+      → workedSeen r ≡ cond (line s m n b k .statement vs) (some (line s m n b k .values vs next)) none) → WorkTold w numbers count values next r
+  two-worked word told a =
       let l = a .kept in
-      let word = which-word numbers in
       let read-u = value-named numbers values 0 (knownCount l) (two-first l word .below) in
       let read-v = value-named numbers values 1 (knownCount l) (two-second l word .below) in
-      rw (two-is l word base digits, read-u, read-v, ← first, ← second) h
+      rw (two-is l word base digits)
+      (told (l .state) (size numbers 0) (size numbers 1) (take (knownCount l) values) (read-u ∙ sym first) (read-v ∙ sym second))
 
-  pub max-told : workedSeen r ≡ cond (ltb (natAbs (u -ℤ v)) (b ^ k)) (some (larger u v ∷ [])) none
-      → WorkTold max numbers 4 values next r
+  pub which-told : workedSeen r ≡ cond (signStatement b k (u -ℤ v)) (some (whichValue u v ∷ [])) none → WorkTold which numbers 4 values next r
+  unfolding whichLine
+  which-told h = two-worked (which-word numbers) (λ s m n vs u-is v-is. rw (u-is, v-is) h)
+
+  pub max-told : workedSeen r ≡ cond (ltb (natAbs (u -ℤ v)) (b ^ k)) (some (larger u v ∷ [])) none → WorkTold max numbers 4 values next r
   unfolding maxLine
-  max-told h a =
-      let l = a .kept in
-      let word = max-word numbers in
-      let read-u = value-named numbers values 0 (knownCount l) (two-first l word .below) in
-      let read-v = value-named numbers values 1 (knownCount l) (two-second l word .below) in
-      rw (two-is l word base digits, read-u, read-v, ← first, ← second) h
+  max-told h = two-worked (max-word numbers) (λ s m n vs u-is v-is. rw (u-is, v-is) h)
 
 -- ---- lines without a digit group
 
@@ -106,20 +104,14 @@ pub input-told : (numbers values : List ℤ) {next x : ℤ} → x ≡ next → W
 unfolding gadget byWord inputLine workedSeen
 input-told numbers values e a = ap (λ (y : ℤ). some (y ∷ [])) e
 
-odd-count : (count : ℕ) → isCount sum count ≡ true → 1 ≤ count
-unfolding isCount
-odd-count count e =
-    let odd = eqb→eq (count % 2) 1 (left (eqb (count % 2) 1) (leb count 33) (≡-test (isCount sum count) e)) in
-    omega (arith, odd)
-
 module _ {numbers : List ℤ} {count : ℕ} {values : List ℤ} where
   pub sum-asked : (a : ValuesAsked sum numbers count values) → SumAsked numbers count values (knownCount (a .kept))
-  unfolding isField gadget byWord sumLine namesOf
+  unfolding isField gadget byWord sumLine namesOf wordOf
   sum-asked a =
       let l = a .kept in
       let ns : List ℤ = take count numbers in
       record {
-        some-number = odd-count count (l .counted);
+        some-number = omega (arith, sum-count {v = Sum} refl count (l .counted));
         all-numbers = omega (arith, l .few, l .numbers-long);
         all-values = omega (arith, values-most l, a .values-long);
         named = l .keeps .names-made;

@@ -6,7 +6,7 @@ use mir.Val.{SFits, toZ, ofZ}
 use Rattle.meaning.specs.Gadget.Max.{maxLine}
 use Rattle.meaning.proofs.Number.{positive}
 use Rattle.number.proofs.Word.{back}
-use Rattle.table.proofs.LineKinds.{max-word, base-asked, count-asked, word-digits, two-first, two-second}
+use Rattle.table.proofs.LineKinds.{max-word, base-asked, count-asked, two-first, two-second}
 use Rattle.table.proofs.LineValues.{named, value-asked, named-bounded, group-read}
 use Rattle.table.proofs.CellsLine.{prime-asked, two-room, max-cells-told}
 use borrow.Author.Needs.{needs}
@@ -45,7 +45,7 @@ max-cells-requires c κs =
     let word = max-word (s .args .numbers .now) in
     let late = word .has-digits .late in (
       positive (prime-asked a late),
-      omega (arith, group-read (word-digits (a .asked .kept) 2 (word .has-digits)) (base .base-at .ensures) (digits .size-at .ensures) refl .base),
+      omega (arith, group-read (a .asked .kept) 2 (word .has-digits) (base .base-at .ensures) (digits .size-at .ensures) refl .base),
       two-room a word (base .base-at .ensures) (digits .size-at .ensures),
       rw (first (base .before .before)) (named-bounded (a .asked) (two-first (a .asked .kept) word) late),
       rw (second (base .before)) (named-bounded (a .asked) (two-second (a .asked .kept) word) late),

@@ -3,9 +3,8 @@ use mathlib.Core.Path.{_≡_, _∙_}
 use mir.Syntax.{w64}
 use mir.Val.{SFits, toZ, ofZ}
 use Rattle.number.proofs.Word.{back}
-use Rattle.table.specs.Cells.{GroupOf}
-use Rattle.table.proofs.LineKinds.{max-word, base-asked, count-asked, word-digits, two-first, two-second}
-use Rattle.table.proofs.LineValues.{named, value-asked, named-bounded, power-asked, group-read}
+use Rattle.table.proofs.LineKinds.{max-word, base-asked, count-asked, two-first, two-second}
+use Rattle.table.proofs.LineValues.{named, value-asked, named-bounded, power-asked}
 use Rattle.table.proofs.WorksLine.{max-told}
 use borrow.Author.Needs.{needs}
 use Rattle.table.proofs.max.max_line_works.Statement.{statement}
@@ -26,13 +25,7 @@ size-at-requires c κs = let s = c .before .before .before in count-asked (s .pr
 power-of-requires : tie.Need-power-of-requires
 power-of-requires c κs =
     let s = c .before .before .before .before in
-    power-asked (word-digits (s .pre .kept) 2 (max-word (s .args .numbers .now) .has-digits)) (c .before .base-at .ensures) (c .size-at .ensures)
-
-group : (c : tie.After-power-of) → GroupOf (c .before .before .base-at .result) (c .before .size-at .result) (c .power-of .result)
-group c =
-    let s = c .before .before .before .before .before in
-    group-read (word-digits (s .pre .kept) 2 (max-word (s .args .numbers .now) .has-digits)) (c .before .before .base-at .ensures) (c .before .size-at .ensures)
-    (c .power-of .ensures)
+    power-asked (s .pre .kept) 2 (max-word (s .args .numbers .now) .has-digits) (c .before .base-at .ensures) (c .size-at .ensures)
 
 first : (c : tie.After-value-named)
     → let s = c .before .args in
@@ -57,9 +50,8 @@ returns : tie.Need-returns
 returns c next =
     let digits = c .before .before in
     let base = digits .before in
-    let g = group (c .before) in
     max-told (first (base .before .before)) (second (base .before)) (base .base-at .ensures) (digits .size-at .ensures) next _
-    (c .max-works .ensures _ _ (g .power))
+    (c .max-works .ensures _ _ (c .before .power-of .ensures))
 
 pub max-line-works-spec : {M : Type 1} → statement M
 max-line-works-spec =

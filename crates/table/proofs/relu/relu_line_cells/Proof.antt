@@ -4,7 +4,7 @@ use mir.Syntax.{w64}
 use mir.Val.{SFits, toZ, ofZ}
 use Rattle.meaning.specs.Gadget.Relu.{reluLine}
 use Rattle.number.proofs.Word.{back}
-use Rattle.table.proofs.LineKinds.{relu-word, base-asked, count-asked, word-digits, one-name}
+use Rattle.table.proofs.LineKinds.{relu-word, base-asked, count-asked, one-name}
 use Rattle.table.proofs.LineValues.{named, value-asked, named-bounded, power-asked, group-read}
 use Rattle.table.proofs.CellsLine.{prime-asked, one-room, relu-cells-told}
 use borrow.Author.Needs.{needs}
@@ -23,7 +23,7 @@ size-at-requires c κs = let s = c .before .before .before in count-asked (s .pr
 power-of-requires : tie.Need-power-of-requires
 power-of-requires c κs =
     let s = c .before .before .before .before in
-    power-asked (word-digits (s .pre .1 .asked .kept) 1 (relu-word (s .args .numbers .now) .has-digits)) (c .before .base-at .ensures) (c .size-at .ensures)
+    power-asked (s .pre .1 .asked .kept) 1 (relu-word (s .args .numbers .now) .has-digits) (c .before .base-at .ensures) (c .size-at .ensures)
 
 value : (c : tie.After-value-named)
     → let s = c .before .before .args in
@@ -40,7 +40,7 @@ relu-cells-requires c κs =
     let word = relu-word (s .args .numbers .now) in
     let late = word .has-digits .late in (
       prime-asked a late,
-      group-read (word-digits (a .asked .kept) 1 (word .has-digits)) (base .base-at .ensures) (digits .size-at .ensures) (c .before .power-of .ensures),
+      group-read (a .asked .kept) 1 (word .has-digits) (base .base-at .ensures) (digits .size-at .ensures) (c .before .power-of .ensures),
       one-room a word (base .base-at .ensures) (digits .size-at .ensures),
       rw (value (base .before)) (named-bounded (a .asked) (one-name (a .asked .kept) word) late),
     )

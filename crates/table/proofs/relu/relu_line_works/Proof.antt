@@ -5,7 +5,7 @@ use mir.Syntax.{w64}
 use mir.Val.{SFits, toZ, ofZ}
 use Rattle.number.proofs.Word.{back}
 use Rattle.table.specs.Cells.{GroupOf}
-use Rattle.table.proofs.LineKinds.{relu-word, base-asked, count-asked, word-digits, one-name}
+use Rattle.table.proofs.LineKinds.{relu-word, base-asked, count-asked, one-name}
 use Rattle.table.proofs.LineValues.{named, value-asked, power-asked, group-read}
 use Rattle.table.proofs.WorksLine.{relu-told}
 use borrow.Author.Needs.{needs}
@@ -24,12 +24,12 @@ size-at-requires c κs = let s = c .before .before in count-asked (s .pre .kept)
 power-of-requires : tie.Need-power-of-requires
 power-of-requires c κs =
     let s = c .before .before .before in
-    power-asked (word-digits (s .pre .kept) 1 (relu-word (s .args .numbers .now) .has-digits)) (c .before .base-at .ensures) (c .size-at .ensures)
+    power-asked (s .pre .kept) 1 (relu-word (s .args .numbers .now) .has-digits) (c .before .base-at .ensures) (c .size-at .ensures)
 
 group : (c : tie.After-power-of) → GroupOf (c .before .before .base-at .result) (c .before .size-at .result) (c .power-of .result)
 group c =
     let s = c .before .before .before .before in
-    group-read (word-digits (s .pre .kept) 1 (relu-word (s .args .numbers .now) .has-digits)) (c .before .before .base-at .ensures) (c .before .size-at .ensures)
+    group-read (s .pre .kept) 1 (relu-word (s .args .numbers .now) .has-digits) (c .before .before .base-at .ensures) (c .before .size-at .ensures)
     (c .power-of .ensures)
 
 value : (c : tie.After-value-named)

@@ -6,7 +6,7 @@ use mir.Val.{SFits, toZ, ofZ}
 use Rattle.meaning.specs.Gadget.Root.{rootLine}
 use Rattle.meaning.proofs.Number.{positive}
 use Rattle.number.proofs.Word.{back}
-use Rattle.table.proofs.LineKinds.{root-word, base-asked, count-asked, word-digits, one-name}
+use Rattle.table.proofs.LineKinds.{root-word, base-asked, count-asked, one-name}
 use Rattle.table.proofs.LineValues.{named, value-asked, named-bounded, group-read}
 use Rattle.table.proofs.CellsLine.{prime-asked, one-room, root-cells-told}
 use borrow.Author.Needs.{needs}
@@ -37,7 +37,7 @@ root-cells-requires c κs =
     let word = root-word (s .args .numbers .now) in
     let late = word .has-digits .late in (
       positive (prime-asked a late),
-      omega (arith, group-read (word-digits (a .asked .kept) 1 (word .has-digits)) (base .base-at .ensures) (digits .size-at .ensures) refl .base),
+      omega (arith, group-read (a .asked .kept) 1 (word .has-digits) (base .base-at .ensures) (digits .size-at .ensures) refl .base),
       one-room a word (base .base-at .ensures) (digits .size-at .ensures),
       rw (value (base .before)) (named-bounded (a .asked) (one-name (a .asked .kept) word) late),
     )

@@ -4,7 +4,7 @@ use mir.Syntax.{w64}
 use mir.Val.{SFits, toZ, ofZ}
 use Rattle.number.proofs.Word.{back}
 use Rattle.table.specs.Cells.{GroupOf}
-use Rattle.table.proofs.LineKinds.{root-word, base-asked, count-asked, word-digits, one-name}
+use Rattle.table.proofs.LineKinds.{root-word, base-asked, count-asked, one-name}
 use Rattle.table.proofs.LineValues.{named, value-asked, named-bounded, power-asked, group-read}
 use Rattle.table.proofs.WorksLine.{root-told}
 use borrow.Author.Needs.{needs}
@@ -23,12 +23,12 @@ size-at-requires c κs = let s = c .before .before in count-asked (s .pre .kept)
 power-of-requires : tie.Need-power-of-requires
 power-of-requires c κs =
     let s = c .before .before .before in
-    power-asked (word-digits (s .pre .kept) 1 (root-word (s .args .numbers .now) .has-digits)) (c .before .base-at .ensures) (c .size-at .ensures)
+    power-asked (s .pre .kept) 1 (root-word (s .args .numbers .now) .has-digits) (c .before .base-at .ensures) (c .size-at .ensures)
 
 group : (c : tie.After-power-of) → GroupOf (c .before .before .base-at .result) (c .before .size-at .result) (c .power-of .result)
 group c =
     let s = c .before .before .before .before in
-    group-read (word-digits (s .pre .kept) 1 (root-word (s .args .numbers .now) .has-digits)) (c .before .before .base-at .ensures) (c .before .size-at .ensures)
+    group-read (s .pre .kept) 1 (root-word (s .args .numbers .now) .has-digits) (c .before .before .base-at .ensures) (c .before .size-at .ensures)
     (c .power-of .ensures)
 
 value : (c : tie.After-value-named)
@@ -49,9 +49,8 @@ returns : tie.Need-returns
 returns c next =
     let digits = c .before .before in
     let base = digits .before in
-    let g = group (c .before) in
     root-told (value (base .before)) (base .base-at .ensures) (digits .size-at .ensures) next _
-    (c .root-works .ensures _ _ (g .power))
+    (c .root-works .ensures _ _ (c .before .power-of .ensures))
 
 pub root-line-works-spec : {M : Type 1} → statement M
 root-line-works-spec =

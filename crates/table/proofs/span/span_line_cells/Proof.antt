@@ -1,13 +1,15 @@
--- `table::span::span_line_cells`: the line's numbers are what `span_cells` takes.
+-- `table::span::span_line_cells`: the line's numbers are what `form_cells` takes.
 use mathlib.Core.Path.{_≡_, refl, _∙_}
 use native.Mathlib.Omega.{arith}
+use lib.Dec.{lit≤}
 use lib.IntN.{pos}
 use lib.ListN.{getD}
 use mir.Syntax.{w64}
 use mir.Val.{SFits, toZ, ofZ}
 use Rattle.meaning.specs.Gadget.Span.{spanLine}
 use Rattle.number.proofs.Word.{back}
-use Rattle.table.proofs.LineKinds.{span-word, base-asked, count-asked, word-digits, one-name}
+use Rattle.number.proofs.Bounded.{bounded-more}
+use Rattle.table.proofs.LineKinds.{span-word, base-asked, count-asked, one-name}
 use Rattle.table.proofs.LineValues.{named, value-asked, named-bounded, group-read}
 use Rattle.table.proofs.WorksLine.{span-shift}
 use Rattle.table.proofs.CellsLine.{one-room, span-cells-told}
@@ -37,19 +39,19 @@ shift : (c : tie.After-shift)
     toZ w64 (ofZ w64 z) ≡ z
 shift c = search needs
 
-span-cells-requires : tie.Need-span-cells-requires
+form-cells-requires : tie.Need-form-cells-requires
 unfolding spanLine
-span-cells-requires c κs =
+form-cells-requires c κs =
     let digits = c .before .before in
     let base = digits .before in
     let s = base .before .before .before in
     let a = s .pre .2 in
     let word = span-word (s .args .numbers .now) in
     let late = word .has-digits .late in (
-      omega (arith, group-read (word-digits (a .asked .kept) 1 (word .has-digits)) (base .base-at .ensures) (digits .size-at .ensures) refl .base),
+      omega (arith, group-read (a .asked .kept) 1 (word .has-digits) (base .base-at .ensures) (digits .size-at .ensures) refl .base),
       one-room a word (base .base-at .ensures) (digits .size-at .ensures),
-      rw (value (base .before)) (named-bounded (a .asked) (one-name (a .asked .kept) word) late),
-      rw (shift (c .before)) (span-shift (a .asked .kept)),
+      rw (value (base .before)) (bounded-more (named-bounded (a .asked) (one-name (a .asked .kept) word) late) (lit≤ tt)),
+      rw (shift (c .before)) (bounded-more (span-shift (a .asked .kept)) (lit≤ tt)),
     )
 
 same-length : tie.Need-same-length
@@ -61,7 +63,7 @@ returns c p known =
     let digits = last .before .before .before in
     let base = digits .before in
     span-cells-told (value (base .before)) (base .base-at .ensures) (digits .size-at .ensures) (shift (last .before .before))
-    (last .span-cells .ensures)
+    (last .form-cells .ensures)
 
 pub span-line-cells-spec : {M : Type 1} → statement M
 span-line-cells-spec =
@@ -71,6 +73,6 @@ span-line-cells-spec =
     base-at-requires
     size-at-requires
     shared-slice-copy-out-shift
-    span-cells-requires
+    form-cells-requires
     same-length
     returns)

@@ -4,7 +4,7 @@ use mir.Syntax.{w64}
 use mir.Val.{SFits, toZ, ofZ}
 use Rattle.meaning.specs.Gadget.Which.{whichLine}
 use Rattle.number.proofs.Word.{back}
-use Rattle.table.proofs.LineKinds.{which-word, base-asked, count-asked, word-digits, two-first, two-second}
+use Rattle.table.proofs.LineKinds.{which-word, base-asked, count-asked, two-first, two-second}
 use Rattle.table.proofs.LineValues.{named, value-asked, named-bounded, power-asked, group-read}
 use Rattle.table.proofs.CellsLine.{prime-asked, two-room, which-cells-told}
 use borrow.Author.Needs.{needs}
@@ -26,7 +26,7 @@ size-at-requires c κs = let s = c .before .before .before .before in count-aske
 power-of-requires : tie.Need-power-of-requires
 power-of-requires c κs =
     let s = c .before .before .before .before .before in
-    power-asked (word-digits (s .pre .1 .asked .kept) 2 (which-word (s .args .numbers .now) .has-digits)) (c .before .base-at .ensures) (c .size-at .ensures)
+    power-asked (s .pre .1 .asked .kept) 2 (which-word (s .args .numbers .now) .has-digits) (c .before .base-at .ensures) (c .size-at .ensures)
 
 first : (c : tie.After-value-named)
     → let s = c .before .before .args in
@@ -48,7 +48,7 @@ which-cells-requires c κs =
     let word = which-word (s .args .numbers .now) in
     let late = word .has-digits .late in (
       prime-asked a late,
-      group-read (word-digits (a .asked .kept) 2 (word .has-digits)) (base .base-at .ensures) (digits .size-at .ensures) (c .before .power-of .ensures),
+      group-read (a .asked .kept) 2 (word .has-digits) (base .base-at .ensures) (digits .size-at .ensures) (c .before .power-of .ensures),
       two-room a word (base .base-at .ensures) (digits .size-at .ensures),
       rw (first (base .before .before)) (named-bounded (a .asked) (two-first (a .asked .kept) word) late),
       rw (second (base .before)) (named-bounded (a .asked) (two-second (a .asked .kept) word) late),
