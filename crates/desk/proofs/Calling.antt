@@ -1,15 +1,14 @@
 -- One call of the desk: its two refusals, and a call that is counted.
-use Prim.Native.Nat.{ℕ, suc, _+_, _-_, _≤_, _<_, _^_}
+use Prim.Native.Nat.{ℕ, _+_, _-_, _≤_, _<_}
 use native.Mathlib.Omega.{arith}
 use native.Mathlib.Numerals.{unary-clauses}
-use mathlib.Core.Path.{_≡_, refl, sym, ap, ap₂, _∙_}
+use mathlib.Core.Path.{_≡_, refl, sym, ap, _∙_}
 use mathlib.Core.Bool.{Bool, true, false, not}
-use mathlib.Core.Logic.{_⊎_, inl, inr, _≢_}
+use mathlib.Core.Logic.{inl, inr}
 use mathlib.Core.List.{List}
 use lib.Dec.{eqb, leb}
 use borrow.Author.Tests.{not-true, not-false, lt-leb, eq-eqb, ne-eqb, eqb-true, eqb-false}
 use Rattle.meaning.specs.Reply.{reply, checkReply}
-use Rattle.meaning.specs.Reply.{Reply as MeantReply}
 use Rattle.meaning.specs.Desk.{counted, called, fullCount, isAccepted, raised, deskCall}
 use Rattle.meaning.specs.Desk.{Desk as MeantDesk, Called as MeantCalled}
 use Rattle.meaning.proofs.Desk.{stays-full}
@@ -71,6 +70,9 @@ module _ (d : Desk) (list table : List ℕ) (agrees : Agrees d) where
 
 -- ---- what the contract says in plain words follows from its equation
 
+same-counts : {m n : MeantDesk} → m ≡ n → (m .heard ≡ n .heard) × (m .accepted ≡ n .accepted) × (m .refused ≡ n .refused)
+same-counts e = (ap (λ (d : MeantDesk). d .heard) e, ap (λ (d : MeantDesk). d .accepted) e, ap (λ (d : MeantDesk). d .refused) e)
+
 one-more : (d : Desk) (c : Called) → Agrees d → deskSeen (c .desk) ≡ raised (deskSeen d) (replySeen (c .reply)) → CountsOne d c
 unfolding deskSeen
 one-more d c agrees e = by-test (eqb (c .reply .number) 0) refl
@@ -78,18 +80,12 @@ one-more d c agrees e = by-test (eqb (c .reply .number) 0) refl
     by-test : (b : Bool) → eqb (c .reply .number) 0 ≡ b → CountsOne d c
     by-test true t =
         let zero = eqb-true (c .reply .number) 0 t in
-        let q = e ∙ sym (raise-accepted d (c .reply) zero) in
-        let h = ap (λ (m : MeantDesk). m .heard) q in
-        let a = ap (λ (m : MeantDesk). m .accepted) q in
-        let r = ap (λ (m : MeantDesk). m .refused) q in
-        record { agrees = omega (arith, h, a, r, agrees); heard = h; one-other = inl (zero, a, r) }
+        let q = same-counts (e ∙ sym (raise-accepted d (c .reply) zero)) in
+        record { agrees = omega (arith, q, agrees); heard = q .0; one-other = inl (zero, q .1, q .2) }
     by-test false t =
         let other = eqb-false (c .reply .number) 0 t in
-        let q = e ∙ sym (raise-refused d (c .reply) other) in
-        let h = ap (λ (m : MeantDesk). m .heard) q in
-        let a = ap (λ (m : MeantDesk). m .accepted) q in
-        let r = ap (λ (m : MeantDesk). m .refused) q in
-        record { agrees = omega (arith, h, a, r, agrees); heard = h; one-other = inr (other, a, r) }
+        let q = same-counts (e ∙ sym (raise-refused d (c .reply) other)) in
+        record { agrees = omega (arith, q, agrees); heard = q .0; one-other = inr (other, q .1, q .2) }
 
 pub in-plain-words : (d : Desk) (list table : List ℕ) (c : Called) → calledSeen c ≡ deskCall (deskSeen d) list table
     → (calledSeen c ≡ deskCall (deskSeen d) list table) × (Agrees d → d .heard < fullCount → CountsOne d c)

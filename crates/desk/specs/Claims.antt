@@ -1,5 +1,5 @@
 -- What is claimed of the code (demand 2), as types: after any number of calls the counts still mean what they say.
-use Prim.Native.Nat.{_+_, _<_, _^_}
+use Prim.Native.Nat.{_<_, _^_}
 use mathlib.Core.Path.{_≡_}
 use mathlib.Core.Bool.{not}
 use mathlib.Core.List.{map}

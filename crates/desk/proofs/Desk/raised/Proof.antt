@@ -1,5 +1,4 @@
 -- `desk::Desk::raised`: below the full count no sum passes 64 bits.
-use native.Mathlib.Omega.{arith}
 use borrow.Author.Needs.{needs}
 use Rattle.meaning.specs.Desk.{fullCount}
 use Rattle.desk.specs.Desk.{deskSeen}
