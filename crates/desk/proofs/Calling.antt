@@ -48,7 +48,7 @@ module _ (d : Desk) (t : Bool) (is : t ≡ eqb (d .heard) (d .accepted + d .refu
   pub tested-agrees : not t ≡ false → Agrees d
   tested-agrees e = eqb-true _ _ (sym is ∙ not-false t e)
 
-  pub call-disagrees : (list table : List ℕ) → not t ≡ true → called (deskSeen d) (reply 19 0) ≡ deskCall (deskSeen d) list table
+  pub call-disagrees : (list table : List ℕ) → not t ≡ true → deskCall (deskSeen d) list table ≡ called (deskSeen d) (reply 19 0)
   unfolding deskSeen deskCall
   call-disagrees list table e = rw (sym is, not-true t e) refl
 

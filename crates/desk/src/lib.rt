@@ -5,7 +5,8 @@ use service::check;
 ghost use mathlib.Core.Path.{_≡_};
 ghost use Prim.Native.Nat.{_+_, _<_};
 ghost use lib.Dec.{eqb};
-ghost use Rattle.meaning.specs.Desk.{freshDesk, fullCount, deskCall};
+ghost use Rattle.meaning.specs.Reply.{reply};
+ghost use Rattle.meaning.specs.Desk.{freshDesk, fullCount, called, deskCall};
 ghost use Rattle.meaning.specs.Desk.{raised as raisedDesk};
 ghost use Rattle.service.specs.Reply.{replySeen};
 ghost use Rattle.desk.specs.Desk.{deskSeen, calledSeen, Agrees, CountsOne};
@@ -41,29 +42,32 @@ impl Desk {
         ensures { λ r. ⌜ (calledSeen r ≡ deskCall (deskSeen self) (now (list .entry)) (now (table .entry)))
             × (Agrees self → self .heard < fullCount → CountsOne self r) ⌝ }
     {
-        if !self.agrees() {
-            return Called {
-                desk: self,
-                reply: Reply {
-                    number: 19,
-                    place: 0,
-                },
-            };
+        let agrees = self.agrees();
+        let full = self.heard == FULL_COUNT;
+        if !agrees {
+            return self.refusal(19);
         }
-        if self.heard == FULL_COUNT {
-            return Called {
-                desk: self,
-                reply: Reply {
-                    number: 20,
-                    place: 0,
-                },
-            };
+        if full {
+            return self.refusal(20);
         }
         let reply = check(list, table);
         let desk = self.raised(reply);
         Called {
             desk: desk,
             reply: reply,
+        }
+    }
+
+    // A call that is not counted: the desk stays as it is.
+    fn refusal(self, number: u32) -> Called
+        ensures { λ r. ⌜ calledSeen r ≡ called (deskSeen self) (reply number 0) ⌝ }
+    {
+        Called {
+            desk: self,
+            reply: Reply {
+                number: number,
+                place: 0,
+            },
         }
     }
 
@@ -76,7 +80,7 @@ impl Desk {
 
     // heard and one other count are one more.
     fn raised(self, reply: Reply) -> Desk
-        requires { ⌜ (self .heard ≡ self .accepted + self .refused) × (self .heard ≡ fullCount → ⊥) ⌝ }
+        requires { ⌜ Agrees self × (self .heard ≡ fullCount → ⊥) ⌝ }
         ensures { λ r. ⌜ deskSeen r ≡ raisedDesk (deskSeen self) (replySeen reply) ⌝ }
     {
         let heard = self.heard + 1;
