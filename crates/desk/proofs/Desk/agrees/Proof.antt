@@ -7,11 +7,15 @@ use Rattle.desk.proofs.Desk.agrees.Lts as lts
 
 -- src/lib.rt:61:5
 returns : tie.Need-returns
-returns c = agree-exactly _ _ _ (c .before .before .if1 .taken)
+returns c =
+    let d = c .before .before .before .before .args .self in
+    agree-exactly (d .heard) (d .accepted) (d .refused) (c .before .before .if1 .taken)
 
 -- src/lib.rt:61:5
 returns-2 : tie.Need-returns-2
-returns-2 c = disagree _ _ _ (c .if1 .left)
+returns-2 c =
+    let d = c .before .before .args .self in
+    disagree (d .heard) (d .accepted) (d .refused) (c .if1 .left)
 
 pub agrees-spec : {M : Type 1} → statement M
 agrees-spec = tie.close (tie.spec returns returns-2)

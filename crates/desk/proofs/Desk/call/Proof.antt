@@ -39,7 +39,7 @@ unfolding fullCount
 returns-2 c =
     let S = c .before .before .before .before .before .before .before in
     let agrees = tested-agrees (S .args .self) _ (c .before .before .before .before .agrees .ensures) (c .before .before .if1 .left) in
-    let full = call-full (S .args .self) (now (S .args .list)) (now (S .args .table)) agrees (eqb-true _ _ (c .before .if2 .taken)) in
+    let full = call-full (S .args .self) (now (S .args .list)) (now (S .args .table)) agrees (eqb-true (S .args .self .heard) fullCount (c .before .if2 .taken)) in
     in-plain-words (S .args .self) _ _ _ (c .refusal2 .ensures ∙ sym full)
 
 -- src/lib.rt:52:13
@@ -52,7 +52,7 @@ unfolding fullCount
 raised-requires c κs =
     let S = c .before .before .before .before .before .before .before in
     let agrees = tested-agrees (S .args .self) _ (c .before .before .before .before .agrees .ensures) (c .before .before .if1 .left) in
-    (agrees, eqb-false _ _ (c .before .if2 .left))
+    (agrees, eqb-false (S .args .self .heard) fullCount (c .before .if2 .left))
 
 -- src/lib.rt:41:5
 returns-3 : tie.Need-returns-3
@@ -60,7 +60,7 @@ unfolding fullCount
 returns-3 c =
     let S = c .before .before .before .before .before .before .before .before in
     let agrees = tested-agrees (S .args .self) _ (c .before .before .before .before .before .agrees .ensures) (c .before .before .before .if1 .left) in
-    let room = eqb-false _ _ (c .before .before .if2 .left) in
+    let room = eqb-false (S .args .self .heard) fullCount (c .before .before .if2 .left) in
     in-plain-words (S .args .self) _ _ _ (call-counted (S .args .self) (now (S .args .list)) (now (S .args .table)) agrees room _ (c .raised .ensures) (c .before .check .ensures))
 
 pub call-spec : {M : Type 1} → statement M

@@ -26,12 +26,16 @@ add-refused c = search needs
 -- src/lib.rt:68:5
 returns : tie.Need-returns
 unfolding deskSeen
-returns c = raise-accepted (c .before .before .before .before .before .args .self) _ (c .if1 .taken)
+returns c =
+    let S = c .before .before .before .before .before in
+    raise-accepted (S .args .self) (S .args .reply) (c .if1 .taken)
 
 -- src/lib.rt:68:5
 returns-2 : tie.Need-returns-2
 unfolding deskSeen
-returns-2 c = raise-refused (c .before .before .before .before .before .args .self) _ (c .if1 .left)
+returns-2 c =
+    let S = c .before .before .before .before .before in
+    raise-refused (S .args .self) (S .args .reply) (c .if1 .left)
 
 pub raised-spec : {M : Type 1} → statement M
 raised-spec = tie.close (tie.spec add-heard add-accepted add-refused returns returns-2)
