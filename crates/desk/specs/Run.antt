@@ -1,5 +1,5 @@
--- Runs of the code: calls of a desk, one after another, each with what it gave. Of what a call gave only the contract of `Desk::call` is
--- said, so every run of the program is one of these.
+-- Runs of the code: calls of a desk, one after another, each with what it gave. All that is said of what a call gave is the equation
+-- that `Desk::call` ensures, so every run of the program is one of these.
 use mathlib.Core.Path.{_≡_}
 use mathlib.Core.List.{List, [], _∷_}
 use Rattle.meaning.specs.Desk.{Call, deskCall}

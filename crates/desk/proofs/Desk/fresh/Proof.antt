@@ -7,7 +7,7 @@ use Rattle.desk.proofs.Desk.fresh.Tie as tie
 use Rattle.desk.proofs.Desk.fresh.Reads as reads
 use Rattle.desk.proofs.Desk.fresh.Lts as lts
 
--- src/lib.rt:29:5
+-- src/lib.rt:30:5
 returns : tie.Need-returns
 unfolding deskSeen freshDesk
 returns c = refl

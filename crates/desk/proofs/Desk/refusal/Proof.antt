@@ -7,7 +7,7 @@ use Rattle.desk.proofs.Desk.refusal.Tie as tie
 use Rattle.desk.proofs.Desk.refusal.Reads as reads
 use Rattle.desk.proofs.Desk.refusal.Lts as lts
 
--- src/lib.rt:61:5
+-- src/lib.rt:62:5
 returns : tie.Need-returns
 unfolding calledSeen replySeen
 returns c = refl
