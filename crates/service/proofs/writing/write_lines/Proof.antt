@@ -1,4 +1,4 @@
--- `service::making::write_lines`: the walk that writes each line's cells, with what holds before each line as the invariant.
+-- `service::writing::write_lines`: the walk that writes each line's cells, with what holds before each line as the invariant.
 use mathlib.Core.Path.{refl, sym, _∙_}
 use Prim.Native.Nat.{_-_, _≤_}
 use lib.ListN.{length}
@@ -8,10 +8,10 @@ use Rattle.text.proofs.Answers.{line-counted}
 use Rattle.service.proofs.Listed.{read-ended, read-short}
 use Rattle.service.proofs.Standing.{line-there, left-is, keeps, kept-here, stands-next}
 use Rattle.service.proofs.Written.{Writing, writing-first, table-long, writing-end, writing-next, first-inside, cells-asked, made-stand, next}
-use Rattle.service.proofs.making.write_lines.Statement.{statement}
-use Rattle.service.proofs.making.write_lines.Tie as tie
-use Rattle.service.proofs.making.write_lines.Reads as reads
-use Rattle.service.proofs.making.write_lines.Lts as lts
+use Rattle.service.proofs.writing.write_lines.Statement.{statement}
+use Rattle.service.proofs.writing.write_lines.Tie as tie
+use Rattle.service.proofs.writing.write_lines.Reads as reads
+use Rattle.service.proofs.writing.write_lines.Lts as lts
 use Rattle.service.proofs.walk.counts_after.Reads as counts-after-reads
 use Rattle.table.proofs.line_cells.line_cells.Reads as line-cells-reads
 use Rattle.text.proofs.line_end.Reads as line-end-reads

@@ -1,13 +1,13 @@
--- `service::making::input_at`: an input, or what stands for one that is not there.
+-- `service::working::input_at`: an input, or what stands for one that is not there.
 use mathlib.Core.Path.{sym}
 use lib.IntN.{pos}
 use denote.Ref.{now}
 use lib.ListN.{List·getD-eq-default}
 use borrow.Author.Needs.{needs}
-use Rattle.service.proofs.making.input_at.Statement.{statement}
-use Rattle.service.proofs.making.input_at.Tie as tie
-use Rattle.service.proofs.making.input_at.Reads as reads
-use Rattle.service.proofs.making.input_at.Lts as lts
+use Rattle.service.proofs.working.input_at.Statement.{statement}
+use Rattle.service.proofs.working.input_at.Tie as tie
+use Rattle.service.proofs.working.input_at.Reads as reads
+use Rattle.service.proofs.working.input_at.Lts as lts
 
 -- src/making.rt:122:28
 mul-result : tie.Need-mul-result

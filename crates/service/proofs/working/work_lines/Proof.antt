@@ -1,4 +1,4 @@
--- `service::making::work_lines`: the walk that works each line, with what holds before each line as the invariant.
+-- `service::working::work_lines`: the walk that works each line, with what holds before each line as the invariant.
 use mathlib.Core.Path.{refl, sym, ap, _∙_}
 use Prim.Native.Nat.{_-_, _≤_}
 use lib.ListN.{length}
@@ -13,12 +13,12 @@ use Rattle.service.specs.Make.{isTrue}
 use Rattle.service.proofs.Listed.{read-ended, read-short}
 use Rattle.service.proofs.Standing.{line-there, left-is, keeps, kept-here, stands-next}
 use Rattle.service.proofs.Worked.{WorkingOn, working-first, working-end, working-false, working-next, value-inside, values-asked}
-use Rattle.service.proofs.making.work_lines.Statement.{statement}
-use Rattle.service.proofs.making.work_lines.Tie as tie
-use Rattle.service.proofs.making.work_lines.Reads as reads
-use Rattle.service.proofs.making.work_lines.Lts as lts
-use Rattle.service.proofs.making.input_at.Reads as input-at-reads
-use Rattle.service.proofs.making.take_value.Reads as take-value-reads
+use Rattle.service.proofs.working.work_lines.Statement.{statement}
+use Rattle.service.proofs.working.work_lines.Tie as tie
+use Rattle.service.proofs.working.work_lines.Reads as reads
+use Rattle.service.proofs.working.work_lines.Lts as lts
+use Rattle.service.proofs.working.input_at.Reads as input-at-reads
+use Rattle.service.proofs.working.take_value.Reads as take-value-reads
 use Rattle.service.proofs.walk.counts_after.Reads as counts-after-reads
 use Rattle.table.proofs.line_works.line_works.Reads as line-works-reads
 use Rattle.text.proofs.line_end.Reads as line-end-reads

@@ -1,4 +1,4 @@
--- `service::making::take_value`: one value is written where the line makes one, and none else.
+-- `service::working::take_value`: one value is written where the line makes one, and none else.
 use mathlib.Core.Path.{sym, ap, refl}
 use mir.Syntax.{w64}
 use mir.Val.{SFits}
@@ -7,10 +7,10 @@ use Rattle.number.proofs.Word.{back}
 use Rattle.service.specs.Make.{withValue, isTrue}
 use Rattle.table.specs.declared.value.Worked.{Worked}
 use borrow.Author.Needs.{needs}
-use Rattle.service.proofs.making.take_value.Statement.{statement}
-use Rattle.service.proofs.making.take_value.Tie as tie
-use Rattle.service.proofs.making.take_value.Reads as reads
-use Rattle.service.proofs.making.take_value.Lts as lts
+use Rattle.service.proofs.working.take_value.Statement.{statement}
+use Rattle.service.proofs.working.take_value.Tie as tie
+use Rattle.service.proofs.working.take_value.Reads as reads
+use Rattle.service.proofs.working.take_value.Lts as lts
 
 -- src/making.rt:131:23
 enum-known-worked : tie.Need-enum-known-worked
