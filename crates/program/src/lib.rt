@@ -1,0 +1,2 @@
+// The product's program as a function on bytes: a list, the line `end` and the inputs are answered by the table or by a refusal.
+pub mod decimal;
