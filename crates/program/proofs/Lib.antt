@@ -1,2 +1,5 @@
 pub mod Digits
 pub mod Filling
+pub mod Writing
+pub mod Texts
+pub mod Lengths
