@@ -3,3 +3,5 @@ pub mod Filling
 pub mod Writing
 pub mod Texts
 pub mod Lengths
+pub mod Parting
+pub mod Inputs

@@ -1,16 +1,15 @@
 -- The texts of the definitions, in the parts in which they are written.
-use mathlib.Core.Path.{_≡_, refl, sym, ap, subst, _∙_}
-use mathlib.Core.List.{List, [], _∷_, _++_, append-assoc, append-nil}
+use mathlib.Core.Path.{_≡_, refl, sym, ap}
+use mathlib.Core.List.{List, [], _∷_, _++_, append-assoc}
 use Prim.Native.Nat.{ℕ, suc, _+_, _-_, _≤_, _<_}
 use native.Mathlib.Omega.{arith}
 use native.Mathlib.Numerals.{add-one}
-use lib.ListN.{length, getD, take, drop, set, length-append, length-drop, length-set, take-append-drop}
-use lib.Seq.{length-take-le, take-all, take-suc, drop-cons, set-at}
+use lib.ListN.{length, getD, take, drop, length-append, take-append-drop}
+use lib.Seq.{length-take-le, take-all, take-suc}
 use borrow.Rule.Slice.PartMut.{putMid}
 use Rattle.meaning.specs.Text.{bytes, decimalOf}
 use Rattle.meaning.specs.Reply.{reply}
 use Rattle.meaning.specs.Program.{tabbed, refusalText, cellsText, tableText}
-use Rattle.table.proofs.CellsPart.{written-after}
 use Rattle.program.specs.Written.{Written, fieldText, pairText, headingText}
 use Rattle.program.proofs.Writing.{Halves, rest-starts, rest-room, whole-room, written-whole}
 

@@ -1,17 +1,15 @@
 -- Writing a text into a part of the output: one text after another, a byte after a text, and bytes that are copied.
 use mathlib.Core.Path.{_≡_, refl, sym, ap, subst, _∙_}
-use mathlib.Core.List.{List, [], _∷_, _++_, append-assoc, append-nil}
+use mathlib.Core.List.{List, [], _∷_, _++_, append-assoc}
 use Prim.Native.Nat.{ℕ, suc, _+_, _-_, _≤_, _<_}
 use native.Mathlib.Omega.{arith}
 use native.Mathlib.Numerals.{add-one}
-use lib.ListN.{length, getD, take, drop, set, length-append, length-drop, length-set, take-append-drop}
+use lib.ListN.{length, getD, take, drop, set, length-append, length-drop}
 use lib.Seq.{length-take-le, take-all, take-suc, drop-cons, set-at}
 use borrow.Rule.Slice.PartMut.{putMid}
-use Rattle.meaning.specs.Text.{bytes, decimalOf}
-use Rattle.meaning.specs.Reply.{reply}
-use Rattle.meaning.specs.Program.{tabbed, refusalText, cellsText, tableText}
+use Rattle.meaning.specs.Text.{bytes}
 use Rattle.table.proofs.CellsPart.{written-after}
-use Rattle.program.specs.Written.{Written, fieldText, pairText, headingText}
+use Rattle.program.specs.Written.{Written}
 
 -- ---- one text after another
 
