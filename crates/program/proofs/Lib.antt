@@ -5,3 +5,4 @@ pub mod Texts
 pub mod Lengths
 pub mod Parting
 pub mod Inputs
+pub mod Answering
