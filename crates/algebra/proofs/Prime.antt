@@ -47,7 +47,7 @@ euclid a b p P d = elim (ℕ-discrete (a % p) zero) [
 ]
 
 -- over ℤ, by the absolute values: a ≡ 0 says that p divides that of a
-natAbs-negation : (a : ℤ) → natAbs (negℤ a) ≡ natAbs a
+pub natAbs-negation : (a : ℤ) → natAbs (negℤ a) ≡ natAbs a
 natAbs-negation (pos zero) = refl
 natAbs-negation (pos (suc n)) = refl
 natAbs-negation (negsuc n) = refl

@@ -85,7 +85,7 @@ terms-named s (c ∷ (v ∷ (d ∷ ns))) t =
 
 -- ---- a line that is not a field line comes after line 0
 
-after-field : (n : ℕ) (w : Word) → isField w ≡ false → T (isPlaced n w) → zero < n
+pub after-field : (n : ℕ) (w : Word) → isField w ≡ false → T (isPlaced n w) → zero < n
 unfolding isPlaced
 after-field zero w e t = absurd (subst T e t)
 after-field (suc n) w e t = omega arith

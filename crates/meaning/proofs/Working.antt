@@ -26,7 +26,7 @@ use Rattle.meaning.proofs.Kept.{Kept, keeps-all}
 use Rattle.meaning.proofs.Lines.{Sound, sound-after}
 use Rattle.meaning.proofs.Induction.{prime-kept, first-law, cellsIn, valuesIn, split-worked, line-cells, later-cells, within-after, cells-after}
 
-inputs-grow : (ls : List Line) (n : ℕ) (s s′ : Known) → Kept n s ls s′ → s .inputs ≤ s′ .inputs
+pub inputs-grow : (ls : List Line) (n : ℕ) (s s′ : Known) → Kept n s ls s′ → s .inputs ≤ s′ .inputs
 unfolding after
 inputs-grow [] n s s′ k = omega (arith, ap (λ (q : Known). q .inputs) k)
 inputs-grow (l ∷ ls) n s s′ k = omega (arith, inputs-grow ls (suc n) (after s l) s′ (k .1))

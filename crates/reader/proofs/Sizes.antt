@@ -36,7 +36,7 @@ use Rattle.reader.specs.declared.state.Counts.{Counts}
 
 -- ---- rows
 
-length-digitRows : (at b k : ℕ) → length (digitRows at b k) ≡ k
+pub length-digitRows : (at b k : ℕ) → length (digitRows at b k) ≡ k
 unfolding digitRows
 length-digitRows at b zero = refl
 length-digitRows at b (suc k) = ap suc (length-digitRows (suc at) b k)
@@ -76,18 +76,18 @@ four-groups f g h l L a b c d base k =
 
 -- where the rules hold, the number at place i + 1 is a digit count
 module _ (p i : ℕ) (w : Meant) (ns : List ℤ) (is : digitsOf w ns ≡ digitsAt ns i) (ranged : T (isRanged p w ns)) where
-  given : T (all isDigits (digitsAt ns i))
+  pub digits-given : T (all isDigits (digitsAt ns i))
   unfolding isRanged
-  given = rw is at (left (all isDigits (digitsOf w ns)) (all (inRange p) (shiftsOf w ns))
+  digits-given = rw is at (left (all isDigits (digitsOf w ns)) (all (inRange p) (shiftsOf w ns))
       (left (all isDigits (digitsOf w ns) && all (inRange p) (shiftsOf w ns)) (all (inRange p) (coefficientsOf w ns)) ranged))
 
   count-low : pos 1 ≤ℤ numberAt ns (suc i)
   unfolding all digitsAt isDigits
-  count-low = let g = given in record { le = search (left, right, g) }
+  count-low = let g = digits-given in record { le = search (left, right, g) }
 
   count-high : numberAt ns (suc i) ≤ℤ pos 31
   unfolding all digitsAt isDigits
-  count-high = let g = given in record { le = search (left, right, g) }
+  count-high = let g = digits-given in record { le = search (left, right, g) }
 
 -- and the code's digit count is the line's
 module _ (s : Known) (w : Meant) (numbers : List ℤ) (n i k : ℕ) (inside : suc i < n)

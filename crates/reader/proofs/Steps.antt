@@ -132,6 +132,10 @@ pub span-word : {v : Word} → v ≡ Span → wordOf v ≡ span
 unfolding wordOf
 span-word q = rw q refl
 
+pub not-below : (z : ℤ) → T (nonNeg z) → pos 0 ≤ℤ z
+not-below (pos n) t = omega linear
+not-below (negsuc n) t = absurd t
+
 pub name-counted : {m : ℕ} (s : Known) (numbers : List ℤ) (n r : ℕ) → 0 < n → (pos 0 ≤ℤ getD numbers 0 (pos 0) → r ≡ natAbs (getD numbers 0 (pos 0)))
     → Keeps m s (lineWith span (take n numbers)) → sizeAt (take n numbers) 0 ≡ r
 unfolding sizeAt numberAt namesOf all isMade
@@ -141,10 +145,6 @@ name-counted s numbers n r h told kept =
     let z : ℤ = getD (take n numbers) 0 (pos 0) in
     let made : T (nonNeg z && ltb (natAbs z) m) = left (nonNeg z && ltb (natAbs z) m) true (kept .names-made) in
     ap natAbs is ∙ sym (told (rw is at (not-below z (left (nonNeg z) (ltb (natAbs z) m) made))))
-  where
-    not-below : (z : ℤ) → T (nonNeg z) → pos 0 ≤ℤ z
-    not-below (pos n) t = omega linear
-    not-below (negsuc n) t = absurd t
 
 -- ---- the bytes of a line
 

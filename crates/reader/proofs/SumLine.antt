@@ -33,7 +33,7 @@ all-first f x xs e = both-true (f x) (all f xs) e .0
 
 -- ---- every other number
 
-without-drop : (l : List ℤ) (i : ℕ) → withoutFirst (drop i l) ≡ drop (suc i) l
+pub without-drop : (l : List ℤ) (i : ℕ) → withoutFirst (drop i l) ≡ drop (suc i) l
 unfolding withoutFirst
 without-drop [] zero = refl
 without-drop [] (suc i) = refl
@@ -89,6 +89,22 @@ unfolding endsSeen added scaled endsAt
 next-seen read times plus =
     rw (plus .low-is, plus .high-is, times .low-is, times .high-is, read .low-read, read .high-read)
 
+pub terms-at : (numbers : List ℤ) (count i : ℕ) → count ≤ length numbers → i + 1 < count → termsOf (drop i (take count numbers))
+    ≡ record { coefficient = getD numbers i (pos 0); value = natAbs (getD numbers (i + 1) (pos 0)) } ∷ termsOf (drop (i + 2) (take count numbers))
+unfolding termsOf
+terms-at numbers count i enough h =
+    let size = length-take-le count numbers enough in
+    let one : i + 1 ≡ suc i = omega arith in
+    let two : i + 2 ≡ suc (suc i) = omega arith in
+    rw (
+      two,
+      one,
+      drop-cons (take count numbers) i (pos 0) (omega arith),
+      drop-cons (take count numbers) (suc i) (pos 0) (omega arith),
+      getD-take count numbers i (pos 0) (omega arith),
+      getD-take count numbers (suc i) (pos 0) (omega arith),
+    )
+
 module _ (p : ℕ) (lows highs numbers : List ℤ) (es : Ends) (count i : ℕ) (enough : count ≤ length numbers) where
   pub sum-end : count ≤ i → sumTold p lows highs es (termsOf (drop i (take count numbers))) ≡ makes (es ∷ [])
   unfolding sumTold termsOf
@@ -96,29 +112,12 @@ module _ (p : ℕ) (lows highs numbers : List ℤ) (es : Ends) (count i : ℕ) (
       let short : length (take count numbers) ≤ i = omega (arith, length-take-le count numbers enough) in
       rw (drop-of-length-le (take count numbers) short)
 
-  terms-at : i + 1 < count → termsOf (drop i (take count numbers))
-      ≡ record { coefficient = getD numbers i (pos 0); value = natAbs (getD numbers (i + 1) (pos 0)) } ∷ termsOf
-      (drop (i + 2) (take count numbers))
-  unfolding termsOf
-  terms-at h =
-      let size = length-take-le count numbers enough in
-      let one : i + 1 ≡ suc i = omega arith in
-      let two : i + 2 ≡ suc (suc i) = omega arith in
-      rw (
-        two,
-        one,
-        drop-cons (take count numbers) i (pos 0) (omega arith),
-        drop-cons (take count numbers) (suc i) (pos 0) (omega arith),
-        getD-take count numbers i (pos 0) (omega arith),
-        getD-take count numbers (suc i) (pos 0) (omega arith),
-      )
-
   module _ (more : i + 1 < count) {next : Ends}
       (is : next ≡ added es (scaled (getD numbers i (pos 0)) (endsAt lows highs (natAbs (getD numbers (i + 1) (pos 0)))))) where
     sum-at : sumTold p lows highs es (termsOf (drop i (take count numbers)))
         ≡ cond (endsInRange p next) (sumTold p lows highs next (termsOf (drop (i + 2) (take count numbers)))) (refuses 11)
     unfolding sumTold
-    sum-at = rw (terms-at more, is)
+    sum-at = rw (terms-at numbers count i enough more, is)
 
     pub sum-next : endsInRange p next ≡ true
         → sumTold p lows highs es (termsOf (drop i (take count numbers))) ≡ sumTold p lows highs next

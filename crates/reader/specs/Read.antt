@@ -1,5 +1,5 @@
 -- Reading a whole list: line 0, what is left of a list at a place, and how the code's answers are read as the definitions'.
-use Prim.Native.Nat.{ℕ}
+use Prim.Native.Nat.{_≤_, ℕ}
 use mathlib.Core.Path.{_≡_}
 use mathlib.Core.Logic.{_↔_}
 use mathlib.Core.List.{List, []}
@@ -12,6 +12,8 @@ use Rattle.meaning.specs.Refusal.{Reading, onSome, onReading, rules, firstBroke
 use Rattle.meaning.specs.Claims.{Fits, Before}
 use Rattle.meaning.specs.Reply.{reply, counts, refusal}
 use Rattle.meaning.specs.Reply.{Answer as Meant}
+use Rattle.meaning.proofs.Number.{OddPrime}
+use Rattle.reader.specs.State.{greatest}
 use Rattle.reader.specs.Step.{Step, stops, goes}
 use Rattle.reader.specs.declared.read.First.{First}
 use Rattle.reader.specs.declared.read.First.the-variants.{Prime, NotFirst}
@@ -50,9 +52,10 @@ unfoldable pub surveySeen : Surveyed → Survey
 surveySeen (Counted p c) = counted p (c .values) (c .inputs) (c .cells) (c .rows)
 surveySeen (NotRead number place) = refusedAt number place
 
-unfoldable pub primeSeen : Surveyed → ℕ
-primeSeen (Counted p c) = p
-primeSeen (NotRead number place) = 0
+-- p of a read list is an odd prime, and of a number's size
+unfoldable pub PrimeFound : Surveyed → Type 0
+PrimeFound (Counted p c) = OddPrime p × (p ≤ greatest)
+PrimeFound (NotRead number place) = Unit {0}
 
 -- what is replied of it
 unfoldable pub replyOf : Survey → Meant

@@ -20,7 +20,7 @@ ghost use Rattle.text.specs.Place.{linesFrom};
 ghost use Rattle.meaning.specs.Reply.{readReply};
 ghost use Rattle.text.specs.Word.{wordOf};
 ghost use Rattle.reader.specs.State.{greatest};
-ghost use Rattle.reader.specs.Read.{only, surveyOf, surveySeen, primeSeen, primeIn, firstOption, firstSeen, answerSeen, Exact};
+ghost use Rattle.reader.specs.Read.{only, surveyOf, surveySeen, PrimeFound, primeIn, firstOption, firstSeen, answerSeen, Exact};
 
 // p of line 0, or the number of its refusal.
 pub enum First {
@@ -93,7 +93,7 @@ pub fn read(list: &[u8]) -> Answer
 // The same with the count of inputs, which making asks for.
 pub fn survey(list: &[u8]) -> Surveyed
     ensures told { λ r. ⌜ surveySeen r ≡ surveyOf (reading (now (list .entry))) ⌝ }
-    ensures small { λ r. ⌜ primeSeen r ≤ greatest ⌝ }
+    ensures prime { λ r. ⌜ PrimeFound r ⌝ }
 {
     if 65536 < list.len() {
         return Surveyed::NotRead(1, 0);
@@ -114,7 +114,7 @@ pub fn survey(list: &[u8]) -> Surveyed
 fn survey_from(list: &[u8], start: usize, p: u32) -> Surveyed
     requires { ⌜ (isEnded (now list) ≡ true) × (1 ≤ start) × (start ≤ length (now list)) × OddPrime p × (p ≤ greatest) ⌝ }
     ensures told { λ r. ⌜ surveySeen r ≡ surveyOf (readFrom rules 1 (only p) (linesFrom (now (list .entry)) start)) ⌝ }
-    ensures small { λ r. ⌜ primeSeen r ≤ greatest ⌝ }
+    ensures prime { λ r. ⌜ PrimeFound r ⌝ }
 {
     let mut numbers: [i64; 33] = [0; 33];
     let mut lows: [i64; 256] = [0; 256];

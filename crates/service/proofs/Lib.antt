@@ -4,3 +4,6 @@ pub mod Places
 pub mod Scan
 pub mod Shown
 pub mod Checked
+pub mod Worked
+pub mod Written
+pub mod Made

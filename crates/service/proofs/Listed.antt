@@ -11,13 +11,13 @@ use Rattle.meaning.specs.Text.{linesOf, isEnded}
 use Rattle.meaning.specs.Line.{Line}
 use Rattle.meaning.specs.Known.{Known, fresh}
 use Rattle.meaning.specs.Refusal.{textLimit, rules, Reading, refused, read, onReading, readFrom, readingBy, reading}
+use Rattle.meaning.proofs.Number.{OddPrime}
 use Rattle.reader.specs.State.{greatest}
-use Rattle.reader.specs.Read.{Survey, counted, refusedAt, surveyOf, surveySeen, primeSeen}
+use Rattle.reader.specs.Read.{Survey, counted, refusedAt, surveyOf, surveySeen, PrimeFound}
 use Rattle.reader.specs.declared.state.Counts.{Counts}
 use Rattle.reader.specs.declared.read.Surveyed.{Surveyed}
 use Rattle.reader.specs.declared.read.Surveyed.the-variants.{Counted, NotRead}
-use Rattle.service.specs.Walk.{ListRead}
-use Rattle.service.specs.Walk.{Counted as CountsOf}
+use Rattle.service.specs.Walk.{ListRead, Listed}
 
 abbrev IsRead : Reading → Type 0
 IsRead (refused n i) = ⊥
@@ -88,21 +88,16 @@ unfolding surveyOf onReading
 refused-by (refused m i) n at e = sym (ap₂ refused (ap numberIn e) (ap placeIn e))
 refused-by (read ls s) n at e = absurd (subst IsCounted (sym e) tt)
 
--- what is counted of a list that was read
-pub record Listed (list : List ℕ) (p : ℕ) (c : Counts) : Type 0 where
-  pub listed : ListRead list
-  pub prime : listed .last .p ≡ p
-  pub counts-are : CountsOf (listed .last) c
-
-counted-by : (list : List ℕ) (r : Reading) (p : ℕ) (c : Counts) → reading list ≡ r → p ≤ greatest
+counted-by : (list : List ℕ) (r : Reading) (p : ℕ) (c : Counts) → reading list ≡ r → OddPrime p × (p ≤ greatest)
     → counted p (c .values) (c .inputs) (c .cells) (c .rows) ≡ surveyOf r → Listed list p c
 unfolding surveyOf onReading
 counted-by list (refused m i) p c is h e = absurd (subst IsCounted e tt)
 counted-by list (read ls s) p c is h e =
     let prime : s .p ≡ p = sym (ap (countIn (λ q v i c r. q)) e) in
     record {
-      listed = record { lines = ls; last = s; is-read = is; p-most = omega (arith, prime, h) };
+      listed = record { lines = ls; last = s; is-read = is; p-most = omega (arith, prime, h .1) };
       prime = prime;
+      odd = h .0;
       counts-are = record {
         values-are = sym (ap (countIn (λ q v i c r. v)) e);
         inputs-are = sym (ap (countIn (λ q v i c r. i)) e);
@@ -116,7 +111,7 @@ module _ (list : List ℕ) (x : Surveyed) (told : surveySeen x ≡ surveyOf (rea
   unfolding surveySeen
   survey-refused n at is = refused-by (reading list) n at (ap surveySeen (sym is) ∙ told)
 
-  pub survey-counted : primeSeen x ≤ greatest → (p : ℕ) (c : Counts) → x ≡ Counted p c → Listed list p c
-  unfolding surveySeen primeSeen
-  survey-counted small p c is =
-      counted-by list (reading list) p c refl (subst (λ (y : Surveyed). primeSeen y ≤ greatest) is small) (ap surveySeen (sym is) ∙ told)
+  pub survey-counted : PrimeFound x → (p : ℕ) (c : Counts) → x ≡ Counted p c → Listed list p c
+  unfolding surveySeen PrimeFound
+  survey-counted found p c is =
+      counted-by list (reading list) p c refl (subst PrimeFound is found) (ap surveySeen (sym is) ∙ told)

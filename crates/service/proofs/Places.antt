@@ -1,7 +1,7 @@
 -- The cells of the values, as a walk over the list fills them in line by line.
 use mathlib.Core.Path.{_≡_, refl, sym, ap, ap₂, _∙_, subst}
 use mathlib.Core.Bool.{cond}
-use mathlib.Core.List.{List, [], _∷_, _++_, map}
+use mathlib.Core.List.{List, [], _∷_, _++_, map, append-nil}
 use Prim.Native.Nat.{ℕ, zero, suc, _+_, _≤_, _<_}
 use native.Mathlib.Omega.{arith}
 use native.Mathlib.Nat.{add-zero}
@@ -47,16 +47,12 @@ room-for-values p s g law =
       ap (λ (q : List ℕ). length q) (law .values-first [] (pos 0)),
     )
 
-append-none : (xs : List ℕ) → xs ++ [] ≡ xs
-append-none [] = refl
-append-none (x ∷ xs) = ap (λ (ys : List ℕ). x ∷ ys) (append-none xs)
-
 -- the places with those of the new values: none, or one
 module _ (places : List ℕ) (c d : Counts) (long : length places ≡ 256) (few-values : d .values ≤ 256) where
   places-with : (es : List Ends) (cells : ℕ) → cells ≡ c .cells → c .values + length es ≡ d .values → length es ≤ 1
       → take (c .values) places ++ placesFrom cells es ≡ take (c .values + length es) (withPlace places c d)
   unfolding withPlace placesFrom
-  places-with [] cells e h k = rw (le-ltb (c .values) (d .values) (omega arith), add-zero (c .values)) (append-none (take (c .values) places))
+  places-with [] cells e h k = rw (le-ltb (c .values) (d .values) (omega arith), add-zero (c .values)) (append-nil (take (c .values) places))
   places-with (x ∷ []) cells e h k =
       rw (lt-ltb (c .values) (d .values) (omega arith), add-one (c .values), take-suc-set places (c .values) (c .cells) (omega (arith, long)), e) refl
   places-with (x ∷ (y ∷ es)) cells e h k = absurd (omega arith)

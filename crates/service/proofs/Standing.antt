@@ -128,7 +128,7 @@ module _ {list : List ℕ} {last s : Known} {left : List Line} {c : Counts} {at 
       unfolding rest
       left-is = next .2 ∙ ap (λ (l : Line). l ∷ rest) (Option·some-injective _ _ (sym (next .3) ∙ line-seen parsed is))
 
-      kept-here : Kept n s (line ∷ rest) last
+      pub kept-here : Kept n s (line ∷ rest) last
       kept-here = subst (λ (ls : List Line). Kept n s ls last) left-is (stands .kept)
 
       pub kept-after : Kept (suc n) (after s line) rest last

@@ -2,3 +2,4 @@ pub mod Walk
 pub mod Reply
 pub mod Show
 pub mod Check
+pub mod Make

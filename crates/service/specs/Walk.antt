@@ -11,6 +11,7 @@ use Rattle.meaning.specs.Line.{Line, lineOf}
 use Rattle.meaning.specs.Known.{Known}
 use Rattle.meaning.specs.Refusal.{read, reading}
 use Rattle.meaning.proofs.Kept.{Kept}
+use Rattle.meaning.proofs.Number.{OddPrime}
 use Rattle.meaning.proofs.Lines.{Sound}
 use Rattle.text.specs.Place.{linesFrom}
 use Rattle.reader.specs.State.{greatest}
@@ -36,6 +37,13 @@ pub record ListRead (list : List ℕ) : Type 0 where
   pub last : Known
   pub is-read : reading list ≡ read lines last
   pub p-most : last .p ≤ greatest
+
+-- what is counted of a list that was read
+pub record Listed (list : List ℕ) (p : ℕ) (c : Counts) : Type 0 where
+  pub listed : ListRead list
+  pub prime : listed .last .p ≡ p
+  pub odd : OddPrime p
+  pub counts-are : Counted (listed .last) c
 
 -- before line n, which starts at `at`: s is known, the lines in left are still to come, and last is known at the end of the list
 pub record Stands (list : List ℕ) (last s : Known) (left : List Line) (c : Counts) (at n : ℕ) : Type 0 where

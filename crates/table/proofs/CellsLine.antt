@@ -1,19 +1,19 @@
 -- The cells that are written for a line of each kind are those that its gadget has for the values before it.
-use mathlib.Core.Path.{_≡_, refl, sym, ap, ap₂, subst, _∙_}
+use mathlib.Core.Path.{_≡_, refl, sym, ap, subst, _∙_}
 use mathlib.Core.Bool.{false}
 use mathlib.Core.List.{List, [], _∷_, _++_}
 use Prim.Native.Nat.{ℕ, suc, _+_, _*_, _≤_, _<_}
 use native.Mathlib.Omega.{arith}
-use lib.Dec.{leb→le}
 use lib.IntN.{ℤ, pos, _-ℤ_}
 use lib.ListN.{length, getD, take, drop}
 use lib.Seq.{drop-cons}
 use Rattle.meaning.specs.Line.{Word, field, input, span, sum, relu, which, max, root}
 use Rattle.meaning.specs.Number.{remainder}
-use Rattle.meaning.specs.Known.{larger}
+use Rattle.meaning.specs.Known.{Known, larger}
 use Rattle.meaning.specs.Meaning.{byWord, gadget}
-use Rattle.meaning.specs.Refusal.{valueLimit, isField}
-use Rattle.meaning.specs.Gadget.Digits.{groupCells}
+use Rattle.meaning.specs.Refusal.{isField}
+use Rattle.meaning.specs.Gadget.Interface.{Gadget}
+use Rattle.meaning.specs.Gadget.Digits.{groupCells, valueAt}
 use Rattle.meaning.specs.Gadget.Field.{fieldLine}
 use Rattle.meaning.specs.Gadget.Input.{inputLine}
 use Rattle.meaning.specs.Gadget.Span.{spanLine}
@@ -24,12 +24,13 @@ use Rattle.meaning.specs.Gadget.Which.{whichValue, whichLine}
 use Rattle.meaning.specs.Gadget.Max.{maxLine}
 use Rattle.meaning.specs.Gadget.Root.{rootLine}
 use Rattle.meaning.proofs.Number.{OddPrime}
-use Rattle.table.specs.Cells.{maxCells, rootCells}
+use Rattle.table.specs.Cells.{maxCells, rootCells, sumOf}
 use Rattle.table.specs.Line.{KeptLine, gadgetOf, knownCount}
 use Rattle.table.specs.LineValues.{CellsAsked, CellsTold}
-use Rattle.table.proofs.LineNumbers.{NameAt, number-is, size-is, prime-is}
-use Rattle.table.proofs.LineValues.{size, named, one-read, two-read}
-use Rattle.table.proofs.WorksLine.{span-name, relu-name, root-name, which-first, which-second, max-first, max-second}
+use Rattle.table.proofs.LineNumbers.{size, NameAt, prime-is, made-fit}
+use Rattle.table.proofs.LineKinds.{OneWord, one-name, one-is, TwoWord, two-first, two-second, two-is}
+use Rattle.table.proofs.LineKinds.{span-word, relu-word, which-word, max-word, root-word}
+use Rattle.table.proofs.LineValues.{named, value-named}
 
 module _ {p : ℕ} {w : Word} {numbers : List ℤ} {count : ℕ} {values : List ℤ} {known : ℕ} {part : List ℕ}
     (a : CellsAsked p w numbers count values known part) where
@@ -39,78 +40,65 @@ module _ {p : ℕ} {w : Word} {numbers : List ℤ} {count : ℕ} {values : List 
   name-known : {i : ℕ} → NameAt (knownCount (a .asked .kept)) numbers i → size numbers i < known
   name-known name = omega (arith, name .below, a .known-are)
 
--- ---- the room
+  -- the room for the cells of a line that names one value, and of one that names two
+  pub one-room : {line : Known → (v b k : ℕ) → Gadget} (word : OneWord w numbers count line) {b k : ℕ} → b ≡ size numbers 1
+      → k ≡ size numbers 2 → line (a .asked .kept .state) (size numbers 0) b k .width ≤ length part
+  one-room word base digits = subst (λ (g : Gadget). g .width ≤ length part) (one-is (a .asked .kept) word base digits) (a .room)
 
-module _ {p : ℕ} {numbers values : List ℤ} {known : ℕ} {part : List ℕ} {k : ℕ} where
-  pub span-room : CellsAsked p span numbers 4 values known part → k ≡ size numbers 2 → k ≤ length part
-  unfolding gadget byWord spanLine
-  span-room a digits = rw (digits, ← size-is (a .asked .kept) 2 (omega arith)) (a .room)
-
-  pub relu-room : CellsAsked p relu numbers 3 values known part → k ≡ size numbers 2 → k + 3 ≤ length part
-  unfolding gadget byWord reluLine
-  relu-room a digits = rw (digits, ← size-is (a .asked .kept) 2 (omega arith)) (a .room)
-
-  pub root-room : CellsAsked p root numbers 3 values known part → k ≡ size numbers 2 → 2 + 4 * k ≤ length part
-  unfolding gadget byWord rootLine
-  root-room a digits = rw (digits, ← size-is (a .asked .kept) 2 (omega arith)) (a .room)
-
-  pub which-room : CellsAsked p which numbers 4 values known part → k ≡ size numbers 3 → k + 3 ≤ length part
-  unfolding gadget byWord whichLine
-  which-room a digits = rw (digits, ← size-is (a .asked .kept) 3 (omega arith)) (a .room)
-
-  pub max-room : CellsAsked p max numbers 4 values known part → k ≡ size numbers 3 → suc (2 * k) ≤ length part
-  unfolding gadget byWord maxLine
-  max-room a digits = rw (digits, ← size-is (a .asked .kept) 3 (omega arith)) (a .room)
+  pub two-room : {line : Known → (u v b k : ℕ) → Gadget} (word : TwoWord w numbers count line) {b k : ℕ} → b ≡ size numbers 2
+      → k ≡ size numbers 3 → line (a .asked .kept .state) (size numbers 0) (size numbers 1) b k .width ≤ length part
+  two-room word base digits = subst (λ (g : Gadget). g .width ≤ length part) (two-is (a .asked .kept) word base digits) (a .room)
 
 -- ---- one value, and a digit group
 
 module _ {numbers values : List ℤ} {v : ℤ} {b k : ℕ} (value : v ≡ named numbers 0 values) (base : b ≡ size numbers 1)
     (digits : k ≡ size numbers 2) {p known : ℕ} {part after : List ℕ} where
+  -- the cells of the line's gadget over v are those of the line
+  one-written : {w : Word} {count : ℕ} {line : Known → (n b k : ℕ) → Gadget} → OneWord w numbers count line
+      → ((s : Known) (n : ℕ) (vs : List ℤ) (next : ℤ) → s .p ≡ p → valueAt vs n ≡ v
+      → after ≡ line s n b k .cells vs next ++ drop (line s n b k .width) part) → CellsTold p w numbers count values known part after
+  one-written word told a next made =
+      let l = a .asked .kept in
+      let read = value-named numbers values 0 known (name-known a (one-name l word)) in
+      rw (one-is l word base digits)
+      (told (l .state) (size numbers 0) (take known values) next (a .prime (word .has-digits .late)) (read ∙ sym value))
+
   pub relu-cells-told : after ≡ (remainder p (larger (pos 0) v) ∷ signCells p b k v) ++ drop (k + 3) part
       → CellsTold p relu numbers 3 values known part after
-  unfolding gadget byWord reluLine isField
-  relu-cells-told h a next made =
-      let read = one-read numbers values 3 known (omega arith) (name-known a (relu-name (a .asked .kept))) value base digits in
-      rw (a .prime refl, read .value-read, read .base-read, read .digits-read) h
+  unfolding reluLine
+  relu-cells-told h = one-written (relu-word numbers) (λ s n vs next p-is is. rw (p-is, is) h)
 
-  pub root-cells-told : after ≡ rootCells p b k v ++ drop (2 + 4 * k) part
-      → CellsTold p root numbers 3 values known part after
-  unfolding gadget byWord rootLine isField rootCells
-  root-cells-told h a next made =
-      let read = one-read numbers values 3 known (omega arith) (name-known a (root-name (a .asked .kept))) value base digits in
-      rw (a .prime refl, read .value-read, read .base-read, read .digits-read) h
+  pub root-cells-told : after ≡ rootCells p b k v ++ drop (2 + 4 * k) part → CellsTold p root numbers 3 values known part after
+  unfolding rootLine rootCells
+  root-cells-told h = one-written (root-word numbers) (λ s n vs next p-is is. rw (p-is, is) h)
 
   pub span-cells-told : {shift : ℤ} → shift ≡ getD numbers 3 (pos 0) → after ≡ groupCells b k v shift ++ drop k part
       → CellsTold p span numbers 4 values known part after
-  unfolding gadget byWord spanLine
-  span-cells-told e h a next made =
-      let l = a .asked .kept in
-      let read = one-read numbers values 4 known (omega arith) (name-known a (span-name l)) value base digits in
-      rw (read .value-read, read .base-read, read .digits-read, number-is l 3 (omega arith), ← e) h
+  unfolding spanLine
+  span-cells-told e h = one-written (span-word numbers) (λ s n vs next p-is is. rw (is, ← e) h)
 
 -- ---- two values, and a digit group
 
 module _ {numbers values : List ℤ} {u v : ℤ} {b k : ℕ} (first : u ≡ named numbers 0 values) (second : v ≡ named numbers 1 values)
     (base : b ≡ size numbers 2) (digits : k ≡ size numbers 3) {p known : ℕ} {part after : List ℕ} where
+  two-written : {w : Word} {count : ℕ} {line : Known → (m n b k : ℕ) → Gadget} → TwoWord w numbers count line
+      → ((s : Known) (m n : ℕ) (vs : List ℤ) (next : ℤ) → s .p ≡ p → valueAt vs m ≡ u → valueAt vs n ≡ v
+      → after ≡ line s m n b k .cells vs next ++ drop (line s m n b k .width) part) → CellsTold p w numbers count values known part after
+  two-written word told a next made =
+      let l = a .asked .kept in
+      let read-u = value-named numbers values 0 known (name-known a (two-first l word)) in
+      let read-v = value-named numbers values 1 known (name-known a (two-second l word)) in
+      rw (two-is l word base digits) (told (l .state) (size numbers 0) (size numbers 1) (take known values) next
+      (a .prime (word .has-digits .late)) (read-u ∙ sym first) (read-v ∙ sym second))
+
   pub which-cells-told : after ≡ (remainder p (whichValue u v) ∷ signCells p b k (u -ℤ v)) ++ drop (k + 3) part
       → CellsTold p which numbers 4 values known part after
-  unfolding gadget byWord whichLine isField
-  which-cells-told h a next made =
-      let l = a .asked .kept in
-      let read = two-read numbers values 4 known (omega arith) (name-known a (which-first l)) (name-known a (which-second l)) first second base
-      digits in
-      rw (a .prime refl, read .first-read, read .second-read, read .base-read, read .digits-read) h
+  unfolding whichLine
+  which-cells-told h = two-written (which-word numbers) (λ s m n vs next p-is u-is v-is. rw (p-is, u-is, v-is) h)
 
-  pub max-cells-told : after ≡ maxCells p b k u v ++ drop (suc (2 * k)) part
-      → CellsTold p max numbers 4 values known part after
-  unfolding gadget byWord maxLine isField maxCells
-  max-cells-told h a next made =
-      let l = a .asked .kept in
-      let read = two-read numbers values 4 known (omega arith) (name-known a (max-first l)) (name-known a (max-second l)) first second base
-      digits in
-      let cells : gadgetOf l .cells (take known values) next ≡ maxCells p b k u v =
-      rw (a .prime refl, read .first-read, read .second-read, read .base-read, read .digits-read) refl in
-      h ∙ sym (ap₂ (λ (cs : List ℕ) (n : ℕ). cs ++ drop (suc (2 * n)) part) cells (read .digits-read))
+  pub max-cells-told : after ≡ maxCells p b k u v ++ drop (suc (2 * k)) part → CellsTold p max numbers 4 values known part after
+  unfolding maxLine maxCells
+  max-cells-told h = two-written (max-word numbers) (λ s m n vs next p-is u-is v-is. rw (p-is, u-is, v-is) h)
 
 -- ---- lines without a digit group
 
@@ -118,46 +106,41 @@ pub field-cells-told : (p : ℕ) (numbers values : List ℤ) (known : ℕ) (part
 unfolding gadget byWord fieldLine
 field-cells-told p numbers values known part a next made = refl
 
-made-fit : {w : Word} {numbers : List ℤ} {count : ℕ} (l : KeptLine w numbers count) → knownCount l + length (gadgetOf l .made) ≤ 256
-unfolding valueLimit
-made-fit l = leb→le (knownCount l + length (gadgetOf l .made)) 256 (l .keeps .values-fit)
+-- a gadget that makes one value, whose cell is the line's only one
+pub record OneCell (p : ℕ) (g : Gadget) : Type 0 where
+  pub one-made : length (g .made) ≡ 1
+  pub one-wide : g .width ≡ 1
+  pub value : (vs : List ℤ) (next : ℤ) → ℤ
+  pub values-are : (vs : List ℤ) (next : ℤ) → g .values vs next ≡ value vs next ∷ []
+  pub cells-are : (vs : List ℤ) (next : ℤ) → g .cells vs next ≡ remainder p (value vs next) ∷ []
 
--- the one value that a line makes stands in values at known
-made-at : (values : List ℤ) (known : ℕ) {x : ℤ} → known < length values → x ∷ [] ≡ take 1 (drop known values)
-    → x ≡ getD values known (pos 0)
-made-at values known h e =
-    ap (λ (l : List ℤ). getD l 0 (pos 0)) (e ∙ ap (take 1) (drop-cons values known (pos 0) h))
+pub input-cell : {numbers : List ℤ} (l : KeptLine input numbers 0) → OneCell (l .state .p) (gadgetOf l)
+unfolding gadget byWord inputLine
+input-cell l = record { one-made = refl; one-wide = refl; value = λ vs next. next; values-are = λ vs next. refl; cells-are = λ vs next. refl }
 
-module _ {p : ℕ} {numbers : List ℤ} {values : List ℤ} {known : ℕ} {part : List ℕ} where
-  pub input-known : CellsAsked p input numbers 0 values known part → known < length values
-  unfolding gadget byWord inputLine
-  input-known a =
-      let l = a .asked .kept in
-      let fit : knownCount l + 1 ≤ 256 = made-fit l in
-      omega (arith, fit, a .known-are, a .asked .values-long)
+pub sum-cell : {numbers : List ℤ} {count : ℕ} (l : KeptLine sum numbers count) → OneCell (l .state .p) (gadgetOf l)
+unfolding gadget byWord sumLine
+sum-cell {numbers} {count} l = record {
+  one-made = refl;
+  one-wide = refl;
+  value = λ vs next. sumOf (take count numbers) vs;
+  values-are = λ vs next. refl;
+  cells-are = λ vs next. refl;
+}
 
-  pub input-room : CellsAsked p input numbers 0 values known part → 0 < length part
-  unfolding gadget byWord inputLine
-  input-room a = a .room
+module _ {p : ℕ} {w : Word} {numbers : List ℤ} {count : ℕ} {values : List ℤ} {known : ℕ} {part : List ℕ}
+    (cell : (l : KeptLine w numbers count) → OneCell (l .state .p) (gadgetOf l)) where
+  -- the value stands in values at known
+  pub own-known : CellsAsked p w numbers count values known part → known < length values
+  own-known a = omega (arith, made-fit (a .asked .kept), cell (a .asked .kept) .one-made, a .known-are, a .asked .values-long)
 
-  pub input-cells-told : {after : List ℕ} {x : ℤ} → x ≡ getD values known (pos 0) → after ≡ remainder p x ∷ drop 1 part
-      → CellsTold p input numbers 0 values known part after
-  unfolding gadget byWord inputLine isField
-  input-cells-told e h a next made = rw (a .prime refl, made-at values known (input-known a) made, ← e) h
+  pub own-room : CellsAsked p w numbers count values known part → 0 < length part
+  own-room a = omega (arith, a .room, cell (a .asked .kept) .one-wide)
 
-module _ {p : ℕ} {numbers : List ℤ} {count : ℕ} {values : List ℤ} {known : ℕ} {part : List ℕ} where
-  pub sum-known : CellsAsked p sum numbers count values known part → known < length values
-  unfolding gadget byWord sumLine
-  sum-known a =
-      let l = a .asked .kept in
-      let fit : knownCount l + 1 ≤ 256 = made-fit l in
-      omega (arith, fit, a .known-are, a .asked .values-long)
-
-  pub sum-room : CellsAsked p sum numbers count values known part → 0 < length part
-  unfolding gadget byWord sumLine
-  sum-room a = a .room
-
-  pub sum-cells-told : {after : List ℕ} {x : ℤ} → x ≡ getD values known (pos 0) → after ≡ remainder p x ∷ drop 1 part
-      → CellsTold p sum numbers count values known part after
-  unfolding gadget byWord sumLine isField
-  sum-cells-told e h a next made = rw (a .prime refl, made-at values known (sum-known a) made, ← e) h
+  pub own-cell-told : {after : List ℕ} {x : ℤ} → isField w ≡ false → x ≡ getD values known (pos 0) → after ≡ remainder p x ∷ drop 1 part
+      → CellsTold p w numbers count values known part after
+  own-cell-told late e h a next made =
+      let c = cell (a .asked .kept) in
+      let stands = rw (c .values-are (take known values) next, c .one-made, drop-cons values known (pos 0) (own-known a)) at made in
+      let own : c .value (take known values) next ≡ getD values known (pos 0) = ap (λ (l : List ℤ). getD l 0 (pos 0)) stands in
+      rw (c .cells-are (take known values) next, c .one-wide, own, a .prime late, ← e) h

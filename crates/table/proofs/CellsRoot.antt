@@ -1,21 +1,27 @@
--- The cells of a root: how great the numbers of its groups are, and the line's cells put together.
+-- The cells of a root: how great it and the numbers of its groups are, and the line's cells put together.
 use mathlib.Core.Path.{_≡_, sym}
 use mathlib.Core.List.{List, [], _∷_, _++_, append-assoc}
 use Prim.Native.Nat.{ℕ, _+_, _*_, _^_}
 use native.Mathlib.Omega.{arith}
 use lib.Dec.{lit≤}
-use lib.IntN.{ℤ, pos, _+ℤ_, _-ℤ_, _*ℤ_}
+use lib.IntN.{ℤ, pos, natAbs, _+ℤ_, _-ℤ_, _*ℤ_}
 use lib.ListN.{length, length-append}
 use mir.Syntax.{w64}
 use mir.Val.{SFits}
 use Rattle.algebra.specs.Congruence.{remainder}
+use Rattle.algebra.proofs.Root.{root-below}
 use Rattle.meaning.specs.Gadget.Digits.{groupCells}
 use Rattle.meaning.specs.Gadget.Root.{rootValue}
 use Rattle.meaning.proofs.Group.{length-group}
 use Rattle.number.specs.Bounded.{Bounded}
 use Rattle.number.proofs.Bounded.{bounded-more, bounded-sum, bounded-difference, bounded-product, bounded-fits}
 use Rattle.table.specs.Cells.{restCells, rootCells}
-use Rattle.table.proofs.WorksWhole.{pos-bounded}
+use Rattle.table.proofs.Whole.{pos-bounded}
+
+-- a root is as small as the value that it is of
+pub root-bounded : {bound : ℕ} {v : ℤ} → Bounded bound v → Bounded bound (rootValue v)
+unfolding rootValue
+root-bounded {bound} {v} s = record { size = omega (arith, s .size, root-below (natAbs v)) }
 
 module _ {r : ℤ} (small : Bounded (2 ^ 30) r) where
   square-bounded : Bounded (2 ^ 60) (r *ℤ r)

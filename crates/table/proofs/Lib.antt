@@ -1,24 +1,29 @@
+-- whole numbers and machine words
+pub mod Whole
+pub mod SignPower
+-- a line: its word, its numbers, and the values that they name
+pub mod LineWord
+pub mod LineNumbers
+pub mod LineKinds
+pub mod LineValues
+pub mod LineSum
+-- working a line
+pub mod WorksAnswer
+pub mod WorksSum
+pub mod WorksSumFits
+pub mod WorksLine
+-- writing its cells
 pub mod CellsPart
 pub mod CellsGroup
 pub mod CellsSign
 pub mod CellsRoot
 pub mod CellsLine
-pub mod LineWord
-pub mod WorksWhole
-pub mod WorksValue
-pub mod WorksAnswer
-pub mod WorksSign
-pub mod WorksSum
-pub mod WorksSumFits
-pub mod LineNumbers
-pub mod LineKinds
-pub mod LineValues
-pub mod WorksLine
+-- checking its rows
 pub mod RowsFirst
 pub mod RowsForm
 pub mod RowsGroup
 pub mod RowsSign
 pub mod RowsMax
 pub mod RowsRoot
-pub mod RowsSum
 pub mod RowsLine
+pub mod RowsSum

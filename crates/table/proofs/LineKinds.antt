@@ -5,7 +5,7 @@ use mathlib.Core.Bool.{false}
 use mathlib.Core.List.{List, [], _∷_}
 use Prim.Native.Nat.{ℕ, suc, _≤_, _<_}
 use native.Mathlib.Omega.{arith}
-use lib.IntN.{ℤ, pos, natAbs}
+use lib.IntN.{ℤ, pos}
 use lib.ListN.{length, getD, take}
 use lib.Seq.{getD-take}
 use lib.Signed.{_≤ℤ_}
@@ -21,7 +21,7 @@ use Rattle.meaning.specs.Meaning.{byWord, gadget}
 use Rattle.meaning.specs.Refusal.{isField}
 use Rattle.reader.specs.State.{greatest}
 use Rattle.table.specs.Line.{KeptLine, gadgetOf, knownCount}
-use Rattle.table.proofs.LineNumbers.{NameAt, first-name, second-name, DigitsFrom, digits-from, size-is}
+use Rattle.table.proofs.LineNumbers.{size, NameAt, first-name, second-name, DigitsFrom, digits-from, size-is}
 
 -- a base stands at place i and its digit count after it
 pub record DigitWord (w : Word) (numbers : List ℤ) (count i : ℕ) : Type 0 where
@@ -78,7 +78,7 @@ module _ {w : Word} {numbers : List ℤ} {count : ℕ} (l : KeptLine w numbers c
     word-digits = digits-from l i (word .long) (word .late) (word .digits)
 
     -- as `base_at` and `size_at` ask
-    pub base-asked : (i < length numbers) × (pos 0 ≤ℤ getD numbers i (pos 0)) × (natAbs (getD numbers i (pos 0)) ≤ greatest)
+    pub base-asked : (i < length numbers) × (pos 0 ≤ℤ getD numbers i (pos 0)) × (size numbers i ≤ greatest)
     base-asked = let d = word-digits in (d .base-inside, d .base-natural, d .base-most)
 
     pub count-asked : (suc i < length numbers) × (pos 0 ≤ℤ getD numbers (suc i) (pos 0))
@@ -88,8 +88,8 @@ module _ {w : Word} {numbers : List ℤ} {count : ℕ} (l : KeptLine w numbers c
     pub one-name : NameAt (knownCount l) numbers 0
     one-name = first-name l 0 [] (omega (arith, word .has-digits .long)) (word .names)
 
-    pub one-is : {b k : ℕ} → b ≡ natAbs (getD numbers 1 (pos 0)) → k ≡ natAbs (getD numbers 2 (pos 0))
-        → gadgetOf l ≡ line (l .state) (natAbs (getD numbers 0 (pos 0))) b k
+    pub one-is : {b k : ℕ} → b ≡ size numbers 1 → k ≡ size numbers 2
+        → gadgetOf l ≡ line (l .state) (size numbers 0) b k
     unfolding gadget
     one-is b-is k-is =
         let h = word .has-digits .long in
@@ -102,8 +102,8 @@ module _ {w : Word} {numbers : List ℤ} {count : ℕ} (l : KeptLine w numbers c
     pub two-second : NameAt (knownCount l) numbers 1
     two-second = second-name l 1 _ [] (omega (arith, word .has-digits .long)) (word .names)
 
-    pub two-is : {b k : ℕ} → b ≡ natAbs (getD numbers 2 (pos 0)) → k ≡ natAbs (getD numbers 3 (pos 0))
-        → gadgetOf l ≡ line (l .state) (natAbs (getD numbers 0 (pos 0))) (natAbs (getD numbers 1 (pos 0))) b k
+    pub two-is : {b k : ℕ} → b ≡ size numbers 2 → k ≡ size numbers 3
+        → gadgetOf l ≡ line (l .state) (size numbers 0) (size numbers 1) b k
     unfolding gadget
     two-is b-is k-is =
         let h = word .has-digits .long in

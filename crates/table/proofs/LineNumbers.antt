@@ -1,23 +1,22 @@
 -- What the rules say of the numbers of a line that keeps them, one law for all words: a place where a name stands, a place where a base
 -- and its digit count stand, the count of the numbers, p, and the values before the line.
-use mathlib.Core.Path.{_≡_, sym, ap, subst, _∙_}
+use mathlib.Core.Path.{_≡_, ap}
 use mathlib.Core.Bool.{Bool, true, false, _&&_}
 use mathlib.Core.List.{List, [], _∷_}
-use Prim.Native.Nat.{ℕ, zero, suc, _+_, _-_, _*_, _^_, _≤_, _<_}
+use Prim.Native.Nat.{ℕ, suc, _+_, _*_, _^_, _≤_, _<_}
 use native.Mathlib.Omega.{arith}
 use native.Mathlib.Nat.{mul-le-mul-right, one-mul}
-use lib.Dec.{T, eqb, leb, ltb, eqb→eq, leb→le, ltb→lt}
-use lib.IntN.{ℤ, pos, negsuc, natAbs, _+ℤ_, _-ℤ_}
+use lib.Dec.{T, leb, ltb, leb→le}
+use lib.IntN.{ℤ, pos, natAbs}
 use lib.ListN.{length, getD, take}
 use lib.Seq.{getD-take}
-use lib.Signed.{_≤ℤ_, leZ, nonNeg}
-use Rattle.algebra.proofs.Test.{left, right, ≡-test, test-≡}
-use Rattle.algebra.proofs.Integer.Order.{integer}
+use lib.Signed.{_≤ℤ_, nonNeg}
+use Rattle.algebra.proofs.Test.{left, right, test-≡}
 use Rattle.algebra.proofs.Integer.Linear.{linear}
-use Rattle.meaning.specs.Number.{half, lowest, highest, inRange}
-use Rattle.meaning.specs.Line.{Word, field, input, span, sum, relu, which, max, root, isCount, numberAt, sizeAt}
-use Rattle.meaning.specs.Line.{namesOf, shiftsOf, coefficientsOf, Digits, digitsAt, digitsOf}
-use Rattle.meaning.specs.Known.{Known, Ends, endsOf, apart, above, digitRule}
+use Rattle.meaning.specs.Number.{half, lowest, highest}
+use Rattle.meaning.specs.Line.{Word, field, input, span, sum, relu, which, max, root, numberAt, sizeAt}
+use Rattle.meaning.specs.Line.{namesOf, Digits, digitsAt, digitsOf}
+use Rattle.meaning.specs.Known.{Known, endsOf, apart, above, digitRule}
 use Rattle.meaning.specs.Gadget.Digits.{valueAt}
 use Rattle.meaning.specs.Gadget.Sign.{signShift}
 use Rattle.meaning.specs.Gadget.Span.{spanLine}
@@ -26,31 +25,35 @@ use Rattle.meaning.specs.Gadget.Which.{whichLine}
 use Rattle.meaning.specs.Gadget.Max.{maxLine}
 use Rattle.meaning.specs.Gadget.Root.{rootLine}
 use Rattle.meaning.specs.Meaning.{byWord, gadget}
-use Rattle.meaning.specs.Refusal.{valueLimit, all, isField, isPlaced, isMade, isDigits, isRanged}
+use Rattle.meaning.specs.Refusal.{valueLimit, all, isField, isMade, isDigits}
 use Rattle.meaning.proofs.Number.{OddPrime}
+use Rattle.meaning.proofs.Lines.{made-name, after-field}
+use Rattle.meaning.proofs.Group.{rule-power}
 use Rattle.meaning.proofs.Law.{Within, low-end, high-end, low-ranged, high-ranged}
 use Rattle.number.specs.Bounded.{Bounded}
 use Rattle.number.proofs.Bounded.{bounded-more, bounded-range}
 use Rattle.reader.specs.State.{greatest}
 use Rattle.reader.proofs.Digits.{Allowed, digits-allowed}
+use Rattle.reader.proofs.Sizes.{digits-given}
+use Rattle.reader.proofs.Steps.{not-below}
 use Rattle.table.specs.Line.{KeptLine, gadgetOf, knownCount}
+
+-- the size of the number at a place: a name, a base or a digit count, where the number is not negative
+abbrev pub size : (numbers : List ℤ) (i : ℕ) → ℕ
+size numbers i = natAbs (getD numbers i (pos 0))
 
 -- ---- names
 
-pub not-negative : (v : ℤ) → T (nonNeg v) → pos 0 ≤ℤ v
-not-negative (pos n) t = omega integer
-not-negative (negsuc n) t = absurd t
-
 pub made-is : (n : ℕ) (v : ℤ) → T (isMade n v) → (pos 0 ≤ℤ v) × (natAbs v < n)
 unfolding isMade
-made-is n v t = (not-negative v (left (nonNeg v) (ltb (natAbs v) n) t), ltb→lt (natAbs v) n (right (nonNeg v) (ltb (natAbs v) n) t))
+made-is n v t = (not-below v (left (nonNeg v) (ltb (natAbs v) n) t), made-name n v t)
 
 -- the number at a place names one of the first n values
 pub record NameAt (n : ℕ) (numbers : List ℤ) (i : ℕ) : Type 0 where
   pub inside : i < length numbers
   pub natural : pos 0 ≤ℤ getD numbers i (pos 0)
-  pub below : natAbs (getD numbers i (pos 0)) < n
-  pub most : natAbs (getD numbers i (pos 0)) < 256
+  pub below : size numbers i < n
+  pub most : size numbers i < 256
 
 -- ---- bases and digit counts
 
@@ -58,25 +61,18 @@ pub record NameAt (n : ℕ) (numbers : List ℤ) (i : ℕ) : Type 0 where
 pub record DigitsFrom (numbers : List ℤ) (i : ℕ) : Type 0 where
   pub base-inside : i < length numbers
   pub base-natural : pos 0 ≤ℤ getD numbers i (pos 0)
-  pub base-two : 2 ≤ natAbs (getD numbers i (pos 0))
-  pub base-most : natAbs (getD numbers i (pos 0)) ≤ greatest
+  pub base-two : 2 ≤ size numbers i
+  pub base-most : size numbers i ≤ greatest
   pub count-inside : suc i < length numbers
   pub count-natural : pos 0 ≤ℤ getD numbers (suc i) (pos 0)
-  pub count-one : 1 ≤ natAbs (getD numbers (suc i) (pos 0))
-  pub count-most : natAbs (getD numbers (suc i) (pos 0)) ≤ 31
-  pub power-most : natAbs (getD numbers i (pos 0)) ^ natAbs (getD numbers (suc i) (pos 0)) ≤ greatest
+  pub count-one : 1 ≤ size numbers (suc i)
+  pub count-most : size numbers (suc i) ≤ 31
+  pub power-most : size numbers i ^ size numbers (suc i) ≤ greatest
 
 -- c = b ^ k is at most m, for each base and digit count of a line
 unfoldable Powers : ℕ → List Digits → Type 0
 Powers m [] = Unit {0}
 Powers m (d ∷ ds) = (natAbs (d .b) ^ natAbs (d .k) ≤ m) × Powers m ds
-
-power-ruled : (p b k : ℕ) (es : Ends) (L : ℤ) → T (digitRule p b k es L) → b ^ k ≤ p
-unfolding digitRule
-power-ruled p b k es L t =
-    let high : Bool = leZ (es .F -ℤ L) (pos (p - 1)) in
-    let low : Bool = leZ (L +ℤ pos (b ^ k - 1) -ℤ es .E) (pos (p - 1)) in
-    leb→le (b ^ k) p (left (leb (b ^ k) p) high (left (leb (b ^ k) p && high) low t))
 
 power-rooted : (p c : ℕ) → 3 ≤ p → T (leb 3 c && leb (c * c) (half p + 1)) → c ≤ p
 unfolding half
@@ -90,57 +86,46 @@ powers-ruled : (w : Word) (s : Known) (ns : List ℤ) → 3 ≤ s .p → T (byWo
 unfolding Powers digitsOf digitsAt byWord spanLine reluLine whichLine maxLine rootLine sizeAt
 powers-ruled field s ns h t = tt
 powers-ruled input s ns h t = tt
-powers-ruled span s ns h t = (power-ruled (s .p) (sizeAt ns 1) (sizeAt ns 2) (endsOf s (sizeAt ns 0)) (numberAt ns 3) t, tt)
+powers-ruled span s ns h t = (rule-power (s .p) (sizeAt ns 1) (sizeAt ns 2) (endsOf s (sizeAt ns 0)) (numberAt ns 3) t, tt)
 powers-ruled sum s ns h t = tt
-powers-ruled relu s ns h t = (power-ruled (s .p) (sizeAt ns 1) (sizeAt ns 2) (endsOf s (sizeAt ns 0)) (signShift (sizeAt ns 1) (sizeAt ns 2)) t, tt)
+powers-ruled relu s ns h t = (rule-power (s .p) (sizeAt ns 1) (sizeAt ns 2) (endsOf s (sizeAt ns 0)) (signShift (sizeAt ns 1) (sizeAt ns 2)) t, tt)
 powers-ruled which s ns h t =
     let es = apart (endsOf s (sizeAt ns 0)) (endsOf s (sizeAt ns 1)) in
-    (power-ruled (s .p) (sizeAt ns 2) (sizeAt ns 3) es (signShift (sizeAt ns 2) (sizeAt ns 3)) t, tt)
+    (rule-power (s .p) (sizeAt ns 2) (sizeAt ns 3) es (signShift (sizeAt ns 2) (sizeAt ns 3)) t, tt)
 powers-ruled max s ns h t =
     let es = above (endsOf s (sizeAt ns 0)) (endsOf s (sizeAt ns 1)) in
     let fs = above (endsOf s (sizeAt ns 1)) (endsOf s (sizeAt ns 0)) in
     let b : ℕ = sizeAt ns 2 in
     let k : ℕ = sizeAt ns 3 in
-    (power-ruled (s .p) b k es (pos 0) (left (digitRule (s .p) b k es (pos 0)) (digitRule (s .p) b k fs (pos 0)) t), tt)
+    (rule-power (s .p) b k es (pos 0) (left (digitRule (s .p) b k es (pos 0)) (digitRule (s .p) b k fs (pos 0)) t), tt)
 powers-ruled root s ns h t = (power-rooted (s .p) (sizeAt ns 1 ^ sizeAt ns 2) h t, tt)
 
 -- ---- the line
-
--- a line that is not a field line comes after line 0
-placed-later : (n : ℕ) (w : Word) → isField w ≡ false → T (isPlaced n w) → 0 < n
-unfolding isPlaced
-placed-later zero w e t = absurd (subst T e t)
-placed-later (suc n) w e t = omega arith
 
 module _ {w : Word} {numbers : List ℤ} {count : ℕ} (l : KeptLine w numbers count) where
   abbrev ns : List ℤ
   ns = take count numbers
 
-  pub number-is : (i : ℕ) → i < count → numberAt (take count numbers) i ≡ getD numbers i (pos 0)
+  number-is : (i : ℕ) → i < count → numberAt (take count numbers) i ≡ getD numbers i (pos 0)
   unfolding numberAt
   number-is i h = getD-take count numbers i (pos 0) h
 
-  pub size-is : (i : ℕ) → i < count → sizeAt (take count numbers) i ≡ natAbs (getD numbers i (pos 0))
+  pub size-is : (i : ℕ) → i < count → sizeAt (take count numbers) i ≡ size numbers i
   unfolding sizeAt
   size-is i h = ap natAbs (number-is i h)
 
-  -- a word that is followed by n numbers and no other count
-  pub count-is : (n : ℕ) → isCount w count ≡ eqb count n → count ≡ n
-  count-is n e = eqb→eq count n (≡-test (eqb count n) (sym e ∙ l .counted))
+  -- there is room for the values before the line and its own
+  pub made-fit : knownCount l + length (gadgetOf l .made) ≤ 256
+  unfolding valueLimit
+  made-fit = leb→le (knownCount l + length (gadgetOf l .made)) 256 (l .keeps .values-fit)
 
   pub values-most : knownCount l ≤ 256
-  unfolding valueLimit
-  values-most =
-      let fit = leb→le (knownCount l + length (gadgetOf l .made)) valueLimit (l .keeps .values-fit) in
-      omega (arith, fit)
+  values-most = omega (arith, made-fit)
 
   -- ---- p
 
-  pub later : isField w ≡ false → 0 < l .line
-  later e = placed-later (l .line) w e (l .keeps .placed)
-
   pub prime-is : isField w ≡ false → OddPrime (l .state .p)
-  prime-is e = l .sound .prime (later e)
+  prime-is e = l .sound .prime (after-field (l .line) w e (l .keeps .placed))
 
   pub half-most : isField w ≡ false → half (l .state .p) ≤ 2 ^ 30
   unfolding half greatest
@@ -177,12 +162,9 @@ module _ {w : Word} {numbers : List ℤ} {count : ℕ} (l : KeptLine w numbers c
 
   module _ (i : ℕ) (inside : suc i < count) (late : isField w ≡ false) (is : digitsOf w (take count numbers) ≡ digitsAt (take count numbers) i) where
     allowed : Allowed (numberAt ns i) (numberAt ns (suc i))
-    unfolding isRanged digitsAt all
+    unfolding digitsAt all
     allowed =
-        let first : Bool = all isDigits (digitsOf w ns) in
-        let second : Bool = all (inRange (l .state .p)) (shiftsOf w ns) in
-        let third : Bool = all (inRange (l .state .p)) (coefficientsOf w ns) in
-        let t : T (all isDigits (digitsAt ns i)) = rw is at (left first second (left (first && second) third (l .keeps .ranged))) in
+        let t = digits-given (l .state .p) i w ns is (l .keeps .ranged) in
         digits-allowed (numberAt ns i) (numberAt ns (suc i)) (test-≡ _ (left (isDigits (record { b = numberAt ns i; k = numberAt ns (suc i) })) true t))
 
     power : natAbs (numberAt ns i) ^ natAbs (numberAt ns (suc i)) ≤ l .state .p
@@ -197,14 +179,14 @@ module _ {w : Word} {numbers : List ℤ} {count : ℕ} (l : KeptLine w numbers c
         let base = number-is i (omega arith) in
         let digits = number-is (suc i) inside in
         let a : Allowed (getD numbers i (pos 0)) (getD numbers (suc i) (pos 0)) = rw (base, digits) at allowed in
-        let c : natAbs (getD numbers i (pos 0)) ^ natAbs (getD numbers (suc i) (pos 0)) ≤ l .state .p = rw (base, digits) at power in
+        let c : size numbers i ^ size numbers (suc i) ≤ l .state .p = rw (base, digits) at power in
         record {
           base-inside = omega (arith, l .numbers-long, l .few, inside);
-          base-natural = not-negative (getD numbers i (pos 0)) (a .base-counts);
+          base-natural = not-below (getD numbers i (pos 0)) (a .base-counts);
           base-two = a .base;
           base-most = l .small i (omega arith);
           count-inside = omega (arith, l .numbers-long, l .few, inside);
-          count-natural = not-negative (getD numbers (suc i) (pos 0)) (a .count-counts);
+          count-natural = not-below (getD numbers (suc i) (pos 0)) (a .count-counts);
           count-one = a .one;
           count-most = a .most;
           power-most = omega (arith, c, l .p-most late);

@@ -3,11 +3,11 @@ use mathlib.Core.Path.{_≡_, refl, sym, ap, _∙_}
 use mathlib.Core.List.{List, [], _∷_, _++_}
 use mathlib.Core.Bool.{cond}
 use mathlib.Core.Option.{Option, none, some}
-use Prim.Native.Nat.{ℕ, zero, suc, _+_, _-_, _*_, _/_, _%_, _≤_, _<_}
+use Prim.Native.Nat.{ℕ, suc, _+_, _-_, _*_, _/_, _%_, _≤_, _<_}
 use native.Mathlib.Omega.{arith}
-use native.Mathlib.Nat.{mul-zero, one-mul, zero-mod, div-add-mod, add-mul-mod-self-left}
-use lib.ListN.{length, getD, length-append}
-use lib.IntN.{ℤ, pos, _-ℤ_}
+use native.Mathlib.Nat.{one-mul, zero-mod, div-add-mod, add-mul-mod-self-left}
+use lib.ListN.{length, getD}
+use lib.IntN.{ℤ, _-ℤ_}
 use lib.Dec.{eqb}
 use borrow.Author.Tests.{lt-ltb, le-ltb}
 use Rattle.algebra.specs.Digits.{value}
@@ -15,13 +15,10 @@ use Rattle.meaning.specs.Number.{remainder}
 use Rattle.meaning.specs.Row.{Form, Row, constant, _⊖_, _≅_, eval, holds, digitRows, placeValues, group}
 use Rattle.meaning.specs.Reply.{firstFail}
 use Rattle.meaning.proofs.Cells.{cellsAt, cellsAt-zero, cellsAt-suc}
+use Rattle.meaning.proofs.Group.{places-value}
+use Rattle.reader.proofs.Sizes.{length-digitRows, length-groupRows}
 use Rattle.table.specs.Rows.{Leaves, firstOf}
 use Rattle.table.proofs.RowsFirst.{first-none, first-row, first-rows}
-
-pub length-digits : (at b k : ℕ) → length (digitRows at b k) ≡ k
-unfolding digitRows
-length-digits at b zero = refl
-length-digits at b (suc k) = ap suc (length-digits (suc at) b k)
 
 -- ---- the rows of the digits from the one of number i on
 
@@ -60,12 +57,6 @@ module _ (p : ℕ) (t : List ℕ) (first at b k : ℕ) where
 unfoldable pub valueFrom : List ℕ → (at b k i : ℕ) → ℕ
 valueFrom t at b k i = value b (cellsAt t (at + i) (k - i))
 
-places-value : (t : List ℕ) (w at b k : ℕ) → at + k ≤ length t → eval t (placeValues w at b k) ≡ pos (w * value b (cellsAt t at k))
-unfolding placeValues eval value
-places-value t w at b zero h = rw (cellsAt-zero t at, mul-zero) refl
-places-value t w at b (suc k) h =
-    rw (cellsAt-suc t at k (omega arith), places-value t (w * b) (suc at) b k (omega arith)) (ap pos (omega arith))
-
 horner : (p b d v n : ℕ) → v ≡ n % p → (v * b + d) % p ≡ (d + b * n) % p
 horner p b d v n e =
     let s : d + b * n ≡ (v * b + d) + p * (b * (n / p)) = omega (arith, ap (λ m. b * m) (div-add-mod n p), ap (λ m. b * m) e) in
@@ -87,7 +78,7 @@ module _ (p : ℕ) (t : List ℕ) (at b k : ℕ) (room : at + k ≤ length t) wh
 
   pub value-all : (v : ℕ) → v < p → v ≡ valueFrom t at b k 0 % p → Leaves p t v (placeValues 1 at b k)
   unfolding valueFrom remainder
-  value-all v h e = record { below = h; is = e ∙ rw (places-value t 1 at b k room, one-mul) (whole) }
+  value-all v h e = record { below = h; is = e ∙ rw (places-value p t 1 at b k room, one-mul) (whole) }
     where
       whole : value b (cellsAt t (at + 0) (k - 0)) % p ≡ value b (cellsAt t at k) % p
       whole = let u : at + 0 ≡ at = omega arith in let w : k - 0 ≡ k = omega arith in rw (u, w) refl
@@ -101,20 +92,15 @@ pub group-answer : (p : ℕ) (t : List ℕ) (f : Form) (L : ℤ) (first at b k :
 unfolding group holds eval
 group-answer p t f L first at b k {number} {v} {r} {digits} {last} e l d s w =
     first-rows (holds p t) first (first + k) (digitRows at b k) (f ⊖ constant L ≅ placeValues 1 at b k ∷ [])
-    (omega (arith, length-digits at b k)) w d
+    (omega (arith, length-digitRows at b k)) w d
     (first-row (holds p t) (first + k) (suc (first + k)) (f ⊖ constant L ≅ placeValues 1 at b k) [] refl test s
     (first-none (holds p t) (suc (first + k))))
   where
     test : eqb number v ≡ holds p t (f ⊖ constant L ≅ placeValues 1 at b k)
     test = rw (e, ← l .is) refl
 
-pub length-group : (f : Form) (L : ℤ) (at b k : ℕ) → length (group f L at b k) ≡ suc k
-unfolding group
-length-group f L at b k =
-    omega (arith, length-append (digitRows at b k) (f ⊖ constant L ≅ placeValues 1 at b k ∷ []), length-digits at b k)
-
 -- a group, and then other rows, the first of which has the number m
 pub group-then : (p : ℕ) (t : List ℕ) (n m : ℕ) (f : Form) (L : ℤ) (at b k : ℕ) (rows : List Row) {r digits later : Option ℕ}
     → m ≡ n + suc k → r ≡ firstOf digits later → digits ≡ firstFail (holds p t) n (group f L at b k) → later ≡ firstFail (holds p t) m rows
     → r ≡ firstFail (holds p t) n (group f L at b k ++ rows)
-group-then p t n m f L at b k rows h = first-rows (holds p t) n m (group f L at b k) rows (omega (arith, length-group f L at b k))
+group-then p t n m f L at b k rows h = first-rows (holds p t) n m (group f L at b k) rows (omega (arith, length-groupRows f L at b k))

@@ -1,60 +1,28 @@
--- A line of a list that was read, as the functions that check its rows take it: its word in the code's own type, the places that its
--- names lead to, the room for its cells, and that what is told of the code's numbers is told of the line.
+-- A line of a list that was read, as the functions that check its rows take it: the places that its names lead to, the room for its
+-- cells, and that what is told of the code's numbers is told of the line.
 use mathlib.Core.Path.{_≡_, refl, sym, ap, subst, _∙_}
 use mathlib.Core.Bool.{false}
 use mathlib.Core.List.{List, []}
 use mathlib.Core.Option.{Option}
 use Prim.Native.Nat.{ℕ, _+_, _≤_, _<_}
 use native.Mathlib.Omega.{arith}
-use lib.Dec.{eqb}
-use lib.IntN.{ℤ, pos, natAbs}
+use lib.IntN.{ℤ, pos}
 use lib.ListN.{length, getD, take}
 use lib.Seq.{getD-take}
 use lib.Signed.{_≤ℤ_}
-use Rattle.meaning.specs.Line.{Word, isCount}
+use Rattle.meaning.specs.Line.{Word}
 use Rattle.meaning.specs.Known.{Known, placeOf}
 use Rattle.meaning.specs.Row.{holds}
 use Rattle.meaning.specs.Reply.{firstFail}
 use Rattle.meaning.specs.Gadget.Interface.{Gadget}
 use Rattle.meaning.specs.Meaning.{byWord, gadget}
 use Rattle.meaning.specs.Refusal.{isField}
-use Rattle.text.specs.Word.{wordOf}
-use Rattle.text.specs.declared.Word.{Word as CodeWord}
-use Rattle.reader.proofs.Sizes.{count-is}
 use Rattle.table.specs.Rows.{rowsSeen}
 use Rattle.table.specs.Line.{gadgetOf, knownCount}
 use Rattle.table.specs.LineRows.{RowsAsked, RowsTold}
-use Rattle.table.specs.declared.rows.Rows.{Rows}
 use Rattle.table.specs.declared.rows.Rows.the-variants.{AllHold}
-use Rattle.table.proofs.LineNumbers.{NameAt, prime-is}
+use Rattle.table.proofs.LineNumbers.{size, NameAt, prime-is}
 use Rattle.table.proofs.LineKinds.{OneWord, one-name, one-is, TwoWord, two-first, two-second, two-is}
-
--- ---- a line by its word, in the code's own type
-
-module _ {p : ℕ} {v w : CodeWord} {numbers : List ℤ} {count n : ℕ} {table : List ℕ} {cells : ℕ} {places : List ℕ} (word-is : v ≡ w) where
-  same-asked : count ≡ n → RowsAsked p (wordOf v) numbers count table cells places → RowsAsked p (wordOf w) numbers n table cells places
-  same-asked e a = subst (λ (m : ℕ). RowsAsked p (wordOf w) numbers m table cells places) e
-      (subst (λ (u : CodeWord). RowsAsked p (wordOf u) numbers count table cells places) word-is a)
-
-  same-told : (r : Rows) → count ≡ n → RowsTold p (wordOf w) numbers n table cells places r → RowsTold p (wordOf v) numbers count table cells places r
-  same-told r e t = subst (λ (u : CodeWord). RowsTold p (wordOf u) numbers count table cells places r) (sym word-is)
-      (subst (λ (m : ℕ). RowsTold p (wordOf w) numbers m table cells places r) (sym e) t)
-
-module _ {p : ℕ} {v w : CodeWord} {numbers : List ℤ} {count : ℕ} {table : List ℕ} {cells : ℕ} {places : List ℕ} (word-is : v ≡ w) where
-  -- a word that may be followed by any such count
-  pub asked-as : RowsAsked p (wordOf v) numbers count table cells places → RowsAsked p (wordOf w) numbers count table cells places
-  asked-as = same-asked word-is refl
-
-  pub told-as : (r : Rows) → RowsTold p (wordOf w) numbers count table cells places r → RowsTold p (wordOf v) numbers count table cells places r
-  told-as r = same-told word-is r refl
-
-  -- a word that is followed by n numbers
-  module _ (n : ℕ) (counts : isCount (wordOf w) count ≡ eqb count n) where
-    pub asked-with : RowsAsked p (wordOf v) numbers count table cells places → RowsAsked p (wordOf w) numbers n table cells places
-    asked-with a = same-asked word-is (count-is n count word-is counts (a .kept .counted)) a
-
-    pub told-with : (r : Rows) → RowsTold p (wordOf w) numbers n table cells places r → RowsTold p (wordOf v) numbers count table cells places r
-    told-with r t a = same-told word-is r (count-is n count word-is counts (a .kept .counted)) t a
 
 -- a line that has no row
 pub no-row : (p : ℕ) (w : Word) (numbers : List ℤ) (count : ℕ) (table : List ℕ) (cells : ℕ) (places : List ℕ)
@@ -71,45 +39,45 @@ module _ {p : ℕ} {w : Word} {numbers : List ℤ} {count : ℕ} {table : List �
 
   -- the value that the number at place i names
   module _ (i : ℕ) (name : NameAt (knownCount (a .kept)) numbers i) where
-    pub name-asked : (i < length numbers) × (pos 0 ≤ℤ getD numbers i (pos 0)) × (natAbs (getD numbers i (pos 0)) < length places)
+    pub name-asked : (i < length numbers) × (pos 0 ≤ℤ getD numbers i (pos 0)) × (size numbers i < length places)
     name-asked = (name .inside, name .natural, omega (arith, name .most, a .places-long))
 
-    pub name-inside : {place : ℕ} → place ≡ getD places (natAbs (getD numbers i (pos 0))) 0 → place < length table
-    name-inside e = rw e (a .inside (natAbs (getD numbers i (pos 0))) (name .below))
+    pub name-inside : {place : ℕ} → place ≡ getD places (size numbers i) 0 → place < length table
+    name-inside e = rw e (a .inside (size numbers i) (name .below))
 
-    name-placed : {place : ℕ} → place ≡ getD places (natAbs (getD numbers i (pos 0))) 0
-        → placeOf (a .kept .state) (natAbs (getD numbers i (pos 0))) ≡ place
+    name-placed : {place : ℕ} → place ≡ getD places (size numbers i) 0
+        → placeOf (a .kept .state) (size numbers i) ≡ place
     unfolding placeOf
-    name-placed e = rw (a .places-are) (getD-take (knownCount (a .kept)) places (natAbs (getD numbers i (pos 0))) 0 (name .below) ∙ sym e)
+    name-placed e = rw (a .places-are) (getD-take (knownCount (a .kept)) places (size numbers i) 0 (name .below) ∙ sym e)
 
   -- ---- a line that names one value
 
   module _ {line : Known → (v b k : ℕ) → Gadget} (word : OneWord w numbers count line)
-      {b k : ℕ} (b-is : b ≡ natAbs (getD numbers 1 (pos 0))) (k-is : k ≡ natAbs (getD numbers 2 (pos 0))) where
-    pub one-room : cells + line (a .kept .state) (natAbs (getD numbers 0 (pos 0))) b k .width ≤ length table
+      {b k : ℕ} (b-is : b ≡ size numbers 1) (k-is : k ≡ size numbers 2) where
+    pub one-room : cells + line (a .kept .state) (size numbers 0) b k .width ≤ length table
     one-room = subst (λ (g : Gadget). cells + g .width ≤ length table) (one-is (a .kept) word b-is k-is) (a .room)
 
-    pub one-told : {place : ℕ} {seen : Option ℕ} → place ≡ getD places (natAbs (getD numbers 0 (pos 0))) 0
+    pub one-told : {place : ℕ} {seen : Option ℕ} → place ≡ getD places (size numbers 0) 0
         → ((s : Known) (v : ℕ) → s .p ≡ p → placeOf s v ≡ place → s .cells ≡ cells → seen ≡ firstFail (holds p table) 0 (line s v b k .rows))
         → seen ≡ firstFail (holds p table) 0 (gadgetOf (a .kept) .rows)
     one-told place-is told =
-        told (a .kept .state) (natAbs (getD numbers 0 (pos 0))) (a .prime (word .has-digits .late))
+        told (a .kept .state) (size numbers 0) (a .prime (word .has-digits .late))
         (name-placed 0 (one-name (a .kept) word) place-is) (a .cells-are)
         ∙ ap (λ (g : Gadget). firstFail (holds p table) 0 (g .rows)) (sym (one-is (a .kept) word b-is k-is))
 
   -- ---- a line that names two
 
   module _ {line : Known → (u v b k : ℕ) → Gadget} (word : TwoWord w numbers count line)
-      {b k : ℕ} (b-is : b ≡ natAbs (getD numbers 2 (pos 0))) (k-is : k ≡ natAbs (getD numbers 3 (pos 0))) where
-    pub two-room : cells + line (a .kept .state) (natAbs (getD numbers 0 (pos 0))) (natAbs (getD numbers 1 (pos 0))) b k .width ≤ length table
+      {b k : ℕ} (b-is : b ≡ size numbers 2) (k-is : k ≡ size numbers 3) where
+    pub two-room : cells + line (a .kept .state) (size numbers 0) (size numbers 1) b k .width ≤ length table
     two-room = subst (λ (g : Gadget). cells + g .width ≤ length table) (two-is (a .kept) word b-is k-is) (a .room)
 
     pub two-told : {place-u place-v : ℕ} {seen : Option ℕ}
-        → place-u ≡ getD places (natAbs (getD numbers 0 (pos 0))) 0 → place-v ≡ getD places (natAbs (getD numbers 1 (pos 0))) 0
+        → place-u ≡ getD places (size numbers 0) 0 → place-v ≡ getD places (size numbers 1) 0
         → ((s : Known) (u v : ℕ) → s .p ≡ p → placeOf s u ≡ place-u → placeOf s v ≡ place-v → s .cells ≡ cells
         → seen ≡ firstFail (holds p table) 0 (line s u v b k .rows))
         → seen ≡ firstFail (holds p table) 0 (gadgetOf (a .kept) .rows)
     two-told u-is v-is told =
-        told (a .kept .state) (natAbs (getD numbers 0 (pos 0))) (natAbs (getD numbers 1 (pos 0))) (a .prime (word .has-digits .late))
+        told (a .kept .state) (size numbers 0) (size numbers 1) (a .prime (word .has-digits .late))
         (name-placed 0 (two-first (a .kept) word) u-is) (name-placed 1 (two-second (a .kept) word) v-is) (a .cells-are)
         ∙ ap (λ (g : Gadget). firstFail (holds p table) 0 (g .rows)) (sym (two-is (a .kept) word b-is k-is))

@@ -17,10 +17,10 @@ use Rattle.meaning.specs.Reply.{firstFail}
 use Rattle.meaning.specs.Gadget.Sign.{signShift, signRows}
 use Rattle.meaning.specs.Gadget.Relu.{reluLine}
 use Rattle.meaning.specs.Gadget.Which.{whichLine}
+use Rattle.reader.proofs.Sizes.{length-groupRows}
 use Rattle.table.specs.Rows.{Leaves, firstOf}
 use Rattle.table.proofs.RowsFirst.{first-none, first-row, first-rows}
 use Rattle.table.proofs.RowsForm.{leaves-constant, leaves-⊖, leaves-⊗, row-test}
-use Rattle.table.proofs.RowsGroup.{length-group}
 
 -- ---- B modulo p
 
@@ -83,7 +83,7 @@ pub sign-answer : (p : ℕ) (t : List ℕ) (form : Form) (at b k : ℕ) (row : F
     → r ≡ firstOf digits later → r ≡ firstFail (holds p t) 0 (signRows form at b k row)
 unfolding signRows
 sign-answer p t form at b k row d l e =
-    first-rows (holds p t) 0 (suc k) (group form (signShift b k) at b k) _ (omega (arith, length-group form (signShift b k) at b k)) e d
+    first-rows (holds p t) 0 (suc k) (group form (signShift b k) at b k) _ (omega (arith, length-groupRows form (signShift b k) at b k)) e d
     (rw add-one at l)
 
 -- ---- the lines that have a sign

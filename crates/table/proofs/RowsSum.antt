@@ -1,53 +1,35 @@
 -- The row of a sum line: the terms one after another.
 use mathlib.Core.Path.{_≡_, refl, sym, ap, _∙_}
-use mathlib.Core.Bool.{Bool, true, cond}
+use mathlib.Core.Bool.{cond}
 use mathlib.Core.List.{List, [], _∷_}
 use mathlib.Core.Option.{Option, none, some}
-use Prim.Native.Nat.{ℕ, zero, suc, _+_, _%_, _≤_, _<_}
+use Prim.Native.Nat.{ℕ, _+_, _%_, _≤_, _<_}
 use native.Mathlib.Omega.{arith}
-use lib.Dec.{T, eqb}
+use lib.Dec.{eqb}
 use lib.IntN.{ℤ, pos, natAbs, _+ℤ_, _*ℤ_}
 use lib.Signed.{_≤ℤ_}
 use lib.ListN.{length, getD, take, drop}
-use lib.Seq.{drop-cons, drop-length, length-take-le, getD-take}
+use lib.Seq.{getD-take}
 use Rattle.meaning.specs.Number.{remainder}
 use Rattle.algebra.specs.Digits.{Below}
-use Rattle.algebra.proofs.Test.{left, right}
-use Rattle.meaning.specs.Line.{sum, numberAt, withoutFirst, alternate, namesOf}
+use Rattle.meaning.specs.Line.{sum, numberAt, withoutFirst}
 use Rattle.meaning.specs.Known.{Known, placeOf}
 use Rattle.meaning.specs.Row.{Form, cell, constant, _⊕_, _⊗_, _≅_, holds}
 use Rattle.meaning.specs.Reply.{firstFail}
 use Rattle.meaning.specs.Gadget.Sum.{termsOf, sumForm, sumLine}
 use Rattle.meaning.specs.Meaning.{byWord, gadget}
-use Rattle.meaning.specs.Refusal.{all, isField, isMade}
+use Rattle.meaning.specs.Refusal.{isField}
 use Rattle.text.specs.Word.{wordOf}
 use Rattle.reader.proofs.Steps.{sum-count}
+use Rattle.reader.proofs.SumLine.{without-drop, terms-at}
 use Rattle.table.specs.Line.{KeptLine, gadgetOf, knownCount}
 use Rattle.table.specs.LineRows.{RowsAsked}
 use Rattle.table.specs.Rows.{Leaves, NamesBelow, PlacesInside}
-use Rattle.table.proofs.LineNumbers.{made-is, values-most}
+use Rattle.table.proofs.LineNumbers.{values-most}
+use Rattle.table.proofs.LineSum.{name-made, terms-end}
 use Rattle.table.proofs.RowsLine.{p-three}
 use Rattle.table.proofs.RowsFirst.{first-none, first-row}
 use Rattle.table.proofs.RowsForm.{leaves-whole, leaves-⊕, leaves-⊗, row-test}
-
--- ---- the terms of a list of numbers, from the one of number i on
-
-terms-next : (xs : List ℤ) (i : ℕ) → i + 1 < length xs
-    → termsOf (drop i xs) ≡ record { coefficient = getD xs i (pos 0); value = natAbs (getD xs (i + 1) (pos 0)) } ∷ termsOf (drop (i + 2) xs)
-unfolding termsOf
-terms-next xs i h =
-    let e : i + 1 ≡ suc i = omega arith in
-    let f : i + 2 ≡ suc (suc i) = omega arith in
-    rw (drop-cons xs i (pos 0) (omega arith), drop-cons xs (suc i) (pos 0) (omega arith), e, f) refl
-
-terms-end : (xs : List ℤ) (i : ℕ) → i ≡ length xs → termsOf (drop i xs) ≡ []
-unfolding termsOf
-terms-end xs i h = rw (h, drop-length xs) refl
-
-without-first : (xs : List ℤ) → withoutFirst xs ≡ drop 1 xs
-unfolding withoutFirst
-without-first [] = refl
-without-first (x ∷ xs) = refl
 
 -- ---- the sum so far
 
@@ -67,7 +49,7 @@ module _ (p : ℕ) (t : List ℕ) (ns : List ℤ) (count : ℕ) (places : List �
   sum-start total h l e s n _ _ = record {
     form = constant (getD ns 0 (pos 0));
     leaves = leaves-whole p t (getD ns 0 (pos 0)) h e;
-    same = rw (without-first (take count ns), getD-take count ns 0 (pos 0) l) refl;
+    same = rw (without-drop (take count ns) 0, getD-take count ns 0 (pos 0) l) refl;
   }
 
   pub sum-next : {total factor part next place found : ℕ} (i : ℕ) → 0 < p → count ≤ length ns → SoFar total i → i + 1 < count → i % 2 ≡ 1
@@ -80,14 +62,12 @@ module _ (p : ℕ) (t : List ℕ) (ns : List ℤ) (count : ℕ) (places : List �
       let b = before s n known named in
       let coefficient = getD ns i (pos 0) in
       let value = natAbs (getD ns (i + 1) (pos 0)) in
-      let c : getD (take count ns) i (pos 0) ≡ coefficient = getD-take count ns i (pos 0) (omega arith) in
-      let d : getD (take count ns) (i + 1) (pos 0) ≡ getD ns (i + 1) (pos 0) = getD-take count ns (i + 1) (pos 0) l in
       let v : value < n = named .below (i + 1) (omega arith) l (omega arith) in
       let e : placeOf s value ≡ place = rw known (getD-take n places value 0 v ∙ sym place-is) in
       record {
         form = b .form ⊕ constant coefficient ⊗ cell place;
         leaves = leaves-⊕ (b .leaves) (leaves-⊗ (leaves-whole p t coefficient h factor-is) cell-is part-is) next-is;
-        same = b .same ∙ rw (terms-next (take count ns) i (omega (arith, length-take-le count ns r)), c, d)
+        same = b .same ∙ rw (terms-at ns count i r l)
             (ap (λ (q : ℕ). sumForm s (b .form ⊕ constant coefficient ⊗ cell q) (termsOf (drop (i + 2) (take count ns)))) e);
       }
 
@@ -98,7 +78,7 @@ module _ (p : ℕ) (t : List ℕ) (ns : List ℤ) (count : ℕ) (places : List �
   unfolding sumLine sumForm
   sum-end {total} {made} i at l before e cell-is r-is s n cells-is known named =
       let b = before s n known named in
-      let end = terms-end (take count ns) i (e ∙ sym (length-take-le count ns l)) in
+      let end = terms-end ns count l i (omega (arith, e)) in
       rw (b .same, end)
       (first-row (holds p t) 0 1 (cell at ≅ b .form) [] (omega arith) (row-test cell-is (b .leaves)) r-is (first-none (holds p t) 1)
       ∙ ap (λ (q : ℕ). firstFail (holds p t) 0 (cell q ≅ b .form ∷ [])) (sym cells-is))
@@ -122,35 +102,11 @@ pair-names ns count places cells i h l o =
 
 -- ---- the line, as a list that was read has it
 
--- a test of every other number of a list, from its first
-alternate-at : (f : ℤ → Bool) (i : ℕ) (xs : List ℤ) → i % 2 ≡ 0 → i < length xs → T (all f (alternate xs)) → T (f (getD xs i (pos 0)))
-unfolding all alternate
-alternate-at f i [] e h t = absurd (omega arith)
-alternate-at f zero (x ∷ []) e h t = left (f x) true t
-alternate-at f (suc i) (x ∷ []) e h t = absurd (omega arith)
-alternate-at f zero (x ∷ (y ∷ xs)) e h t = left (f x) (all f (alternate xs)) t
-alternate-at f (suc zero) (x ∷ (y ∷ xs)) e h t = absurd (omega arith)
-alternate-at f (suc (suc i)) (x ∷ (y ∷ xs)) e h t = alternate-at f i xs (omega arith) (omega arith) (right (f x) (all f (alternate xs)) t)
-
--- and so of those after the first two
-named-at : (f : ℤ → Bool) (i : ℕ) (xs : List ℤ) → 0 < i → i < length xs → i % 2 ≡ 0
-    → T (all f (alternate (withoutFirst (withoutFirst xs)))) → T (f (getD xs i (pos 0)))
-unfolding withoutFirst
-named-at f zero xs l h e t = absurd (omega arith)
-named-at f (suc zero) xs l h e t = absurd (omega arith)
-named-at f (suc (suc i)) [] l h e t = absurd (omega arith)
-named-at f (suc (suc i)) (x ∷ []) l h e t = absurd (omega arith)
-named-at f (suc (suc i)) (x ∷ (y ∷ xs)) l h e t = alternate-at f i xs (omega arith) (omega arith) t
-
 sum-names : {numbers : List ℤ} {count : ℕ} (l : KeptLine sum numbers count) → NamesBelow (knownCount l) numbers count
-unfolding namesOf
 sum-names {numbers} {count} l = record { natural = λ i h k e. name i h k e .0; below = λ i h k e. name i h k e .1 }
   where
     name : (i : ℕ) → 0 < i → i < count → i % 2 ≡ 0 → (pos 0 ≤ℤ getD numbers i (pos 0)) × (natAbs (getD numbers i (pos 0)) < knownCount l)
-    name i h k e =
-        let long : length (take count numbers) ≡ count = length-take-le count numbers (omega (arith, l .numbers-long, l .few)) in
-        let made = named-at (isMade (knownCount l)) i (take count numbers) h (omega arith) e (l .keeps .names-made) in
-        made-is (knownCount l) (getD numbers i (pos 0)) (rw (getD-take count numbers i (pos 0) k) at made)
+    name i = name-made numbers count (omega (arith, l .numbers-long, l .few)) (knownCount l) i (l .keeps .names-made)
 
 module _ {p : ℕ} {numbers : List ℤ} {count : ℕ} {table : List ℕ} {cells : ℕ} {places : List ℕ} (a : RowsAsked p sum numbers count table cells places) where
   pub sum-asked : (0 < p) × Below p table × (cells < length table) × (count % 2 ≡ 1) × (count ≤ length numbers)

@@ -3,44 +3,20 @@
 use mathlib.Core.List.{List, [], _∷_}
 use Prim.Native.Nat.{ℕ, _^_, _≤_}
 use lib.Dec.{T}
-use lib.IntN.{ℤ, pos, negsuc, _+ℤ_, _*ℤ_}
-use lib.Signed.{_≤ℤ_, ≤ℤ-refl}
+use lib.IntN.{ℤ}
+use lib.Signed.{≤ℤ-refl}
 use Rattle.algebra.proofs.Test.{left, right}
-use Rattle.algebra.proofs.Integer.Order.{product-keeps, product-turns}
 use Rattle.algebra.proofs.Integer.Linear.{linear}
 use Rattle.meaning.specs.Number.{half, lowest, highest, inRange}
 use Rattle.meaning.specs.Known.{Known, Ends, ends, endsOf}
 use Rattle.meaning.specs.Gadget.Digits.{valueAt}
 use Rattle.meaning.specs.Gadget.Sum.{Term, scaled, added, endsInRange, sumFits}
-use Rattle.meaning.proofs.Order.{between-iff, larger-left, larger-right, smaller-left, smaller-right}
+use Rattle.meaning.proofs.Order.{between-iff}
 use Rattle.meaning.proofs.Law.{Within, low-end, high-end}
-use Rattle.meaning.proofs.Gadget.Sum.{Named}
+use Rattle.meaning.proofs.Gadget.Sum.{Named, Between, scaled-between, added-between}
 use Rattle.number.specs.Bounded.{Bounded}
 use Rattle.number.proofs.Bounded.{bounded-more, bounded-range}
 use Rattle.table.specs.Cells.{SumSmall}
-
-abbrev Between : Ends → ℤ → Type 0
-Between es x = (es .E ≤ℤ x) × (x ≤ℤ es .F)
-
--- a coefficient that is not negative keeps the order of the ends, and a negative one turns it round
-scaled-between : (c x : ℤ) (es : Ends) → Between es x → Between (scaled c es) (c *ℤ x)
-unfolding scaled
-scaled-between (pos c) x es h =
-    let a = smaller-left (pos c *ℤ es .E) (pos c *ℤ es .F) in
-    let b = larger-right (pos c *ℤ es .E) (pos c *ℤ es .F) in
-    let low = product-keeps c (es .E) x (h .0) in
-    let high = product-keeps c x (es .F) (h .1) in
-    (omega linear, omega linear)
-scaled-between (negsuc c) x es h =
-    let a = smaller-right (negsuc c *ℤ es .E) (negsuc c *ℤ es .F) in
-    let b = larger-left (negsuc c *ℤ es .E) (negsuc c *ℤ es .F) in
-    let low = product-turns c x (es .F) (h .1) in
-    let high = product-turns c (es .E) x (h .0) in
-    (omega linear, omega linear)
-
-added-between : (a b : Ends) (x y : ℤ) → Between a x → Between b y → Between (added a b) (x +ℤ y)
-unfolding added
-added-between a b x y h k = (omega (linear, h .0, k .0), omega (linear, h .1, k .1))
 
 ends-bounded : (p : ℕ) (es : Ends) (x : ℤ) → half p ≤ 2 ^ 30 → T (endsInRange p es) → Between es x → Bounded (2 ^ 30) x
 unfolding endsInRange inRange lowest highest

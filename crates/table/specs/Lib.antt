@@ -1,5 +1,5 @@
 pub mod Cells
 pub mod Rows
 pub mod Line
-pub mod LineRows
 pub mod LineValues
+pub mod LineRows

@@ -1,8 +1,6 @@
-// The cells of a digit group: the k lowest base-b digits, lowest first, of a number, or of how far a whole number is from a shift.
-// In a true table that is not below the shift, so that its distance is their difference.
-//
-// The rows of a digit group, over the k cells from the one called `at`: each cell is a digit below b, and then the digits' value is
-// the number of the group modulo p. `first` is the number that the first of these rows has in its line.
+// The digit group over a whole number x with a shift L: k cells, the lowest base-b digits of how far x is from L, lowest first. In a true
+// table x is not below L, so that this is x - L. Its rows are that each cell is a digit below b, and then that the digits' value is x - L
+// modulo p.
 use super::rows::Rows;
 use super::rows::row_before;
 use super::rows::rows_before;
@@ -16,11 +14,11 @@ ghost use Prim.Native.Nat.{_+_, _^_, _≤_, _<_, ℕ};
 ghost use lib.IntN.{pos, natAbs, _-ℤ_, ℤ};
 ghost use lib.ListN.{length, drop};
 ghost use Rattle.algebra.specs.Digits.{digits};
-ghost use Rattle.meaning.specs.Gadget.Digits.{groupCells};
-ghost use Rattle.number.specs.Bounded.{Bounded};
 ghost use Rattle.meaning.specs.Number.{remainder};
 ghost use Rattle.meaning.specs.Row.{Form, eval, holds, digitRows, placeValues, group};
 ghost use Rattle.meaning.specs.Reply.{firstFail};
+ghost use Rattle.meaning.specs.Gadget.Digits.{groupCells};
+ghost use Rattle.number.specs.Bounded.{Bounded};
 ghost use Rattle.table.specs.Rows.{rowsSeen, Leaves};
 
 // c = b ^ k.
@@ -34,6 +32,20 @@ pub fn power_of(b: u32, k: usize) -> u64
     }
 }
 
+// How far x and y are from each other.
+pub fn apart(x: i64, y: i64) -> u64
+    requires { ⌜ Bounded (2 ^ 61) x × Bounded (2 ^ 61) y ⌝ }
+    ensures { λ r. ⌜ r ≡ natAbs (x -ℤ y) ⌝ }
+{
+    if x <= y {
+        (y - x) as u64
+    } else {
+        (x - y) as u64
+    }
+}
+
+// ---- cells
+
 // The digits of n, from the lowest on: each is what division by b leaves.
 pub fn group_cells(out: &mut [u32], n: u64, b: u32, k: usize)
     requires { ⌜ (0 < b) × (k ≤ length (now out)) ⌝ }
@@ -45,18 +57,6 @@ pub fn group_cells(out: &mut [u32], n: u64, b: u32, k: usize)
         out[i] = (rest % b as u64) as u32;
         rest = rest / b as u64;
         i += 1;
-    }
-}
-
-// How far x and y are from each other.
-pub fn apart(x: i64, y: i64) -> u64
-    requires { ⌜ Bounded (2 ^ 61) x × Bounded (2 ^ 61) y ⌝ }
-    ensures { λ r. ⌜ r ≡ natAbs (x -ℤ y) ⌝ }
-{
-    if x <= y {
-        (y - x) as u64
-    } else {
-        (x - y) as u64
     }
 }
 
@@ -79,6 +79,8 @@ pub fn two_groups(out: &mut [u32], first: i64, second: i64, b: u32, k: usize)
 
 // ---- rows
 
+// The rows of a group over the k cells from the one called `at`, whose number modulo p is `number`. `first` is the number that the first of
+// these rows has in its line.
 pub fn group_rows(
     table: &[u32],
     p: u32,

@@ -1,23 +1,12 @@
-// A line `in`: its value is the next input, and its one cell is that of the value.
+// A line `in`: its value is the next input. Its one cell is that of the value, and it has no row.
 use super::value::Worked;
 use super::value::value_cell;
-ghost use mathlib.Core.Path.{_≡_};
-ghost use mathlib.Core.List.{List, _∷_};
-ghost use Prim.Native.Nat.{_<_};
+ghost use mathlib.Core.List.{List};
 ghost use lib.IntN.{ℤ};
-ghost use lib.ListN.{length, drop};
 ghost use Rattle.meaning.specs.Line.{input};
-ghost use Rattle.meaning.specs.Number.{remainder};
 ghost use Rattle.table.specs.LineValues.{WorkTold, CellsAsked, CellsTold};
 
-pub fn input_cells(out: &mut [u32], p: u32, x: i64)
-    requires { ⌜ (0 < p) × (0 < length (now out)) ⌝ }
-    ensures { λ _. ⌜ now (out .exit) ≡ remainder p x ∷ drop 1 (now (out .entry)) ⌝ }
-{
-    value_cell(out, p, x);
-}
-
-// ---- the line
+// ---- working
 
 pub fn input_line_works(next: i64) -> Worked
     ensures { λ r. ⌜ ((numbers values : List ℤ) → WorkTold input numbers 0 values next r) ⌝ }
@@ -25,11 +14,13 @@ pub fn input_line_works(next: i64) -> Worked
     Worked::Value(next)
 }
 
+// ---- cells
+
 // The input stands in values, as the line's value.
 pub fn input_line_cells(p: u32, values: &[i64], known: usize, part: &mut [u32])
     requires { ⌜ ((numbers : List ℤ) × CellsAsked p input numbers 0 (now values) known (now part)) ⌝ }
     ensures { λ _. ⌜ ((numbers : List ℤ)
         → CellsTold p input numbers 0 (now (values .entry)) known (now (part .entry)) (now (part .exit))) ⌝ }
 {
-    input_cells(part, p, values[known]);
+    value_cell(part, p, values[known]);
 }

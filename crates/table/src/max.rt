@@ -1,7 +1,5 @@
-// A line `max u v b k`: u and v are less than c = b^k apart; the value y is the greater. Its cells are y's and the groups over
-// y - u and y - v with shift 0.
-//
-// The rows of a max line: (y-u)·(y-v) ≡ 0, and then the groups over y-u and y-v.
+// A line `max u v b k`: u and v are less than c = b^k apart, and the value y is the greater of them. Its cells are those of y, of the
+// group over y - u and of the group over y - v, both with shift 0; its rows are (y-u)·(y-v) ≡ 0 and those of the two groups.
 use super::group::apart;
 use super::group::group_rows;
 use super::group::power_of;
@@ -17,7 +15,6 @@ use super::value::Worked;
 use super::value::value_cell;
 use super::value::value_named;
 use number::Cell;
-use number::Residue;
 use number::Whole;
 use number::residue::difference;
 use number::residue::product;
@@ -30,26 +27,28 @@ ghost use Prim.Native.Nat.{ℕ, suc, _*_, _^_, _≤_, _<_, _+_};
 ghost use lib.Dec.{ltb};
 ghost use lib.IntN.{natAbs, _-ℤ_, ℤ};
 ghost use lib.ListN.{length, drop};
+ghost use Rattle.algebra.specs.Digits.{Below};
 ghost use Rattle.meaning.specs.Line.{max};
 ghost use Rattle.meaning.specs.Known.{larger, Known, placeOf};
-ghost use Rattle.number.specs.Bounded.{Bounded};
-ghost use Rattle.table.specs.Cells.{workedSeen, maxCells};
-ghost use Rattle.table.specs.LineValues.{ValuesAsked, WorkTold, CellsAsked, CellsTold};
-ghost use Rattle.algebra.specs.Digits.{Below};
 ghost use Rattle.meaning.specs.Row.{holds};
 ghost use Rattle.meaning.specs.Reply.{firstFail};
 ghost use Rattle.meaning.specs.Gadget.Max.{maxLine};
-ghost use Rattle.table.specs.LineRows.{RowsAsked, RowsTold};
+ghost use Rattle.number.specs.Bounded.{Bounded};
+ghost use Rattle.table.specs.Cells.{workedSeen, maxCells};
 ghost use Rattle.table.specs.Rows.{rowsSeen};
+ghost use Rattle.table.specs.LineValues.{ValuesAsked, WorkTold, CellsAsked, CellsTold};
+ghost use Rattle.table.specs.LineRows.{RowsAsked, RowsTold};
 
-pub fn max_value(u: i64, v: i64) -> i64
+// ---- working
+
+fn max_value(u: i64, v: i64) -> i64
     ensures { λ r. ⌜ r ≡ larger u v ⌝ }
 {
     let y = larger(Whole(u), Whole(v));
     y.0
 }
 
-pub fn max_works(u: i64, v: i64, c: u64) -> Worked
+fn max_works(u: i64, v: i64, c: u64) -> Worked
     requires { ⌜ Bounded (2 ^ 30) u × Bounded (2 ^ 30) v ⌝ }
     ensures { λ r. ⌜ ((b k : ℕ) → c ≡ b ^ k → workedSeen r ≡ cond (ltb (natAbs (u -ℤ v)) (b ^ k)) (some (larger u v ∷ [])) none) ⌝ }
 {
@@ -59,17 +58,6 @@ pub fn max_works(u: i64, v: i64, c: u64) -> Worked
         Worked::False
     }
 }
-
-pub fn max_cells(out: &mut [u32], p: u32, u: i64, v: i64, b: u32, k: usize)
-    requires { ⌜ (0 < p) × (0 < b) × (suc (2 * k) ≤ length (now out)) × Bounded (2 ^ 30) u × Bounded (2 ^ 30) v ⌝ }
-    ensures { λ _. ⌜ now (out .exit) ≡ maxCells p b k u v ++ drop (suc (2 * k)) (now (out .entry)) ⌝ }
-{
-    let y = max_value(u, v);
-    value_cell(out, p, y);
-    two_groups(&mut out[1..], y - u, y - v, b, k);
-}
-
-// ---- the line
 
 pub fn max_line_works(numbers: &[i64], values: &[i64]) -> Worked
     requires { ⌜ ValuesAsked max (now numbers) 4 (now values) ⌝ }
@@ -81,6 +69,17 @@ pub fn max_line_works(numbers: &[i64], values: &[i64]) -> Worked
     let k = size_at(numbers, 3);
     let c = power_of(b, k);
     max_works(u, v, c)
+}
+
+// ---- cells
+
+fn max_cells(out: &mut [u32], p: u32, u: i64, v: i64, b: u32, k: usize)
+    requires { ⌜ (0 < p) × (0 < b) × (suc (2 * k) ≤ length (now out)) × Bounded (2 ^ 30) u × Bounded (2 ^ 30) v ⌝ }
+    ensures { λ _. ⌜ now (out .exit) ≡ maxCells p b k u v ++ drop (suc (2 * k)) (now (out .entry)) ⌝ }
+{
+    let y = max_value(u, v);
+    value_cell(out, p, y);
+    two_groups(&mut out[1..], y - u, y - v, b, k);
 }
 
 pub fn max_line_cells(numbers: &[i64], p: u32, values: &[i64], part: &mut [u32])
@@ -112,7 +111,6 @@ fn max_rows(table: &[u32], p: u32, place_u: Cell, place_v: Cell, at: Cell, b: u3
     row_before(either.0 == 0, 0, rows_before(group_u, group_v))
 }
 
-// The rows of a max line of a list that was read.
 pub fn max_line_rows(numbers: &[i64], table: &[u32], p: u32, at: Cell, places: &[usize]) -> Rows
     requires { ⌜ RowsAsked p max (now numbers) 4 (now table) (at .0) (now places) ⌝ }
     ensures { λ r. ⌜ RowsTold p max (now (numbers .entry)) 4 (now (table .entry)) (at .0) (now (places .entry)) r ⌝ }

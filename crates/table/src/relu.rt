@@ -1,7 +1,5 @@
-// A line `relu v b k`: the statement of the sign over v; the value is the greater of 0 and v. Its cells are the value's and those of
-// the sign over v.
-//
-// The rows of a relu line: those of its sign, and then f·v ≡ y.
+// A line `relu v b k`: the statement is that of the sign over v, and the value y is the greater of 0 and v. Its cells are those of y and
+// of the sign; its rows are those of the sign, the last of which is f·v ≡ y.
 use super::group::power_of;
 use super::numbers::base_at;
 use super::numbers::place_at;
@@ -16,7 +14,6 @@ use super::value::Worked;
 use super::value::value_cell;
 use super::value::value_named;
 use number::Cell;
-use number::Residue;
 use number::Whole;
 use number::residue::product;
 use number::residue::sum;
@@ -28,29 +25,31 @@ ghost use mathlib.Core.Option.{some, none};
 ghost use Prim.Native.Nat.{ℕ, _+_, _^_, _≤_, _<_};
 ghost use lib.IntN.{pos, ℤ};
 ghost use lib.ListN.{length, drop};
-ghost use Rattle.meaning.specs.Line.{relu};
+ghost use Rattle.algebra.specs.Digits.{Below};
 ghost use Rattle.meaning.specs.Number.{remainder};
+ghost use Rattle.meaning.specs.Line.{relu};
 ghost use Rattle.meaning.specs.Known.{larger, Known, placeOf};
+ghost use Rattle.meaning.specs.Row.{holds};
+ghost use Rattle.meaning.specs.Reply.{firstFail};
 ghost use Rattle.meaning.specs.Gadget.Sign.{signStatement, signCells};
+ghost use Rattle.meaning.specs.Gadget.Relu.{reluLine};
 ghost use Rattle.meaning.proofs.Number.{OddPrime};
 ghost use Rattle.number.specs.Bounded.{Bounded};
 ghost use Rattle.table.specs.Cells.{workedSeen, GroupOf};
-ghost use Rattle.table.specs.LineValues.{ValuesAsked, WorkTold, CellsAsked, CellsTold};
-ghost use Rattle.algebra.specs.Digits.{Below};
-ghost use Rattle.meaning.specs.Row.{holds};
-ghost use Rattle.meaning.specs.Reply.{firstFail};
-ghost use Rattle.meaning.specs.Gadget.Relu.{reluLine};
-ghost use Rattle.table.specs.LineRows.{RowsAsked, RowsTold};
 ghost use Rattle.table.specs.Rows.{rowsSeen};
+ghost use Rattle.table.specs.LineValues.{ValuesAsked, WorkTold, CellsAsked, CellsTold};
+ghost use Rattle.table.specs.LineRows.{RowsAsked, RowsTold};
 
-pub fn relu_value(v: i64) -> i64
+// ---- working
+
+fn relu_value(v: i64) -> i64
     ensures { λ r. ⌜ r ≡ larger (pos 0) v ⌝ }
 {
     let y = larger(Whole(0), Whole(v));
     y.0
 }
 
-pub fn relu_works(v: i64, b: u32, c: u64) -> Worked
+fn relu_works(v: i64, b: u32, c: u64) -> Worked
     requires { ⌜ (0 < b) × (c ≤ 2 ^ 31) ⌝ }
     ensures { λ r. ⌜ ((k : ℕ) → 1 ≤ k → c ≡ b ^ k → workedSeen r ≡ cond (signStatement b k v) (some (larger (pos 0) v ∷ [])) none) ⌝ }
 {
@@ -61,16 +60,6 @@ pub fn relu_works(v: i64, b: u32, c: u64) -> Worked
     }
 }
 
-pub fn relu_cells(out: &mut [u32], p: u32, v: i64, b: u32, k: usize, c: u64)
-    requires { ⌜ OddPrime p × GroupOf b k c × (k + 3 ≤ length (now out)) × Bounded (2 ^ 30) v ⌝ }
-    ensures { λ _. ⌜ now (out .exit) ≡ (remainder p (larger (pos 0) v) ∷ signCells p b k v) ++ drop (k + 3) (now (out .entry)) ⌝ }
-{
-    value_cell(out, p, relu_value(v));
-    sign_cells(&mut out[1..], p, v, b, k, c);
-}
-
-// ---- the line
-
 pub fn relu_line_works(numbers: &[i64], values: &[i64]) -> Worked
     requires { ⌜ ValuesAsked relu (now numbers) 3 (now values) ⌝ }
     ensures { λ r. ⌜ ((next : ℤ) → WorkTold relu (now (numbers .entry)) 3 (now (values .entry)) next r) ⌝ }
@@ -80,6 +69,16 @@ pub fn relu_line_works(numbers: &[i64], values: &[i64]) -> Worked
     let k = size_at(numbers, 2);
     let c = power_of(b, k);
     relu_works(v, b, c)
+}
+
+// ---- cells
+
+fn relu_cells(out: &mut [u32], p: u32, v: i64, b: u32, k: usize, c: u64)
+    requires { ⌜ OddPrime p × GroupOf b k c × (k + 3 ≤ length (now out)) × Bounded (2 ^ 30) v ⌝ }
+    ensures { λ _. ⌜ now (out .exit) ≡ (remainder p (larger (pos 0) v) ∷ signCells p b k v) ++ drop (k + 3) (now (out .entry)) ⌝ }
+{
+    value_cell(out, p, relu_value(v));
+    sign_cells(&mut out[1..], p, v, b, k, c);
 }
 
 pub fn relu_line_cells(numbers: &[i64], p: u32, values: &[i64], part: &mut [u32])
@@ -109,7 +108,6 @@ fn relu_rows(table: &[u32], p: u32, place: Cell, at: Cell, b: u32, k: usize) -> 
     sign_rows(table, p, number, kept.0 == made.0, Cell(at.0 + 1), b, k)
 }
 
-// The rows of a relu line of a list that was read.
 pub fn relu_line_rows(numbers: &[i64], table: &[u32], p: u32, at: Cell, places: &[usize]) -> Rows
     requires { ⌜ RowsAsked p relu (now numbers) 3 (now table) (at .0) (now places) ⌝ }
     ensures { λ r. ⌜ RowsTold p relu (now (numbers .entry)) 3 (now (table .entry)) (at .0) (now (places .entry)) r ⌝ }

@@ -1,7 +1,5 @@
-// A line `root v b k`: 0 ≤ v < c = b^k; the value r is the floor of the square root. Its cells are those of r and of its square q,
-// then the groups over v, r, v - q and q + 2r - v with shift 0.
-//
-// The rows of a root line: y·y ≡ q, and then the groups over v, y, v-q and q+2y-v.
+// A line `root v b k`: 0 ≤ v < c = b^k, and the value r is the floor of the square root of v. Its cells are those of r and of its square
+// q, then the groups over v, r, v - q and q + 2r - v with shift 0; its rows are r·r ≡ q and those of the four groups.
 use super::group::apart;
 use super::group::group_rows;
 use super::group::power_of;
@@ -31,27 +29,29 @@ ghost use mathlib.Core.Option.{some, none};
 ghost use Prim.Native.Nat.{ℕ, _+_, _*_, _^_, _≤_, _<_};
 ghost use lib.IntN.{pos, _-ℤ_, _*ℤ_, ℤ};
 ghost use lib.ListN.{length, drop};
-ghost use Rattle.meaning.specs.Line.{root};
-ghost use Rattle.meaning.specs.Number.{between, remainder};
-ghost use Rattle.meaning.specs.Gadget.Root.{rootValue, rootLine};
-ghost use Rattle.number.specs.Bounded.{Bounded};
-ghost use Rattle.table.specs.Cells.{workedSeen, restCells, rootCells};
-ghost use Rattle.table.specs.LineValues.{ValuesAsked, WorkTold, CellsAsked, CellsTold};
 ghost use Rattle.algebra.specs.Digits.{Below};
+ghost use Rattle.meaning.specs.Number.{between, remainder};
+ghost use Rattle.meaning.specs.Line.{root};
 ghost use Rattle.meaning.specs.Known.{Known, placeOf};
 ghost use Rattle.meaning.specs.Row.{Form, holds};
 ghost use Rattle.meaning.specs.Reply.{firstFail};
-ghost use Rattle.table.specs.LineRows.{RowsAsked, RowsTold};
+ghost use Rattle.meaning.specs.Gadget.Root.{rootValue, rootLine};
+ghost use Rattle.number.specs.Bounded.{Bounded};
+ghost use Rattle.table.specs.Cells.{workedSeen, restCells, rootCells};
 ghost use Rattle.table.specs.Rows.{rowsSeen, Leaves, fourGroups};
+ghost use Rattle.table.specs.LineValues.{ValuesAsked, WorkTold, CellsAsked, CellsTold};
+ghost use Rattle.table.specs.LineRows.{RowsAsked, RowsTold};
 
-pub fn root_value(v: i64) -> i64
+// ---- working
+
+fn root_value(v: i64) -> i64
     requires { ⌜ Bounded (2 ^ 30) v ⌝ }
     ensures { λ r. ⌜ r ≡ rootValue v ⌝ }
 {
     square_root(apart(v, 0)) as i64
 }
 
-pub fn root_works(v: i64, c: u64) -> Worked
+fn root_works(v: i64, c: u64) -> Worked
     requires { ⌜ Bounded (2 ^ 30) v × (c ≤ 2 ^ 31) ⌝ }
     ensures { λ r. ⌜ ((b k : ℕ) → c ≡ b ^ k → workedSeen r ≡ cond (between (pos 0) v (pos (b ^ k) -ℤ pos 1)) (some (rootValue v ∷ [])) none) ⌝ }
 {
@@ -63,7 +63,20 @@ pub fn root_works(v: i64, c: u64) -> Worked
     }
 }
 
-pub fn root_cells(out: &mut [u32], p: u32, v: i64, b: u32, k: usize)
+pub fn root_line_works(numbers: &[i64], values: &[i64]) -> Worked
+    requires { ⌜ ValuesAsked root (now numbers) 3 (now values) ⌝ }
+    ensures { λ r. ⌜ ((next : ℤ) → WorkTold root (now (numbers .entry)) 3 (now (values .entry)) next r) ⌝ }
+{
+    let v = value_named(numbers, 0, values);
+    let b = base_at(numbers, 1);
+    let k = size_at(numbers, 2);
+    let c = power_of(b, k);
+    root_works(v, c)
+}
+
+// ---- cells
+
+fn root_cells(out: &mut [u32], p: u32, v: i64, b: u32, k: usize)
     requires { ⌜ (0 < p) × (0 < b) × (2 + 4 * k ≤ length (now out)) × Bounded (2 ^ 30) v ⌝ }
     ensures { λ _. ⌜ now (out .exit) ≡ rootCells p b k v ++ drop (2 + 4 * k) (now (out .entry)) ⌝ }
 {
@@ -92,19 +105,6 @@ fn rest_cells(out: &mut [u32], v: i64, r: i64, b: u32, k: usize)
     let above = v - q;
     let below = q + 2 * r - v;
     two_groups(out, above, below, b, k);
-}
-
-// ---- the line
-
-pub fn root_line_works(numbers: &[i64], values: &[i64]) -> Worked
-    requires { ⌜ ValuesAsked root (now numbers) 3 (now values) ⌝ }
-    ensures { λ r. ⌜ ((next : ℤ) → WorkTold root (now (numbers .entry)) 3 (now (values .entry)) next r) ⌝ }
-{
-    let v = value_named(numbers, 0, values);
-    let b = base_at(numbers, 1);
-    let k = size_at(numbers, 2);
-    let c = power_of(b, k);
-    root_works(v, c)
 }
 
 pub fn root_line_cells(numbers: &[i64], p: u32, values: &[i64], part: &mut [u32])
@@ -161,7 +161,6 @@ fn four_groups(
     rows_before(first, rows_before(second, last_two))
 }
 
-// The rows of a root line of a list that was read.
 pub fn root_line_rows(numbers: &[i64], table: &[u32], p: u32, at: Cell, places: &[usize]) -> Rows
     requires { ⌜ RowsAsked p root (now numbers) 3 (now table) (at .0) (now places) ⌝ }
     ensures { λ r. ⌜ RowsTold p root (now (numbers .entry)) 3 (now (table .entry)) (at .0) (now (places .entry)) r ⌝ }

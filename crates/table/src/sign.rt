@@ -1,9 +1,6 @@
-// What relu and which share: the statement -B ≤ x ≤ b^(k-1) - 1 with B = (b-1)·b^(k-1), and the cells that tell whether x is
-// negative. Those are the digits of x + B, whose top digit is b - 1 where x is not negative, then f, which says so, and w, which
-// shows it where f is 0.
-//
-// What the rows of relu and of which share: the digit group over a number that is moved up by B = (b-1)·b^(k-1), so that its top digit
-// is b-1 just where the number is not negative, and the three rows that tie this to the flag f by the witness w.
+// What relu and which share: the sign of a whole number x. The statement is -B ≤ x ≤ b^(k-1) - 1 with B = (b-1)·b^(k-1). The cells are the
+// digits of x + B, whose top digit is b - 1 just where x is not negative, then f, which says so, and w, which shows it where f is 0. The
+// rows are those of the group over x with shift -B, three that tie f to the top digit by w, and last the line's own.
 use super::group::apart;
 use super::group::group_cells;
 use super::group::group_rows;
@@ -24,16 +21,18 @@ ghost use mathlib.Core.List.{_++_, List, [], _∷_};
 ghost use Prim.Native.Nat.{ℕ, _+_, _-_, _^_, _≤_, _<_};
 ghost use lib.IntN.{pos, _-ℤ_};
 ghost use lib.ListN.{length, drop};
+ghost use Rattle.algebra.specs.Digits.{Below};
 ghost use Rattle.meaning.specs.Number.{remainder};
+ghost use Rattle.meaning.specs.Known.{topPart};
+ghost use Rattle.meaning.specs.Row.{Form, cell, constant, _⊖_, _⊗_, eval, Row, _≅_, holds};
+ghost use Rattle.meaning.specs.Reply.{firstFail};
 ghost use Rattle.meaning.specs.Gadget.Sign.{signStatement, signCells, signShift, signRows};
 ghost use Rattle.meaning.proofs.Number.{OddPrime};
 ghost use Rattle.number.specs.Bounded.{Bounded};
 ghost use Rattle.table.specs.Cells.{flagCells, GroupOf};
-ghost use Rattle.algebra.specs.Digits.{Below};
-ghost use Rattle.meaning.specs.Known.{topPart};
-ghost use Rattle.meaning.specs.Row.{Form, cell, constant, _⊖_, _⊗_, eval, Row, _≅_, holds};
-ghost use Rattle.meaning.specs.Reply.{firstFail};
 ghost use Rattle.table.specs.Rows.{rowsSeen, Leaves};
+
+// ---- working
 
 // Whether the statement is true of x, with c = b^k: c / b is b^(k-1).
 pub fn sign_works(x: i64, b: u32, c: u64) -> bool
@@ -45,6 +44,8 @@ pub fn sign_works(x: i64, b: u32, c: u64) -> bool
     let high = part as i64 - 1;
     within(Whole(low), Whole(x), Whole(high))
 }
+
+// ---- cells
 
 pub fn sign_cells(out: &mut [u32], p: u32, x: i64, b: u32, k: usize, c: u64)
     requires { ⌜ OddPrime p × GroupOf b k c × (k + 2 ≤ length (now out)) × Bounded (2 ^ 31) x ⌝ }

@@ -1,6 +1,5 @@
-// A line `span v b k L`: L ≤ v ≤ L + c - 1 with c = b ^ k. It makes no value, and its cells are the group over v with shift L.
-//
-// The rows of a span line: the digit group over the value, counted from the span's lowest number.
+// A line `span v b k L`: L ≤ v ≤ L + c - 1 with c = b^k. It makes no value. Its cells and its rows are those of the group over v with
+// shift L.
 use super::group::form_cells;
 use super::group::group_rows;
 use super::group::power_of;
@@ -12,46 +11,36 @@ use super::rows::residue_at;
 use super::value::Worked;
 use super::value::value_named;
 use number::Cell;
-use number::Residue;
 use number::Whole;
 use number::residue::difference;
 use number::residue::remainder_of;
 use number::whole::within;
 ghost use mathlib.Core.Path.{_≡_};
-ghost use mathlib.Core.List.{_++_};
 ghost use Prim.Native.Nat.{ℕ, _^_, _≤_, _<_, _+_};
 ghost use lib.IntN.{ℤ};
-ghost use lib.ListN.{length, drop};
-ghost use Rattle.meaning.specs.Line.{span};
-ghost use Rattle.meaning.specs.Number.{between};
-ghost use Rattle.meaning.specs.Gadget.Digits.{groupCells};
-ghost use Rattle.meaning.specs.Gadget.Span.{spanTop, spanLine};
-ghost use Rattle.number.specs.Bounded.{Bounded};
+ghost use lib.ListN.{length};
 ghost use Rattle.algebra.specs.Digits.{Below};
+ghost use Rattle.meaning.specs.Number.{between};
+ghost use Rattle.meaning.specs.Line.{span};
 ghost use Rattle.meaning.specs.Known.{Known, placeOf};
 ghost use Rattle.meaning.specs.Row.{holds};
 ghost use Rattle.meaning.specs.Reply.{firstFail};
+ghost use Rattle.meaning.specs.Gadget.Span.{spanTop, spanLine};
+ghost use Rattle.number.specs.Bounded.{Bounded};
+ghost use Rattle.table.specs.Rows.{rowsSeen};
 ghost use Rattle.table.specs.LineValues.{ValuesAsked, WorkTold, CellsAsked, CellsTold};
 ghost use Rattle.table.specs.LineRows.{RowsAsked, RowsTold};
-ghost use Rattle.table.specs.Rows.{rowsSeen};
+
+// ---- working
 
 // Whether the line's statement is true, of every b and k with the power c.
-pub fn span_works(v: i64, c: u64, shift: i64) -> bool
+fn span_works(v: i64, c: u64, shift: i64) -> bool
     requires { ⌜ (0 < c) × (c ≤ 2 ^ 31) × Bounded (2 ^ 31) shift ⌝ }
     ensures { λ r. ⌜ ((b k : ℕ) → c ≡ b ^ k → r ≡ between shift v (spanTop b k shift)) ⌝ }
 {
     let top = shift + (c - 1) as i64;
     within(Whole(shift), Whole(v), Whole(top))
 }
-
-pub fn span_cells(out: &mut [u32], v: i64, b: u32, k: usize, shift: i64)
-    requires { ⌜ (0 < b) × (k ≤ length (now out)) × Bounded (2 ^ 30) v × Bounded (2 ^ 31) shift ⌝ }
-    ensures { λ _. ⌜ now (out .exit) ≡ groupCells b k v shift ++ drop k (now (out .entry)) ⌝ }
-{
-    form_cells(out, v, shift, b, k);
-}
-
-// ---- the line
 
 pub fn span_line_works(numbers: &[i64], values: &[i64]) -> Worked
     requires { ⌜ ValuesAsked span (now numbers) 4 (now values) ⌝ }
@@ -69,6 +58,8 @@ pub fn span_line_works(numbers: &[i64], values: &[i64]) -> Worked
     }
 }
 
+// ---- cells
+
 // The cells are the same modulo every p.
 pub fn span_line_cells(numbers: &[i64], values: &[i64], part: &mut [u32])
     requires { ⌜ ((p : ℕ) × (known : ℕ) × CellsAsked p span (now numbers) 4 (now values) known (now part)) ⌝ }
@@ -79,7 +70,7 @@ pub fn span_line_cells(numbers: &[i64], values: &[i64], part: &mut [u32])
     let b = base_at(numbers, 1);
     let k = size_at(numbers, 2);
     let shift = numbers[3];
-    span_cells(part, v, b, k, shift);
+    form_cells(part, v, shift, b, k);
 }
 
 // ---- rows
@@ -94,7 +85,6 @@ fn span_rows(table: &[u32], p: u32, place: Cell, at: Cell, b: u32, k: usize, shi
     group_rows(table, p, number, 0, at, b, k)
 }
 
-// The rows of a span line of a list that was read.
 pub fn span_line_rows(numbers: &[i64], table: &[u32], p: u32, at: Cell, places: &[usize]) -> Rows
     requires { ⌜ RowsAsked p span (now numbers) 4 (now table) (at .0) (now places) ⌝ }
     ensures { λ r. ⌜ RowsTold p span (now (numbers .entry)) 4 (now (table .entry)) (at .0) (now (places .entry)) r ⌝ }

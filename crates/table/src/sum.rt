@@ -1,13 +1,12 @@
-// A line `sum c0 c1 v1 c2 v2 ..`: the value is c0 + c1·v1 + c2·v2 + .., and its one cell is the value's.
-//
-// The row of a sum line: its value is c0 + c1·v1 + .. modulo p. Its numbers are c0, c1, v1, c2, v2, .., the first `count` of `numbers`;
-// `places` has the cell of each value that a pair can name.
+// A line `sum c0 c1 v1 c2 v2 ..`: the value y is c0 + c1·v1 + c2·v2 + .., its one cell is that of y, and its one row is that y is this sum
+// modulo p.
 use super::numbers::place_at;
 use super::rows::Rows;
 use super::rows::residue_at;
 use super::rows::row_before;
 use super::value::Worked;
 use super::value::value_cell;
+use super::value::value_named;
 use number::Cell;
 use number::Residue;
 use number::Whole;
@@ -15,24 +14,25 @@ use number::residue::product;
 use number::residue::remainder_of;
 use number::residue::sum;
 ghost use mathlib.Core.Path.{_≡_};
-ghost use mathlib.Core.List.{List, _∷_};
+ghost use mathlib.Core.List.{List};
 ghost use Prim.Native.Nat.{_<_, ℕ, _%_, _≤_};
 ghost use lib.IntN.{ℤ};
-ghost use lib.ListN.{length, take, drop};
-ghost use Rattle.meaning.specs.Number.{remainder};
-ghost use Rattle.table.specs.Cells.{sumOf, SumAsked};
-ghost use Rattle.table.specs.LineValues.{ValuesAsked, WorkTold, CellsAsked, CellsTold};
+ghost use lib.ListN.{length, take};
 ghost use Rattle.algebra.specs.Digits.{Below};
 ghost use Rattle.meaning.specs.Line.{numberAt, withoutFirst, sum};
 ghost use Rattle.meaning.specs.Known.{Known};
 ghost use Rattle.meaning.specs.Row.{holds};
 ghost use Rattle.meaning.specs.Reply.{firstFail};
 ghost use Rattle.meaning.specs.Gadget.Sum.{termsOf, sumLine};
-ghost use Rattle.table.specs.LineRows.{RowsAsked, RowsTold};
+ghost use Rattle.table.specs.Cells.{sumOf, SumAsked};
 ghost use Rattle.table.specs.Rows.{rowsSeen, NamesBelow, PlacesInside};
+ghost use Rattle.table.specs.LineValues.{ValuesAsked, WorkTold, CellsAsked, CellsTold};
+ghost use Rattle.table.specs.LineRows.{RowsAsked, RowsTold};
+
+// ---- working
 
 // The first count numbers are the line's, and the first n values, for some n, are those before it.
-pub fn sum_works(numbers: &[i64], count: usize, values: &[i64]) -> i64
+fn sum_works(numbers: &[i64], count: usize, values: &[i64]) -> i64
     requires { ⌜ ((n : ℕ) × SumAsked (now numbers) count (now values) n) ⌝ }
     ensures { λ r. ⌜ ((n : ℕ) → SumAsked (now (numbers .entry)) count (now (values .entry)) n
         → r ≡ sumOf (take count (now (numbers .entry))) (take n (now (values .entry)))) ⌝ }
@@ -40,21 +40,12 @@ pub fn sum_works(numbers: &[i64], count: usize, values: &[i64]) -> i64
     let mut total = numbers[0];
     let mut i: usize = 1;
     while i < count - 1 {
-        let at = numbers[i + 1] as usize;
-        total += numbers[i] * values[at];
+        let value = value_named(numbers, i + 1, values);
+        total += numbers[i] * value;
         i += 2;
     }
     total
 }
-
-pub fn sum_cells(out: &mut [u32], p: u32, x: i64)
-    requires { ⌜ (0 < p) × (0 < length (now out)) ⌝ }
-    ensures { λ _. ⌜ now (out .exit) ≡ remainder p x ∷ drop 1 (now (out .entry)) ⌝ }
-{
-    value_cell(out, p, x);
-}
-
-// ---- the line
 
 pub fn sum_line_works(numbers: &[i64], count: usize, values: &[i64]) -> Worked
     requires { ⌜ ValuesAsked sum (now numbers) count (now values) ⌝ }
@@ -63,17 +54,20 @@ pub fn sum_line_works(numbers: &[i64], count: usize, values: &[i64]) -> Worked
     Worked::Value(sum_works(numbers, count, values))
 }
 
+// ---- cells
+
 // The line's value stands in values: it is not added up again.
 pub fn sum_line_cells(p: u32, values: &[i64], known: usize, part: &mut [u32])
     requires { ⌜ ((numbers : List ℤ) × (count : ℕ) × CellsAsked p sum numbers count (now values) known (now part)) ⌝ }
     ensures { λ _. ⌜ ((numbers : List ℤ) (count : ℕ)
         → CellsTold p sum numbers count (now (values .entry)) known (now (part .entry)) (now (part .exit))) ⌝ }
 {
-    sum_cells(part, p, values[known]);
+    value_cell(part, p, values[known]);
 }
 
 // ---- rows
 
+// The first count numbers are the line's, and places has the cell of each value that they can name.
 fn sum_rows(
     table: &[u32],
     p: u32,
@@ -101,7 +95,6 @@ fn sum_rows(
     row_before(made.0 == total, 0, Rows::AllHold)
 }
 
-// The row of a sum line of a list that was read.
 pub fn sum_line_rows(
     numbers: &[i64],
     count: usize,

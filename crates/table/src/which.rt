@@ -1,7 +1,5 @@
-// A line `which u v b k`: the statement of the sign over u - v; the value is 0 where u is at least v, else 1. Its cells are the
-// value's and those of the sign over u - v.
-//
-// The rows of a which line: those of the sign of u-v, and then y ≡ 1-f.
+// A line `which u v b k`: the statement is that of the sign over u - v, and the value y is 0 where u is at least v, else 1. Its cells are
+// those of y and of the sign; its rows are those of the sign, the last of which is y ≡ 1-f.
 use super::group::power_of;
 use super::numbers::base_at;
 use super::numbers::place_at;
@@ -26,28 +24,30 @@ ghost use mathlib.Core.Option.{some, none};
 ghost use Prim.Native.Nat.{ℕ, _+_, _^_, _≤_, _<_};
 ghost use lib.IntN.{_-ℤ_, ℤ};
 ghost use lib.ListN.{length, drop};
-ghost use Rattle.meaning.specs.Line.{which};
+ghost use Rattle.algebra.specs.Digits.{Below};
 ghost use Rattle.meaning.specs.Number.{remainder};
+ghost use Rattle.meaning.specs.Line.{which};
+ghost use Rattle.meaning.specs.Known.{Known, placeOf};
+ghost use Rattle.meaning.specs.Row.{holds};
+ghost use Rattle.meaning.specs.Reply.{firstFail};
 ghost use Rattle.meaning.specs.Gadget.Sign.{signStatement, signCells};
 ghost use Rattle.meaning.specs.Gadget.Which.{whichValue, whichLine};
 ghost use Rattle.meaning.proofs.Number.{OddPrime};
 ghost use Rattle.number.specs.Bounded.{Bounded};
 ghost use Rattle.table.specs.Cells.{workedSeen, GroupOf};
-ghost use Rattle.table.specs.LineValues.{ValuesAsked, WorkTold, CellsAsked, CellsTold};
-ghost use Rattle.algebra.specs.Digits.{Below};
-ghost use Rattle.meaning.specs.Known.{Known, placeOf};
-ghost use Rattle.meaning.specs.Row.{holds};
-ghost use Rattle.meaning.specs.Reply.{firstFail};
-ghost use Rattle.table.specs.LineRows.{RowsAsked, RowsTold};
 ghost use Rattle.table.specs.Rows.{rowsSeen};
+ghost use Rattle.table.specs.LineValues.{ValuesAsked, WorkTold, CellsAsked, CellsTold};
+ghost use Rattle.table.specs.LineRows.{RowsAsked, RowsTold};
 
-pub fn which_value(u: i64, v: i64) -> i64
+// ---- working
+
+fn which_value(u: i64, v: i64) -> i64
     ensures { λ r. ⌜ r ≡ whichValue u v ⌝ }
 {
     if v <= u { 0 } else { 1 }
 }
 
-pub fn which_works(u: i64, v: i64, b: u32, c: u64) -> Worked
+fn which_works(u: i64, v: i64, b: u32, c: u64) -> Worked
     requires { ⌜ (0 < b) × (c ≤ 2 ^ 31) × Bounded (2 ^ 30) u × Bounded (2 ^ 30) v ⌝ }
     ensures { λ r. ⌜ ((k : ℕ) → 1 ≤ k → c ≡ b ^ k → workedSeen r ≡ cond (signStatement b k (u -ℤ v)) (some (whichValue u v ∷ [])) none) ⌝ }
 {
@@ -57,16 +57,6 @@ pub fn which_works(u: i64, v: i64, b: u32, c: u64) -> Worked
         Worked::False
     }
 }
-
-pub fn which_cells(out: &mut [u32], p: u32, u: i64, v: i64, b: u32, k: usize, c: u64)
-    requires { ⌜ OddPrime p × GroupOf b k c × (k + 3 ≤ length (now out)) × Bounded (2 ^ 30) u × Bounded (2 ^ 30) v ⌝ }
-    ensures { λ _. ⌜ now (out .exit) ≡ (remainder p (whichValue u v) ∷ signCells p b k (u -ℤ v)) ++ drop (k + 3) (now (out .entry)) ⌝ }
-{
-    value_cell(out, p, which_value(u, v));
-    sign_cells(&mut out[1..], p, u - v, b, k, c);
-}
-
-// ---- the line
 
 pub fn which_line_works(numbers: &[i64], values: &[i64]) -> Worked
     requires { ⌜ ValuesAsked which (now numbers) 4 (now values) ⌝ }
@@ -78,6 +68,16 @@ pub fn which_line_works(numbers: &[i64], values: &[i64]) -> Worked
     let k = size_at(numbers, 3);
     let c = power_of(b, k);
     which_works(u, v, b, c)
+}
+
+// ---- cells
+
+fn which_cells(out: &mut [u32], p: u32, u: i64, v: i64, b: u32, k: usize, c: u64)
+    requires { ⌜ OddPrime p × GroupOf b k c × (k + 3 ≤ length (now out)) × Bounded (2 ^ 30) u × Bounded (2 ^ 30) v ⌝ }
+    ensures { λ _. ⌜ now (out .exit) ≡ (remainder p (whichValue u v) ∷ signCells p b k (u -ℤ v)) ++ drop (k + 3) (now (out .entry)) ⌝ }
+{
+    value_cell(out, p, which_value(u, v));
+    sign_cells(&mut out[1..], p, u - v, b, k, c);
 }
 
 pub fn which_line_cells(numbers: &[i64], p: u32, values: &[i64], part: &mut [u32])
@@ -117,7 +117,6 @@ fn which_rows(
     sign_rows(table, p, number, made.0 == other.0, Cell(at.0 + 1), b, k)
 }
 
-// The rows of a which line of a list that was read.
 pub fn which_line_rows(numbers: &[i64], table: &[u32], p: u32, at: Cell, places: &[usize]) -> Rows
     requires { ⌜ RowsAsked p which (now numbers) 4 (now table) (at .0) (now places) ⌝ }
     ensures { λ r. ⌜ RowsTold p which (now (numbers .entry)) 4 (now (table .entry)) (at .0) (now (places .entry)) r ⌝ }

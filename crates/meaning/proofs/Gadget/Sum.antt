@@ -35,7 +35,7 @@ Named s (t ∷ ts) = (t .value < length (s .known)) × Named s ts
 
 -- ---- the value lies between the ends
 
-abbrev Between : Ends → ℤ → Type 0
+abbrev pub Between : Ends → ℤ → Type 0
 Between es x = (es .E ≤ℤ x) × (x ≤ℤ es .F)
 
 -- a coefficient that is not negative keeps the order of the ends, and a negative one turns it round

@@ -3,7 +3,7 @@ use mathlib.Core.Path.{_≡_, sym, _∙_}
 use native.Mathlib.Omega.{arith}
 use denote.Ref.{now}
 use borrow.Author.Tests.{not-true, not-false}
-use Rattle.reader.specs.Read.{surveySeen, primeSeen, primeIn}
+use Rattle.reader.specs.Read.{surveySeen, PrimeFound, primeIn}
 use Rattle.reader.proofs.Whole.{survey-too-long, survey-not-ended, first-within, first-stopped, first-is-prime, survey-after}
 use borrow.Author.Needs.{needs}
 use Rattle.reader.proofs.read.survey.Statement.{statement}
@@ -17,9 +17,9 @@ use Rattle.text.proofs.line_end.Reads as line-end-reads
 
 -- src/read.rt:79:9
 returns : tie.Need-returns
-unfolding surveySeen primeSeen
+unfolding surveySeen PrimeFound
 returns c =
-    (survey-too-long (now (c .before .before .args .list)) (c .if1 .taken), omega arith)
+    (survey-too-long (now (c .before .before .args .list)) (c .if1 .taken), tt)
 
 -- src/read.rt:81:9
 is-ended-requires : tie.Need-is-ended-requires
@@ -27,9 +27,9 @@ is-ended-requires c κs = search needs
 
 -- src/read.rt:82:9
 returns-2 : tie.Need-returns-2
-unfolding surveySeen primeSeen
+unfolding surveySeen PrimeFound
 returns-2 c =
-    (survey-not-ended (now (c .before .before .before .before .args .list)) (c .before .before .if1 .left) (sym (c .before .is-ended .ensures) ∙ not-true _ (c .if2 .taken)), omega arith)
+    (survey-not-ended (now (c .before .before .before .before .args .list)) (c .before .before .if1 .left) (sym (c .before .is-ended .ensures) ∙ not-true _ (c .if2 .taken)), tt)
 
 -- src/read.rt:85:9
 line-end-requires : tie.Need-line-end-requires
@@ -82,14 +82,14 @@ survey-from-requires c κs =
 
 -- src/read.rt:75:1
 returns-3 : tie.Need-returns-3
-unfolding surveySeen primeSeen
+unfolding surveySeen PrimeFound
 returns-3 c =
     let text = now (c .before .before .before .before .before .before .before .before .before .before .before .before .args .list) in
     let short = c .before .before .before .before .before .before .before .before .before .before .if1 .left in
     let ended = sym (c .before .before .before .before .before .before .before .before .before .is-ended .ensures) ∙ not-false _ (c .before .before .before .before .before .before .before .before .if2 .left) in
     let found = c .before .before .before .before .before .before .before .line-end .ensures in
     let told = c .before .before .before .before .first-line .ensures in
-    (first-stopped text short ended found _ (told .0) _ (c .before .first .given .1), omega arith)
+    (first-stopped text short ended found _ (told .0) _ (c .before .first .given .1), tt)
 
 -- src/read.rt:75:1
 returns-4 : tie.Need-returns-4

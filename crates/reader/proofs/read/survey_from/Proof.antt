@@ -2,10 +2,9 @@
 use mathlib.Core.Path.{refl}
 use Prim.Native.Nat.{_-_}
 use lib.ListN.{length}
-use native.Mathlib.Omega.{arith}
 use denote.Ref.{now}
 use borrow.Author.Needs.{needs}
-use Rattle.reader.specs.Read.{surveySeen, primeSeen}
+use Rattle.reader.specs.Read.{surveySeen, PrimeFound}
 use Rattle.reader.proofs.Walk.{Walked, walk-ready, walk-start, walk-end, walk-stopped, walk-next}
 use Rattle.reader.proofs.read.survey_from.Statement.{statement}
 use Rattle.reader.proofs.read.survey_from.Tie as tie
@@ -73,13 +72,13 @@ enum-known-stepped c = search needs
 
 -- src/read.rt:120:17
 returns : tie.Need-returns Inv-loop μ-loop
-unfolding surveySeen primeSeen
+unfolding surveySeen PrimeFound
 returns c =
     let S = c .before .before .before .before .before .before .before .before .before .before .before .before .before .before .before .before .before in
     let w = c .before .before .before .before .before .before .before .before .before .before .before .before .before .before .before .loop .inv in (
       walk-stopped w (S .pre .0) (c .before .before .before .before .before .before .before .before .before .before .before .before .before .before .loop-test .taken) (c .before .before .before .before .before .before .before .before .before .before .before .before .before .line-end .ensures)
           _ (c .before .stepped .given .0 .0) _ _ _ (c .before .stepped .given .1) (c .before .before .before .before .before .before .before .step-line .ensures .0 _ refl),
-      omega arith,
+      tt,
     )
 
 -- src/read.rt:122:27
@@ -110,8 +109,8 @@ loop-again c =
 
 -- src/read.rt:94:1
 returns-2 : tie.Need-returns-2 Inv-loop μ-loop
-unfolding surveySeen primeSeen
-returns-2 c = (walk-end (c .before .loop .inv) (c .loop-test .left), c .before .before .before .pre .4)
+unfolding surveySeen PrimeFound
+returns-2 c = (walk-end (c .before .loop .inv) (c .loop-test .left), (c .before .before .before .pre .3, c .before .before .before .pre .4))
 
 pub survey-from-spec : {M : Type 1} → statement M
 survey-from-spec =

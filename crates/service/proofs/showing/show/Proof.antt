@@ -4,7 +4,7 @@ use Prim.Native.Nat.{_≤_}
 use native.Mathlib.Omega.{arith}
 use lib.ListN.{length}
 use denote.Ref.{now}
-use Rattle.service.proofs.Listed.{Listed, survey-refused, survey-counted}
+use Rattle.service.proofs.Listed.{survey-refused, survey-counted}
 use Rattle.service.proofs.Shown.{shown-refused, shown-wrong-length, shown-stretch}
 use borrow.Author.Needs.{needs}
 use Rattle.service.proofs.showing.show.Statement.{statement}

@@ -9,7 +9,7 @@ use Rattle.algebra.proofs.Test.{≡-test, leZ-iff, leZ-false}
 use Rattle.algebra.proofs.Integer.Linear.{linear}
 use Rattle.number.proofs.Word.{back, test-≤}
 use Rattle.number.proofs.Bounded.{difference-fits}
-use Rattle.table.proofs.WorksWhole.{cast-fits, distance-turned}
+use Rattle.table.proofs.Whole.{cast-fits, distance-turned}
 use Rattle.table.proofs.group.apart.Statement.{statement}
 use Rattle.table.proofs.group.apart.Tie as tie
 

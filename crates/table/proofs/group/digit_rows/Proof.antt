@@ -1,4 +1,4 @@
--- The digits before `i` pass: what is left to test says what the whole test says.
+-- `table::group::digit_rows`: the digits before `i` pass, and what is left to test says what the whole test says.
 use mathlib.Core.Path.{_≡_, sym, _∙_}
 use Prim.Native.Nat.{ℕ, _+_, _-_, _≤_}
 use borrow.Author.Needs.{needs}

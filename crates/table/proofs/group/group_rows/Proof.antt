@@ -1,4 +1,4 @@
--- The digits' rows, and then the row of values.
+-- `table::group::group_rows`: the digits' rows, and then the row of values.
 use borrow.Author.Needs.{needs}
 use Rattle.table.specs.Rows.{rowsSeen}
 use Rattle.table.proofs.RowsGroup.{group-answer}

@@ -1,4 +1,4 @@
--- Horner's rule: in each turn the value is that of the digits from `left` on, modulo p.
+-- `table::group::place_value`: Horner's rule; in each turn the value is that of the digits from `left` on, modulo p.
 use mathlib.Core.Path.{_≡_}
 use Prim.Native.Nat.{_+_, _-_, _%_, _≤_, _<_}
 use native.Mathlib.Omega.{arith}

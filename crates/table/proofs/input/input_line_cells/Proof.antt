@@ -7,37 +7,38 @@ use mir.Val.{SFits}
 use Rattle.meaning.specs.Refusal.{isField}
 use Rattle.meaning.proofs.Number.{positive}
 use Rattle.number.proofs.Word.{back}
-use Rattle.table.proofs.CellsLine.{prime-asked, input-known, input-room, input-cells-told}
+use Rattle.table.proofs.CellsLine.{prime-asked, input-cell, own-known, own-room, own-cell-told}
 use borrow.Author.Needs.{needs}
 use Rattle.table.proofs.input.input_line_cells.Statement.{statement}
 use Rattle.table.proofs.input.input_line_cells.Tie as tie
 
-mul-input-cells : tie.Need-mul-input-cells
-mul-input-cells c = let h = input-known (c .before .before .pre .1) in search needs
+mul-value-cell : tie.Need-mul-value-cell
+mul-value-cell c = let h = own-known input-cell (c .before .before .pre .1) in search needs
 
-shared-slice-copy-out-input-cells : tie.Need-shared-slice-copy-out-input-cells
-shared-slice-copy-out-input-cells c = input-known (c .before .before .pre .1)
+shared-slice-copy-out-value-cell : tie.Need-shared-slice-copy-out-value-cell
+shared-slice-copy-out-value-cell c = own-known input-cell (c .before .before .pre .1)
 
-input-cells-requires : tie.Need-input-cells-requires
+value-cell-requires : tie.Need-value-cell-requires
 unfolding isField
-input-cells-requires c κs = let a = c .before .before .before .pre .1 in (positive (prime-asked a refl), input-room a)
+value-cell-requires c κs = let a = c .before .before .before .pre .1 in (positive (prime-asked a refl), own-room input-cell a)
 
 same-length : tie.Need-same-length
 same-length c = search needs
 
 returns : tie.Need-returns
+unfolding isField
 returns c numbers =
     let last = c .before .before in
     let s = last .before .before .before .before in
     let f : SFits w64 (getD (s .args .values .now) (s .args .known) (pos 0)) = search needs in
-    input-cells-told (back f) (last .input-cells .ensures)
+    own-cell-told input-cell refl (back f) (last .value-cell .ensures)
 
 pub input-line-cells-spec : {M : Type 1} → statement M
 input-line-cells-spec =
     tie.close
     (tie.spec
-    mul-input-cells
-    shared-slice-copy-out-input-cells
-    input-cells-requires
+    mul-value-cell
+    shared-slice-copy-out-value-cell
+    value-cell-requires
     same-length
     returns)

@@ -3,27 +3,27 @@ use mathlib.Core.Path.{_≡_, refl, _∙_}
 use native.Mathlib.Omega.{arith}
 use mir.Syntax.{w64}
 use mir.Val.{SFits, toZ, ofZ}
-use Rattle.meaning.specs.Refusal.{isField}
+use Rattle.meaning.specs.Gadget.Max.{maxLine}
 use Rattle.meaning.proofs.Number.{positive}
 use Rattle.number.proofs.Word.{back}
-use Rattle.table.proofs.LineValues.{named, name-asked, named-bounded, base-asked, count-asked, group-read}
-use Rattle.table.proofs.WorksLine.{max-first, max-second, max-digits}
-use Rattle.table.proofs.CellsLine.{prime-asked, max-room, max-cells-told}
+use Rattle.table.proofs.LineKinds.{max-word, base-asked, count-asked, two-first, two-second}
+use Rattle.table.proofs.LineValues.{named, value-asked, named-bounded, group-read}
+use Rattle.table.proofs.CellsLine.{prime-asked, two-room, max-cells-told}
 use borrow.Author.Needs.{needs}
 use Rattle.table.proofs.max.max_line_cells.Statement.{statement}
 use Rattle.table.proofs.max.max_line_cells.Tie as tie
 
 value-named-requires : tie.Need-value-named-requires
-value-named-requires c κs = let a = c .before .pre .1 .asked in name-asked a (max-first (a .kept))
+value-named-requires c κs = let s = c .before in value-asked (s .pre .1 .asked) (two-first (s .pre .1 .asked .kept) (max-word (s .args .numbers .now)))
 
 value-named-requires-2 : tie.Need-value-named-requires-2
-value-named-requires-2 c κs = let a = c .before .before .pre .1 .asked in name-asked a (max-second (a .kept))
+value-named-requires-2 c κs = let s = c .before .before in value-asked (s .pre .1 .asked) (two-second (s .pre .1 .asked .kept) (max-word (s .args .numbers .now)))
 
 base-at-requires : tie.Need-base-at-requires
-base-at-requires c κs = base-asked (max-digits (c .before .before .before .pre .1 .asked .kept))
+base-at-requires c κs = let s = c .before .before .before in base-asked (s .pre .1 .asked .kept) 2 (max-word (s .args .numbers .now) .has-digits)
 
 size-at-requires : tie.Need-size-at-requires
-size-at-requires c κs = count-asked (max-digits (c .before .before .before .before .pre .1 .asked .kept))
+size-at-requires c κs = let s = c .before .before .before .before in count-asked (s .pre .1 .asked .kept) 2 (max-word (s .args .numbers .now) .has-digits)
 
 first : (c : tie.After-value-named)
     → let s = c .before .before .args in
@@ -36,18 +36,19 @@ second : (c : tie.After-value-named2)
 second c = let f : SFits w64 (c .value-named2 .result) = search needs in back f ∙ c .value-named2 .ensures
 
 max-cells-requires : tie.Need-max-cells-requires
-unfolding isField
+unfolding maxLine
 max-cells-requires c κs =
     let digits = c .before in
     let base = digits .before in
     let s = base .before .before .before .before in
     let a = s .pre .1 in
-    let l = a .asked .kept in (
-      positive (prime-asked a refl),
-      omega (arith, group-read (max-digits l) (base .base-at .ensures) (digits .size-at .ensures) refl .base),
-      max-room a (digits .size-at .ensures),
-      rw (first (base .before .before)) (named-bounded (a .asked) (max-first l) refl),
-      rw (second (base .before)) (named-bounded (a .asked) (max-second l) refl),
+    let word = max-word (s .args .numbers .now) in
+    let late = word .has-digits .late in (
+      positive (prime-asked a late),
+      omega (arith, group-read (a .asked .kept) 2 (word .has-digits) (base .base-at .ensures) (digits .size-at .ensures) refl .base),
+      two-room a word (base .base-at .ensures) (digits .size-at .ensures),
+      rw (first (base .before .before)) (named-bounded (a .asked) (two-first (a .asked .kept) word) late),
+      rw (second (base .before)) (named-bounded (a .asked) (two-second (a .asked .kept) word) late),
     )
 
 same-length : tie.Need-same-length

@@ -1,4 +1,4 @@
--- The numbers of a max line, and its rows by them.
+-- `table::max::max_line_rows`: the line's numbers are what `max_rows` takes.
 use native.Mathlib.Omega.{arith}
 use Rattle.meaning.specs.Gadget.Max.{maxLine}
 use Rattle.table.proofs.LineKinds.{max-word, base-asked, count-asked, two-first, two-second}

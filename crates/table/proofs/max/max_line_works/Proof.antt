@@ -1,36 +1,31 @@
 -- `table::max::max_line_works`: the line's numbers are what `max_works` takes.
-use mathlib.Core.Path.{_≡_, refl, _∙_}
+use mathlib.Core.Path.{_≡_, _∙_}
 use mir.Syntax.{w64}
 use mir.Val.{SFits, toZ, ofZ}
-use Rattle.meaning.specs.Refusal.{isField}
 use Rattle.number.proofs.Word.{back}
-use Rattle.table.specs.Cells.{GroupOf}
-use Rattle.table.proofs.LineValues.{named, name-asked, named-bounded, base-asked, count-asked, power-asked, group-read}
-use Rattle.table.proofs.WorksLine.{max-first, max-second, max-digits, max-told}
+use Rattle.table.proofs.LineKinds.{max-word, base-asked, count-asked, two-first, two-second}
+use Rattle.table.proofs.LineValues.{named, value-asked, named-bounded, power-asked}
+use Rattle.table.proofs.WorksLine.{max-told}
 use borrow.Author.Needs.{needs}
 use Rattle.table.proofs.max.max_line_works.Statement.{statement}
 use Rattle.table.proofs.max.max_line_works.Tie as tie
 
 value-named-requires : tie.Need-value-named-requires
-value-named-requires c κs = name-asked (c .pre) (max-first (c .pre .kept))
+value-named-requires c κs = let s = c in value-asked (s .pre) (two-first (s .pre .kept) (max-word (s .args .numbers .now)))
 
 value-named-requires-2 : tie.Need-value-named-requires-2
-value-named-requires-2 c κs = name-asked (c .before .pre) (max-second (c .before .pre .kept))
+value-named-requires-2 c κs = let s = c .before in value-asked (s .pre) (two-second (s .pre .kept) (max-word (s .args .numbers .now)))
 
 base-at-requires : tie.Need-base-at-requires
-base-at-requires c κs = base-asked (max-digits (c .before .before .pre .kept))
+base-at-requires c κs = let s = c .before .before in base-asked (s .pre .kept) 2 (max-word (s .args .numbers .now) .has-digits)
 
 size-at-requires : tie.Need-size-at-requires
-size-at-requires c κs = count-asked (max-digits (c .before .before .before .pre .kept))
+size-at-requires c κs = let s = c .before .before .before in count-asked (s .pre .kept) 2 (max-word (s .args .numbers .now) .has-digits)
 
 power-of-requires : tie.Need-power-of-requires
 power-of-requires c κs =
-    power-asked (max-digits (c .before .before .before .before .pre .kept)) (c .before .base-at .ensures) (c .size-at .ensures)
-
-group : (c : tie.After-power-of) → GroupOf (c .before .before .base-at .result) (c .before .size-at .result) (c .power-of .result)
-group c =
-    group-read (max-digits (c .before .before .before .before .before .pre .kept)) (c .before .before .base-at .ensures)
-    (c .before .size-at .ensures) (c .power-of .ensures)
+    let s = c .before .before .before .before in
+    power-asked (s .pre .kept) 2 (max-word (s .args .numbers .now) .has-digits) (c .before .base-at .ensures) (c .size-at .ensures)
 
 first : (c : tie.After-value-named)
     → let s = c .before .args in
@@ -43,19 +38,20 @@ second : (c : tie.After-value-named2)
 second c = let f : SFits w64 (c .value-named2 .result) = search needs in back f ∙ c .value-named2 .ensures
 
 max-works-requires : tie.Need-max-works-requires
-unfolding isField
-max-works-requires c κs = (
-  rw (first (c .before .before .before .before)) (named-bounded (c .before .before .before .before .before .pre) (max-first (c .before .before .before .before .before .pre .kept)) refl),
-  rw (second (c .before .before .before)) (named-bounded (c .before .before .before .before .before .pre) (max-second (c .before .before .before .before .before .pre .kept)) refl),
-)
+max-works-requires c κs =
+    let s = c .before .before .before .before .before in
+    let word = max-word (s .args .numbers .now) in
+    let late = word .has-digits .late in (
+      rw (first (c .before .before .before .before)) (named-bounded (s .pre) (two-first (s .pre .kept) word) late),
+      rw (second (c .before .before .before)) (named-bounded (s .pre) (two-second (s .pre .kept) word) late),
+    )
 
 returns : tie.Need-returns
 returns c next =
     let digits = c .before .before in
     let base = digits .before in
-    let g = group (c .before) in
     max-told (first (base .before .before)) (second (base .before)) (base .base-at .ensures) (digits .size-at .ensures) next _
-    (c .max-works .ensures _ _ (g .power))
+    (c .max-works .ensures _ _ (c .before .power-of .ensures))
 
 pub max-line-works-spec : {M : Type 1} → statement M
 max-line-works-spec =

@@ -1,4 +1,4 @@
--- The row of the product, and then the two groups.
+-- `table::max::max_rows`: the row of the product, and then the two groups.
 use native.Mathlib.Omega.{arith}
 use lib.IntN.{pos}
 use borrow.Author.Needs.{needs}

@@ -1,4 +1,4 @@
--- A base is not negative and small, so that it goes into a machine word.
+-- `table::numbers::base_at`: a base is not negative and small, so that it goes into a machine word.
 use borrow.Author.Needs.{needs}
 use lib.IntN.{pos}
 use lib.ListN.{getD}
@@ -7,7 +7,7 @@ use mir.Val.{SFits}
 use native.Mathlib.Omega.{arith}
 use Rattle.number.proofs.Word.{back}
 use Rattle.reader.specs.State.{greatest}
-use Rattle.table.proofs.WorksWhole.{cast-narrow}
+use Rattle.table.proofs.Whole.{cast-narrow}
 use Rattle.table.proofs.numbers.base_at.Statement.{statement}
 use Rattle.table.proofs.numbers.base_at.Tie as tie
 

@@ -1,4 +1,4 @@
--- The place of the value that is named.
+-- `table::numbers::place_at`: the place of the value that is named.
 use mathlib.Core.Path.{ap}
 use Prim.Native.Nat.{ℕ}
 use lib.ListN.{getD}

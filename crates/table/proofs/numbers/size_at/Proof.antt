@@ -1,11 +1,11 @@
--- A name or a digit count is not negative, so that it goes into a machine word.
+-- `table::numbers::size_at`: a name or a digit count is not negative, so that it goes into a machine word.
 use borrow.Author.Needs.{needs}
 use lib.IntN.{pos}
 use lib.ListN.{getD}
 use mir.Syntax.{w64}
 use mir.Val.{SFits}
 use Rattle.number.proofs.Word.{back}
-use Rattle.table.proofs.WorksWhole.{cast-fits}
+use Rattle.table.proofs.Whole.{cast-fits}
 use Rattle.table.proofs.numbers.size_at.Statement.{statement}
 use Rattle.table.proofs.numbers.size_at.Tie as tie
 

@@ -1,4 +1,4 @@
--- The numbers of a relu line, and its rows by them.
+-- `table::relu::relu_line_rows`: the line's numbers are what `relu_rows` takes.
 use native.Mathlib.Omega.{arith}
 use Rattle.meaning.specs.Gadget.Relu.{reluLine}
 use Rattle.table.proofs.LineKinds.{relu-word, word-digits, base-asked, count-asked, one-name}

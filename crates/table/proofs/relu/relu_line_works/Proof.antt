@@ -5,29 +5,32 @@ use mir.Syntax.{w64}
 use mir.Val.{SFits, toZ, ofZ}
 use Rattle.number.proofs.Word.{back}
 use Rattle.table.specs.Cells.{GroupOf}
-use Rattle.table.proofs.LineValues.{named, name-asked, base-asked, count-asked, power-asked, group-read}
-use Rattle.table.proofs.WorksLine.{relu-name, relu-digits, relu-told}
+use Rattle.table.proofs.LineKinds.{relu-word, base-asked, count-asked, one-name}
+use Rattle.table.proofs.LineValues.{named, value-asked, power-asked, group-read}
+use Rattle.table.proofs.WorksLine.{relu-told}
 use borrow.Author.Needs.{needs}
 use Rattle.table.proofs.relu.relu_line_works.Statement.{statement}
 use Rattle.table.proofs.relu.relu_line_works.Tie as tie
 
 value-named-requires : tie.Need-value-named-requires
-value-named-requires c κs = name-asked (c .pre) (relu-name (c .pre .kept))
+value-named-requires c κs = let s = c in value-asked (s .pre) (one-name (s .pre .kept) (relu-word (s .args .numbers .now)))
 
 base-at-requires : tie.Need-base-at-requires
-base-at-requires c κs = base-asked (relu-digits (c .before .pre .kept))
+base-at-requires c κs = let s = c .before in base-asked (s .pre .kept) 1 (relu-word (s .args .numbers .now) .has-digits)
 
 size-at-requires : tie.Need-size-at-requires
-size-at-requires c κs = count-asked (relu-digits (c .before .before .pre .kept))
+size-at-requires c κs = let s = c .before .before in count-asked (s .pre .kept) 1 (relu-word (s .args .numbers .now) .has-digits)
 
 power-of-requires : tie.Need-power-of-requires
 power-of-requires c κs =
-    power-asked (relu-digits (c .before .before .before .pre .kept)) (c .before .base-at .ensures) (c .size-at .ensures)
+    let s = c .before .before .before in
+    power-asked (s .pre .kept) 1 (relu-word (s .args .numbers .now) .has-digits) (c .before .base-at .ensures) (c .size-at .ensures)
 
 group : (c : tie.After-power-of) → GroupOf (c .before .before .base-at .result) (c .before .size-at .result) (c .power-of .result)
 group c =
-    group-read (relu-digits (c .before .before .before .before .pre .kept)) (c .before .before .base-at .ensures)
-    (c .before .size-at .ensures) (c .power-of .ensures)
+    let s = c .before .before .before .before in
+    group-read (s .pre .kept) 1 (relu-word (s .args .numbers .now) .has-digits) (c .before .before .base-at .ensures) (c .before .size-at .ensures)
+    (c .power-of .ensures)
 
 value : (c : tie.After-value-named)
     → let s = c .before .args in
@@ -35,10 +38,7 @@ value : (c : tie.After-value-named)
 value c = let f : SFits w64 (c .value-named .result) = search needs in back f ∙ c .value-named .ensures
 
 relu-works-requires : tie.Need-relu-works-requires
-relu-works-requires c κs = (
-  omega (arith, group c .base),
-  group c .small,
-)
+relu-works-requires c κs = let g = group c in (omega (arith, g .base), g .small)
 
 returns : tie.Need-returns
 returns c next =

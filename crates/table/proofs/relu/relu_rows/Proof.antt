@@ -1,4 +1,4 @@
--- The rows of the sign of the value, with f·v ≡ y as the last.
+-- `table::relu::relu_rows`: the rows of the sign of the value, with f·v ≡ y as the last.
 use Prim.Native.Nat.{_+_}
 use native.Mathlib.Omega.{arith}
 use lib.IntN.{pos}

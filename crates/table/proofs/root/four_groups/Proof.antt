@@ -1,4 +1,4 @@
--- The groups one after another.
+-- `table::root::four_groups`: the groups one after another.
 use lib.IntN.{pos}
 use borrow.Author.Needs.{needs}
 use Rattle.table.proofs.RowsForm.{leaves-plain}

@@ -15,9 +15,8 @@ use Rattle.meaning.specs.Gadget.Root.{rootValue}
 use Rattle.number.proofs.Word.{back}
 use Rattle.number.proofs.Bounded.{bounded-more}
 use Rattle.table.specs.Cells.{restCells}
-use Rattle.table.proofs.WorksValue.{root-bounded}
 use Rattle.table.proofs.CellsPart.{written-after}
-use Rattle.table.proofs.CellsRoot.{rootStart, length-start, root-cells-are}
+use Rattle.table.proofs.CellsRoot.{root-bounded, rootStart, length-start, root-cells-are}
 use borrow.Author.Needs.{needs}
 use Rattle.table.proofs.root.root_cells.Statement.{statement}
 use Rattle.table.proofs.root.root_cells.Tie as tie

@@ -3,24 +3,24 @@ use mathlib.Core.Path.{_≡_, refl, _∙_}
 use native.Mathlib.Omega.{arith}
 use mir.Syntax.{w64}
 use mir.Val.{SFits, toZ, ofZ}
-use Rattle.meaning.specs.Refusal.{isField}
+use Rattle.meaning.specs.Gadget.Root.{rootLine}
 use Rattle.meaning.proofs.Number.{positive}
 use Rattle.number.proofs.Word.{back}
-use Rattle.table.proofs.LineValues.{named, name-asked, named-bounded, base-asked, count-asked, group-read}
-use Rattle.table.proofs.WorksLine.{root-name, root-digits}
-use Rattle.table.proofs.CellsLine.{prime-asked, root-room, root-cells-told}
+use Rattle.table.proofs.LineKinds.{root-word, base-asked, count-asked, one-name}
+use Rattle.table.proofs.LineValues.{named, value-asked, named-bounded, group-read}
+use Rattle.table.proofs.CellsLine.{prime-asked, one-room, root-cells-told}
 use borrow.Author.Needs.{needs}
 use Rattle.table.proofs.root.root_line_cells.Statement.{statement}
 use Rattle.table.proofs.root.root_line_cells.Tie as tie
 
 value-named-requires : tie.Need-value-named-requires
-value-named-requires c κs = let a = c .before .pre .1 .asked in name-asked a (root-name (a .kept))
+value-named-requires c κs = let s = c .before in value-asked (s .pre .1 .asked) (one-name (s .pre .1 .asked .kept) (root-word (s .args .numbers .now)))
 
 base-at-requires : tie.Need-base-at-requires
-base-at-requires c κs = base-asked (root-digits (c .before .before .pre .1 .asked .kept))
+base-at-requires c κs = let s = c .before .before in base-asked (s .pre .1 .asked .kept) 1 (root-word (s .args .numbers .now) .has-digits)
 
 size-at-requires : tie.Need-size-at-requires
-size-at-requires c κs = count-asked (root-digits (c .before .before .before .pre .1 .asked .kept))
+size-at-requires c κs = let s = c .before .before .before in count-asked (s .pre .1 .asked .kept) 1 (root-word (s .args .numbers .now) .has-digits)
 
 value : (c : tie.After-value-named)
     → let s = c .before .before .args in
@@ -28,17 +28,18 @@ value : (c : tie.After-value-named)
 value c = let f : SFits w64 (c .value-named .result) = search needs in back f ∙ c .value-named .ensures
 
 root-cells-requires : tie.Need-root-cells-requires
-unfolding isField
+unfolding rootLine
 root-cells-requires c κs =
     let digits = c .before in
     let base = digits .before in
     let s = base .before .before .before in
     let a = s .pre .1 in
-    let l = a .asked .kept in (
-      positive (prime-asked a refl),
-      omega (arith, group-read (root-digits l) (base .base-at .ensures) (digits .size-at .ensures) refl .base),
-      root-room a (digits .size-at .ensures),
-      rw (value (base .before)) (named-bounded (a .asked) (root-name l) refl),
+    let word = root-word (s .args .numbers .now) in
+    let late = word .has-digits .late in (
+      positive (prime-asked a late),
+      omega (arith, group-read (a .asked .kept) 1 (word .has-digits) (base .base-at .ensures) (digits .size-at .ensures) refl .base),
+      one-room a word (base .base-at .ensures) (digits .size-at .ensures),
+      rw (value (base .before)) (named-bounded (a .asked) (one-name (a .asked .kept) word) late),
     )
 
 same-length : tie.Need-same-length

@@ -1,4 +1,4 @@
--- The numbers of a root line, and its rows by them.
+-- `table::root::root_line_rows`: the line's numbers are what `root_rows` takes.
 use native.Mathlib.Omega.{arith}
 use Rattle.meaning.specs.Gadget.Root.{rootLine}
 use Rattle.table.proofs.LineKinds.{root-word, base-asked, count-asked, one-name}

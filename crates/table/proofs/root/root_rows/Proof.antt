@@ -1,4 +1,4 @@
--- The row of the square, and then the four groups.
+-- `table::root::root_rows`: the row of the square, and then the four groups.
 use Prim.Native.Nat.{_+_}
 use native.Mathlib.Omega.{arith}
 use lib.IntN.{pos}

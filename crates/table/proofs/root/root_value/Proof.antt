@@ -9,7 +9,7 @@ use Rattle.algebra.proofs.Root.{root-below}
 use Rattle.meaning.specs.Gadget.Root.{rootValue}
 use Rattle.number.proofs.Word.{back, small}
 use Rattle.number.proofs.Bounded.{bounded-more}
-use Rattle.table.proofs.WorksWhole.{pos-bounded, natAbs-from-zero}
+use Rattle.table.proofs.Whole.{pos-bounded, natAbs-from-zero}
 use borrow.Author.Needs.{needs}
 use Rattle.table.proofs.root.root_value.Statement.{statement}
 use Rattle.table.proofs.root.root_value.Tie as tie

@@ -1,4 +1,4 @@
--- By the test.
+-- `table::rows::row_before`: by the test.
 use mathlib.Core.Path.{refl}
 use Rattle.table.specs.Rows.{rowsSeen}
 use Rattle.table.proofs.rows.row_before.Statement.{statement}

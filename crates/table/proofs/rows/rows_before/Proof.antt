@@ -1,4 +1,4 @@
--- By the answer for the earlier rows.
+-- `table::rows::rows_before`: by the answer for the earlier rows.
 use mathlib.Core.Path.{refl}
 use borrow.Author.Needs.{needs}
 use Rattle.table.specs.Rows.{rowsSeen, firstOf}

@@ -9,7 +9,7 @@ use Rattle.algebra.proofs.Congruence.{remainder-below}
 use Rattle.meaning.proofs.Number.{positive}
 use Rattle.number.proofs.Word.{back, small}
 use Rattle.number.proofs.Bounded.{difference-fits}
-use Rattle.table.proofs.WorksWhole.{pos-bounded}
+use Rattle.table.proofs.Whole.{pos-bounded}
 use Rattle.table.proofs.CellsSign.{flag-zero, flag-other}
 use borrow.Author.Needs.{needs}
 use Rattle.table.proofs.sign.flag_cells.Statement.{statement}

@@ -1,4 +1,4 @@
--- The four rows, from the last to the first.
+-- `table::sign::flag_rows`: the four rows, from the last to the first.
 use borrow.Author.Needs.{needs}
 use Rattle.table.specs.Rows.{rowsSeen}
 use Rattle.table.proofs.RowsSign.{flag-answer}

@@ -14,8 +14,8 @@ use Rattle.meaning.specs.Gadget.Sign.{signShift}
 use Rattle.number.proofs.Word.{back}
 use Rattle.number.proofs.Bounded.{bounded-more}
 use Rattle.table.specs.Cells.{flagCells}
-use Rattle.table.proofs.WorksWhole.{negation-bounded, negation-fits, negation-is}
-use Rattle.table.proofs.WorksSign.{part-power, rest-shift}
+use Rattle.table.proofs.Whole.{negation-bounded, negation-fits, negation-is}
+use Rattle.table.proofs.SignPower.{part-power, rest-shift}
 use Rattle.table.proofs.CellsPart.{written-after}
 use Rattle.table.proofs.CellsSign.{sign-cells-are}
 use borrow.Author.Needs.{needs}

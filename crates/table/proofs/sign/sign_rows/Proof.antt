@@ -1,4 +1,4 @@
--- The group, and then the rows of the flag.
+-- `table::sign::sign_rows`: the group, and then the rows of the flag.
 use mathlib.Core.Path.{sym}
 use Prim.Native.Nat.{_+_, _-_}
 use native.Mathlib.Omega.{arith}

@@ -7,8 +7,8 @@ use lib.IntN.{ℤ, pos, _-ℤ_}
 use Rattle.meaning.specs.Number.{between}
 use Rattle.meaning.specs.Gadget.Sign.{signStatement}
 use Rattle.number.proofs.Word.{back}
-use Rattle.table.proofs.WorksWhole.{negation-fits, negation-is, one-less-fits, one-less-is}
-use Rattle.table.proofs.WorksSign.{part-power, rest-shift}
+use Rattle.table.proofs.Whole.{negation-fits, negation-is, one-less-fits, one-less-is}
+use Rattle.table.proofs.SignPower.{part-power, rest-shift}
 use borrow.Author.Needs.{needs}
 use Rattle.table.proofs.sign.sign_works.Statement.{statement}
 use Rattle.table.proofs.sign.sign_works.Tie as tie

@@ -1,4 +1,4 @@
--- In each turn part is (b-1)·b^(i-1) modulo p.
+-- `table::sign::top_part`: in each turn part is (b-1)·b^(i-1) modulo p.
 use mathlib.Core.Path.{_≡_}
 use Prim.Native.Nat.{_-_, _≤_, _<_}
 use native.Mathlib.Omega.{arith}

@@ -1,27 +1,30 @@
--- `table::span::span_line_cells`: the line's numbers are what `span_cells` takes.
+-- `table::span::span_line_cells`: the line's numbers are what `form_cells` takes.
 use mathlib.Core.Path.{_≡_, refl, _∙_}
 use native.Mathlib.Omega.{arith}
+use lib.Dec.{lit≤}
 use lib.IntN.{pos}
 use lib.ListN.{getD}
 use mir.Syntax.{w64}
 use mir.Val.{SFits, toZ, ofZ}
-use Rattle.meaning.specs.Refusal.{isField}
+use Rattle.meaning.specs.Gadget.Span.{spanLine}
 use Rattle.number.proofs.Word.{back}
-use Rattle.table.proofs.LineValues.{named, name-asked, named-bounded, base-asked, count-asked, group-read}
-use Rattle.table.proofs.WorksLine.{span-name, span-digits, span-shift}
-use Rattle.table.proofs.CellsLine.{span-room, span-cells-told}
+use Rattle.number.proofs.Bounded.{bounded-more}
+use Rattle.table.proofs.LineKinds.{span-word, base-asked, count-asked, one-name}
+use Rattle.table.proofs.LineValues.{named, value-asked, named-bounded, group-read}
+use Rattle.table.proofs.WorksLine.{span-shift}
+use Rattle.table.proofs.CellsLine.{one-room, span-cells-told}
 use borrow.Author.Needs.{needs}
 use Rattle.table.proofs.span.span_line_cells.Statement.{statement}
 use Rattle.table.proofs.span.span_line_cells.Tie as tie
 
 value-named-requires : tie.Need-value-named-requires
-value-named-requires c κs = let a = c .before .pre .2 .asked in name-asked a (span-name (a .kept))
+value-named-requires c κs = let s = c .before in value-asked (s .pre .2 .asked) (one-name (s .pre .2 .asked .kept) (span-word (s .args .numbers .now)))
 
 base-at-requires : tie.Need-base-at-requires
-base-at-requires c κs = base-asked (span-digits (c .before .before .pre .2 .asked .kept))
+base-at-requires c κs = let s = c .before .before in base-asked (s .pre .2 .asked .kept) 1 (span-word (s .args .numbers .now) .has-digits)
 
 size-at-requires : tie.Need-size-at-requires
-size-at-requires c κs = count-asked (span-digits (c .before .before .before .pre .2 .asked .kept))
+size-at-requires c κs = let s = c .before .before .before in count-asked (s .pre .2 .asked .kept) 1 (span-word (s .args .numbers .now) .has-digits)
 
 shared-slice-copy-out-shift : tie.Need-shared-slice-copy-out-shift
 shared-slice-copy-out-shift c = search needs
@@ -36,18 +39,19 @@ shift : (c : tie.After-shift)
     toZ w64 (ofZ w64 z) ≡ z
 shift c = search needs
 
-span-cells-requires : tie.Need-span-cells-requires
-unfolding isField
-span-cells-requires c κs =
+form-cells-requires : tie.Need-form-cells-requires
+unfolding spanLine
+form-cells-requires c κs =
     let digits = c .before .before in
     let base = digits .before in
     let s = base .before .before .before in
     let a = s .pre .2 in
-    let l = a .asked .kept in (
-      omega (arith, group-read (span-digits l) (base .base-at .ensures) (digits .size-at .ensures) refl .base),
-      span-room a (digits .size-at .ensures),
-      rw (value (base .before)) (named-bounded (a .asked) (span-name l) refl),
-      rw (shift (c .before)) (span-shift l),
+    let word = span-word (s .args .numbers .now) in
+    let late = word .has-digits .late in (
+      omega (arith, group-read (a .asked .kept) 1 (word .has-digits) (base .base-at .ensures) (digits .size-at .ensures) refl .base),
+      one-room a word (base .base-at .ensures) (digits .size-at .ensures),
+      rw (value (base .before)) (bounded-more (named-bounded (a .asked) (one-name (a .asked .kept) word) late) (lit≤ tt)),
+      rw (shift (c .before)) (bounded-more (span-shift (a .asked .kept)) (lit≤ tt)),
     )
 
 same-length : tie.Need-same-length
@@ -59,7 +63,7 @@ returns c p known =
     let digits = last .before .before .before in
     let base = digits .before in
     span-cells-told (value (base .before)) (base .base-at .ensures) (digits .size-at .ensures) (shift (last .before .before))
-    (last .span-cells .ensures)
+    (last .form-cells .ensures)
 
 pub span-line-cells-spec : {M : Type 1} → statement M
 span-line-cells-spec =
@@ -69,6 +73,6 @@ span-line-cells-spec =
     base-at-requires
     size-at-requires
     shared-slice-copy-out-shift
-    span-cells-requires
+    form-cells-requires
     same-length
     returns)

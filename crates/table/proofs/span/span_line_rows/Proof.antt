@@ -1,4 +1,4 @@
--- The numbers of a span line, and its rows by them.
+-- `table::span::span_line_rows`: the line's numbers are what `span_rows` takes.
 use native.Mathlib.Omega.{arith}
 use borrow.Author.Needs.{needs}
 use lib.IntN.{pos}

@@ -8,30 +8,33 @@ use Rattle.meaning.specs.Number.{between}
 use Rattle.meaning.specs.Gadget.Span.{spanTop}
 use Rattle.number.proofs.Word.{back}
 use Rattle.table.specs.Cells.{GroupOf}
+use Rattle.table.proofs.LineKinds.{span-word, base-asked, count-asked, one-name}
+use Rattle.table.proofs.LineValues.{named, value-asked, power-asked, group-read, power-positive}
 use Rattle.table.proofs.WorksAnswer.{no-value-worked, false-worked}
-use Rattle.table.proofs.LineValues.{named, name-asked, base-asked, count-asked, power-asked, group-read, power-positive}
-use Rattle.table.proofs.WorksLine.{span-name, span-digits, span-shift, span-told}
+use Rattle.table.proofs.WorksLine.{span-shift, span-told}
 use borrow.Author.Needs.{needs}
 use Rattle.table.proofs.span.span_line_works.Statement.{statement}
 use Rattle.table.proofs.span.span_line_works.Tie as tie
 
 value-named-requires : tie.Need-value-named-requires
-value-named-requires c κs = name-asked (c .pre) (span-name (c .pre .kept))
+value-named-requires c κs = let s = c in value-asked (s .pre) (one-name (s .pre .kept) (span-word (s .args .numbers .now)))
 
 base-at-requires : tie.Need-base-at-requires
-base-at-requires c κs = base-asked (span-digits (c .before .pre .kept))
+base-at-requires c κs = let s = c .before in base-asked (s .pre .kept) 1 (span-word (s .args .numbers .now) .has-digits)
 
 size-at-requires : tie.Need-size-at-requires
-size-at-requires c κs = count-asked (span-digits (c .before .before .pre .kept))
+size-at-requires c κs = let s = c .before .before in count-asked (s .pre .kept) 1 (span-word (s .args .numbers .now) .has-digits)
 
 power-of-requires : tie.Need-power-of-requires
 power-of-requires c κs =
-    power-asked (span-digits (c .before .before .before .pre .kept)) (c .before .base-at .ensures) (c .size-at .ensures)
+    let s = c .before .before .before in
+    power-asked (s .pre .kept) 1 (span-word (s .args .numbers .now) .has-digits) (c .before .base-at .ensures) (c .size-at .ensures)
 
 group : (c : tie.After-power-of) → GroupOf (c .before .before .base-at .result) (c .before .size-at .result) (c .power-of .result)
 group c =
-    group-read (span-digits (c .before .before .before .before .pre .kept)) (c .before .before .base-at .ensures)
-    (c .before .size-at .ensures) (c .power-of .ensures)
+    let s = c .before .before .before .before in
+    group-read (s .pre .kept) 1 (span-word (s .args .numbers .now) .has-digits) (c .before .before .base-at .ensures) (c .before .size-at .ensures)
+    (c .power-of .ensures)
 
 shared-slice-copy-out-shift : tie.Need-shared-slice-copy-out-shift
 shared-slice-copy-out-shift c = search needs
@@ -57,7 +60,7 @@ tested : (c : tie.After-span-works)
     let L = toZ w64 (ofZ w64 (getD numbers 3 (pos 0))) in
     let v = toZ w64 (ofZ w64 (c .before .before .before .before .before .value-named .result)) in
     between L v (spanTop (c .before .before .before .before .base-at .result) (c .before .before .before .size-at .result) L) ≡ c .span-works .result
-tested c = sym (c .span-works .ensures _ _ (group (c .before .before) .power))
+tested c = sym (c .span-works .ensures _ _ (c .before .before .power-of .ensures))
 
 returns : tie.Need-returns
 returns c next =

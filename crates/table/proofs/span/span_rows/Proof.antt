@@ -1,4 +1,4 @@
--- One group, over the value less the shift.
+-- `table::span::span_rows`: one group, over the value less the shift.
 use borrow.Author.Needs.{needs}
 use Rattle.meaning.specs.Row.{cell, constant}
 use Rattle.meaning.specs.Gadget.Span.{spanLine}

@@ -7,7 +7,7 @@ use Rattle.meaning.specs.Number.{between}
 use Rattle.meaning.specs.Gadget.Span.{spanTop}
 use Rattle.number.proofs.Word.{back, small}
 use Rattle.number.proofs.Bounded.{sum-fits}
-use Rattle.table.proofs.WorksWhole.{pos-bounded}
+use Rattle.table.proofs.Whole.{pos-bounded}
 use borrow.Author.Needs.{needs}
 use Rattle.table.proofs.span.span_works.Statement.{statement}
 use Rattle.table.proofs.span.span_works.Tie as tie

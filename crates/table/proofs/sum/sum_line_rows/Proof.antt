@@ -1,4 +1,4 @@
--- The numbers of a sum line, and its row by them.
+-- `table::sum::sum_line_rows`: the line's numbers are what `sum_rows` takes.
 use Rattle.table.proofs.RowsSum.{sum-asked, sum-told}
 use Rattle.table.proofs.sum.sum_line_rows.Statement.{statement}
 use Rattle.table.proofs.sum.sum_line_rows.Tie as tie

@@ -1,4 +1,4 @@
--- The terms before the one of number i are in the total.
+-- `table::sum::sum_rows`: the terms before the one of number i are in the total.
 use mathlib.Core.Path.{_≡_, refl}
 use Prim.Native.Nat.{_+_, _-_, _%_, _≤_, _<_}
 use native.Mathlib.Omega.{arith}

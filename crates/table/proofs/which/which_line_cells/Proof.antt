@@ -1,31 +1,32 @@
 -- `table::which::which_line_cells`: the line's numbers are what `which_cells` takes.
-use mathlib.Core.Path.{_≡_, refl, _∙_}
+use mathlib.Core.Path.{_≡_, _∙_}
 use mir.Syntax.{w64}
 use mir.Val.{SFits, toZ, ofZ}
-use Rattle.meaning.specs.Refusal.{isField}
+use Rattle.meaning.specs.Gadget.Which.{whichLine}
 use Rattle.number.proofs.Word.{back}
-use Rattle.table.proofs.LineValues.{named, name-asked, named-bounded, base-asked, count-asked, power-asked, group-read}
-use Rattle.table.proofs.WorksLine.{which-first, which-second, which-digits}
-use Rattle.table.proofs.CellsLine.{prime-asked, which-room, which-cells-told}
+use Rattle.table.proofs.LineKinds.{which-word, base-asked, count-asked, two-first, two-second}
+use Rattle.table.proofs.LineValues.{named, value-asked, named-bounded, power-asked, group-read}
+use Rattle.table.proofs.CellsLine.{prime-asked, two-room, which-cells-told}
 use borrow.Author.Needs.{needs}
 use Rattle.table.proofs.which.which_line_cells.Statement.{statement}
 use Rattle.table.proofs.which.which_line_cells.Tie as tie
 
 value-named-requires : tie.Need-value-named-requires
-value-named-requires c κs = let a = c .before .pre .1 .asked in name-asked a (which-first (a .kept))
+value-named-requires c κs = let s = c .before in value-asked (s .pre .1 .asked) (two-first (s .pre .1 .asked .kept) (which-word (s .args .numbers .now)))
 
 value-named-requires-2 : tie.Need-value-named-requires-2
-value-named-requires-2 c κs = let a = c .before .before .pre .1 .asked in name-asked a (which-second (a .kept))
+value-named-requires-2 c κs = let s = c .before .before in value-asked (s .pre .1 .asked) (two-second (s .pre .1 .asked .kept) (which-word (s .args .numbers .now)))
 
 base-at-requires : tie.Need-base-at-requires
-base-at-requires c κs = base-asked (which-digits (c .before .before .before .pre .1 .asked .kept))
+base-at-requires c κs = let s = c .before .before .before in base-asked (s .pre .1 .asked .kept) 2 (which-word (s .args .numbers .now) .has-digits)
 
 size-at-requires : tie.Need-size-at-requires
-size-at-requires c κs = count-asked (which-digits (c .before .before .before .before .pre .1 .asked .kept))
+size-at-requires c κs = let s = c .before .before .before .before in count-asked (s .pre .1 .asked .kept) 2 (which-word (s .args .numbers .now) .has-digits)
 
 power-of-requires : tie.Need-power-of-requires
 power-of-requires c κs =
-    power-asked (which-digits (c .before .before .before .before .before .pre .1 .asked .kept)) (c .before .base-at .ensures) (c .size-at .ensures)
+    let s = c .before .before .before .before .before in
+    power-asked (s .pre .1 .asked .kept) 2 (which-word (s .args .numbers .now) .has-digits) (c .before .base-at .ensures) (c .size-at .ensures)
 
 first : (c : tie.After-value-named)
     → let s = c .before .before .args in
@@ -38,18 +39,19 @@ second : (c : tie.After-value-named2)
 second c = let f : SFits w64 (c .value-named2 .result) = search needs in back f ∙ c .value-named2 .ensures
 
 which-cells-requires : tie.Need-which-cells-requires
-unfolding isField
+unfolding whichLine
 which-cells-requires c κs =
     let digits = c .before .before in
     let base = digits .before in
     let s = base .before .before .before .before in
     let a = s .pre .1 in
-    let l = a .asked .kept in (
-      prime-asked a refl,
-      group-read (which-digits l) (base .base-at .ensures) (digits .size-at .ensures) (c .before .power-of .ensures),
-      which-room a (digits .size-at .ensures),
-      rw (first (base .before .before)) (named-bounded (a .asked) (which-first l) refl),
-      rw (second (base .before)) (named-bounded (a .asked) (which-second l) refl),
+    let word = which-word (s .args .numbers .now) in
+    let late = word .has-digits .late in (
+      prime-asked a late,
+      group-read (a .asked .kept) 2 (word .has-digits) (base .base-at .ensures) (digits .size-at .ensures) (c .before .power-of .ensures),
+      two-room a word (base .base-at .ensures) (digits .size-at .ensures),
+      rw (first (base .before .before)) (named-bounded (a .asked) (two-first (a .asked .kept) word) late),
+      rw (second (base .before)) (named-bounded (a .asked) (two-second (a .asked .kept) word) late),
     )
 
 same-length : tie.Need-same-length

@@ -1,4 +1,4 @@
--- The numbers of a which line, and its rows by them.
+-- `table::which::which_line_rows`: the line's numbers are what `which_rows` takes.
 use native.Mathlib.Omega.{arith}
 use Rattle.meaning.specs.Gadget.Which.{whichLine}
 use Rattle.table.proofs.LineKinds.{which-word, word-digits, base-asked, count-asked, two-first, two-second}

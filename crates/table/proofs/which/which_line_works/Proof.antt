@@ -1,37 +1,39 @@
 -- `table::which::which_line_works`: the line's numbers are what `which_works` takes.
-use mathlib.Core.Path.{_≡_, refl, _∙_}
+use mathlib.Core.Path.{_≡_, _∙_}
 use native.Mathlib.Omega.{arith}
 use mir.Syntax.{w64}
 use mir.Val.{SFits, toZ, ofZ}
-use Rattle.meaning.specs.Refusal.{isField}
 use Rattle.number.proofs.Word.{back}
 use Rattle.table.specs.Cells.{GroupOf}
-use Rattle.table.proofs.LineValues.{named, name-asked, named-bounded, base-asked, count-asked, power-asked, group-read}
-use Rattle.table.proofs.WorksLine.{which-first, which-second, which-digits, which-told}
+use Rattle.table.proofs.LineKinds.{which-word, base-asked, count-asked, two-first, two-second}
+use Rattle.table.proofs.LineValues.{named, value-asked, named-bounded, power-asked, group-read}
+use Rattle.table.proofs.WorksLine.{which-told}
 use borrow.Author.Needs.{needs}
 use Rattle.table.proofs.which.which_line_works.Statement.{statement}
 use Rattle.table.proofs.which.which_line_works.Tie as tie
 
 value-named-requires : tie.Need-value-named-requires
-value-named-requires c κs = name-asked (c .pre) (which-first (c .pre .kept))
+value-named-requires c κs = let s = c in value-asked (s .pre) (two-first (s .pre .kept) (which-word (s .args .numbers .now)))
 
 value-named-requires-2 : tie.Need-value-named-requires-2
-value-named-requires-2 c κs = name-asked (c .before .pre) (which-second (c .before .pre .kept))
+value-named-requires-2 c κs = let s = c .before in value-asked (s .pre) (two-second (s .pre .kept) (which-word (s .args .numbers .now)))
 
 base-at-requires : tie.Need-base-at-requires
-base-at-requires c κs = base-asked (which-digits (c .before .before .pre .kept))
+base-at-requires c κs = let s = c .before .before in base-asked (s .pre .kept) 2 (which-word (s .args .numbers .now) .has-digits)
 
 size-at-requires : tie.Need-size-at-requires
-size-at-requires c κs = count-asked (which-digits (c .before .before .before .pre .kept))
+size-at-requires c κs = let s = c .before .before .before in count-asked (s .pre .kept) 2 (which-word (s .args .numbers .now) .has-digits)
 
 power-of-requires : tie.Need-power-of-requires
 power-of-requires c κs =
-    power-asked (which-digits (c .before .before .before .before .pre .kept)) (c .before .base-at .ensures) (c .size-at .ensures)
+    let s = c .before .before .before .before in
+    power-asked (s .pre .kept) 2 (which-word (s .args .numbers .now) .has-digits) (c .before .base-at .ensures) (c .size-at .ensures)
 
 group : (c : tie.After-power-of) → GroupOf (c .before .before .base-at .result) (c .before .size-at .result) (c .power-of .result)
 group c =
-    group-read (which-digits (c .before .before .before .before .before .pre .kept)) (c .before .before .base-at .ensures)
-    (c .before .size-at .ensures) (c .power-of .ensures)
+    let s = c .before .before .before .before .before in
+    group-read (s .pre .kept) 2 (which-word (s .args .numbers .now) .has-digits) (c .before .before .base-at .ensures) (c .before .size-at .ensures)
+    (c .power-of .ensures)
 
 first : (c : tie.After-value-named)
     → let s = c .before .args in
@@ -44,13 +46,15 @@ second : (c : tie.After-value-named2)
 second c = let f : SFits w64 (c .value-named2 .result) = search needs in back f ∙ c .value-named2 .ensures
 
 which-works-requires : tie.Need-which-works-requires
-unfolding isField
-which-works-requires c κs = (
-  omega (arith, group c .base),
-  group c .small,
-  rw (first (c .before .before .before .before)) (named-bounded (c .before .before .before .before .before .pre) (which-first (c .before .before .before .before .before .pre .kept)) refl),
-  rw (second (c .before .before .before)) (named-bounded (c .before .before .before .before .before .pre) (which-second (c .before .before .before .before .before .pre .kept)) refl),
-)
+which-works-requires c κs =
+    let s = c .before .before .before .before .before in
+    let word = which-word (s .args .numbers .now) in
+    let late = word .has-digits .late in (
+      omega (arith, group c .base),
+      group c .small,
+      rw (first (c .before .before .before .before)) (named-bounded (s .pre) (two-first (s .pre .kept) word) late),
+      rw (second (c .before .before .before)) (named-bounded (s .pre) (two-second (s .pre .kept) word) late),
+    )
 
 returns : tie.Need-returns
 returns c next =

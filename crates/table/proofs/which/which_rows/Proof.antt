@@ -1,4 +1,4 @@
--- The rows of the sign of u-v, with y ≡ 1-f as the last.
+-- `table::which::which_rows`: the rows of the sign of u-v, with y ≡ 1-f as the last.
 use Prim.Native.Nat.{_+_}
 use native.Mathlib.Omega.{arith}
 use lib.IntN.{pos}

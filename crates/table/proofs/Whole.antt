@@ -7,8 +7,9 @@ use lib.IntN.{ℤ, pos, negsuc, negℤ, natAbs, _-ℤ_, +ℤ-idr}
 use lib.Signed.{_≤ℤ_, nonNeg}
 use mir.Syntax.{w32, w64}
 use mir.Val.{Fits, SFits, toZ, ofZ}
-use Rattle.algebra.proofs.Integer.Order.{minus, natAbs-parts, positivePart-negation, negativePart-negation, integer}
+use Rattle.algebra.proofs.Integer.Order.{minus, integer}
 use Rattle.algebra.proofs.Integer.Linear.{linear}
+use Rattle.algebra.proofs.Prime.{natAbs-negation}
 use Rattle.number.specs.Bounded.{Bounded}
 use Rattle.number.proofs.Word.{back, small}
 use Rattle.number.proofs.Bounded.{bounded-difference, bounded-fits, difference-fits}
@@ -22,9 +23,6 @@ cast-fits (negsuc n) f h = absurd (omega integer)
 pub cast-narrow : (z : ℤ) → pos 0 ≤ℤ z → natAbs z < 2 ^ 32 → T (nonNeg z) × Fits w32 (natAbs z)
 cast-narrow (pos n) h l = (tt, record { fits = l })
 cast-narrow (negsuc n) h l = absurd (omega integer)
-
-natAbs-negation : (z : ℤ) → natAbs (negℤ z) ≡ natAbs z
-natAbs-negation z = omega (arith, natAbs-parts z, natAbs-parts (negℤ z), positivePart-negation z, negativePart-negation z)
 
 -- the distance of two numbers, either way
 pub distance-turned : (x y : ℤ) → natAbs (y -ℤ x) ≡ natAbs (x -ℤ y)

@@ -4,15 +4,8 @@ use Prim.Native.Nat.{ℕ, zero, suc, _-_, _*_, _/_, _^_, _≤_, _<_}
 use native.Mathlib.Omega.{arith}
 use native.Mathlib.Nat.{pow-succ', mul-div-cancel-left}
 use lib.IntN.{pos, negℤ, _-ℤ_, +ℤ-idl}
-use Rattle.meaning.specs.Known.{topPart}
 use Rattle.meaning.specs.Gadget.Sign.{signShift}
-
-rest-of : (b n : ℕ) → zero < b → b * n - n ≡ (b - 1) * n
-rest-of zero n h = absurd (omega arith)
-rest-of (suc b) n h = rw (less b) (omega arith)
-  where
-    less : (b : ℕ) → suc b - 1 ≡ b
-    less b = omega arith
+use Rattle.reader.proofs.Digits.{top-part}
 
 module _ (b k c : ℕ) (base : zero < b) (some-digit : 1 ≤ k) (power : c ≡ b ^ k) where
   split : c ≡ b * b ^ (k - 1)
@@ -24,10 +17,6 @@ module _ (b k c : ℕ) (base : zero < b) (some-digit : 1 ≤ k) (power : c ≡ b
   pub part-power : c / b ≡ b ^ (k - 1)
   part-power = ap (λ n. n / b) split ∙ mul-div-cancel-left (b ^ (k - 1)) base
 
-  pub rest-power : c - c / b ≡ topPart b k
-  unfolding topPart
-  rest-power = rw (part-power) (ap (λ n. n - b ^ (k - 1)) split ∙ rest-of b (b ^ (k - 1)) base)
-
   pub rest-shift : pos 0 -ℤ pos (c - c / b) ≡ signShift b k
   unfolding signShift
-  rest-shift = +ℤ-idl (negℤ (pos (c - c / b))) ∙ ap (λ n. negℤ (pos n)) rest-power
+  rest-shift = +ℤ-idl (negℤ (pos (c - c / b))) ∙ ap (λ n. negℤ (pos n)) (top-part b k c base some-digit power)

@@ -1,0 +1,98 @@
+-- One call of the desk: its two refusals, and a call that is counted.
+use Prim.Native.Nat.{ℕ, _+_, _-_, _≤_, _<_}
+use native.Mathlib.Omega.{arith}
+use native.Mathlib.Numerals.{unary-clauses}
+use mathlib.Core.Path.{_≡_, refl, sym, ap, _∙_}
+use mathlib.Core.Bool.{Bool, true, false, not}
+use mathlib.Core.Logic.{inl, inr}
+use mathlib.Core.List.{List}
+use lib.Dec.{eqb, leb}
+use borrow.Author.Tests.{not-true, not-false, lt-leb, eq-eqb, ne-eqb, eqb-true, eqb-false}
+use Rattle.meaning.specs.Reply.{reply, checkReply}
+use Rattle.meaning.specs.Desk.{counted, called, fullCount, isAccepted, raised, deskCall}
+use Rattle.meaning.specs.Desk.{Desk as MeantDesk, Called as MeantCalled}
+use Rattle.meaning.proofs.Desk.{stays-full}
+use Rattle.service.specs.Reply.{replySeen}
+use Rattle.service.specs.declared.reply.Reply.{Reply}
+use Rattle.desk.specs.declared.Desk.{Desk}
+use Rattle.desk.specs.declared.Called.{Called}
+use Rattle.desk.specs.Desk.{Agrees, CountsOne, deskSeen, calledSeen}
+
+-- ---- the test of 19, with no sum that may pass 64 bits
+
+pub agree-exactly : (h a r : ℕ) → a ≤ h → eqb (h - a) r ≡ eqb h (a + r)
+agree-exactly h a r le = by-test (eqb (h - a) r) refl
+  where
+    by-test : (b : Bool) → eqb (h - a) r ≡ b → b ≡ eqb h (a + r)
+    by-test true e = let f = eqb-true (h - a) r e in sym (eq-eqb h (a + r) (omega arith))
+    by-test false e = sym (ne-eqb h (a + r) (λ q. eqb-false (h - a) r e (omega arith)))
+
+pub disagree : (h a r : ℕ) → h < a → leb a h ≡ eqb h (a + r)
+disagree h a r lt = lt-leb a h lt ∙ sym (ne-eqb h (a + r) (λ q. omega arith))
+
+-- ---- raising
+
+module _ (d : Desk) (r : Reply) where
+  pub raise-accepted : r .number ≡ 0 → counted (d .heard + 1) (d .accepted + 1) (d .refused) ≡ raised (deskSeen d) (replySeen r)
+  unfolding deskSeen replySeen raised isAccepted
+  raise-accepted e = rw (eq-eqb (r .number) 0 e) (simp unary-clauses refl)
+
+  pub raise-refused : (r .number ≡ 0 → ⊥) → counted (d .heard + 1) (d .accepted) (d .refused + 1) ≡ raised (deskSeen d) (replySeen r)
+  unfolding deskSeen replySeen raised isAccepted
+  raise-refused e = rw (ne-eqb (r .number) 0 e) (simp unary-clauses refl)
+
+-- ---- the three ways of a call
+
+-- the code's test of 19 gave t
+module _ (d : Desk) (t : Bool) (is : t ≡ eqb (d .heard) (d .accepted + d .refused)) where
+  pub tested-agrees : not t ≡ false → Agrees d
+  tested-agrees e = eqb-true _ _ (sym is ∙ not-false t e)
+
+  pub call-disagrees : (list table : List ℕ) → not t ≡ true → deskCall (deskSeen d) list table ≡ called (deskSeen d) (reply 19 0)
+  unfolding deskSeen deskCall
+  call-disagrees list table e = rw (sym is, not-true t e) refl
+
+module _ (d : Desk) (list table : List ℕ) (agrees : Agrees d) where
+  pub call-full : d .heard ≡ fullCount → deskCall (deskSeen d) list table ≡ called (deskSeen d) (reply 20 0)
+  unfolding deskSeen
+  call-full full = stays-full (deskSeen d) agrees full list table
+
+  call-with-room : (d .heard ≡ fullCount → ⊥)
+      → deskCall (deskSeen d) list table ≡ called (raised (deskSeen d) (checkReply list table)) (checkReply list table)
+  unfolding deskSeen deskCall
+  call-with-room room = rw (eq-eqb (d .heard) (d .accepted + d .refused) agrees, ne-eqb (d .heard) fullCount room) refl
+
+  pub call-counted : (d .heard ≡ fullCount → ⊥) → (c : Called)
+      → deskSeen (c .desk) ≡ raised (deskSeen d) (replySeen (c .reply)) → replySeen (c .reply) ≡ checkReply list table
+      → calledSeen c ≡ deskCall (deskSeen d) list table
+  unfolding calledSeen
+  call-counted room c raises checks = rw (call-with-room room, raises, checks) refl
+
+-- ---- what the contract says in plain words follows from its equation
+
+same-counts : {m n : MeantDesk} → m ≡ n → (m .heard ≡ n .heard) × (m .accepted ≡ n .accepted) × (m .refused ≡ n .refused)
+same-counts e = (ap (λ (d : MeantDesk). d .heard) e, ap (λ (d : MeantDesk). d .accepted) e, ap (λ (d : MeantDesk). d .refused) e)
+
+one-more : (d : Desk) (c : Called) → Agrees d → deskSeen (c .desk) ≡ raised (deskSeen d) (replySeen (c .reply)) → CountsOne d c
+unfolding deskSeen
+one-more d c agrees e = by-test (eqb (c .reply .number) 0) refl
+  where
+    by-test : (b : Bool) → eqb (c .reply .number) 0 ≡ b → CountsOne d c
+    by-test true t =
+        let zero = eqb-true (c .reply .number) 0 t in
+        let q = same-counts (e ∙ sym (raise-accepted d (c .reply) zero)) in
+        record { agrees = omega (arith, q, agrees); heard = q .0; one-other = inl (zero, q .1, q .2) }
+    by-test false t =
+        let other = eqb-false (c .reply .number) 0 t in
+        let q = same-counts (e ∙ sym (raise-refused d (c .reply) other)) in
+        record { agrees = omega (arith, q, agrees); heard = q .0; one-other = inr (other, q .1, q .2) }
+
+pub in-plain-words : (d : Desk) (list table : List ℕ) (c : Called) → calledSeen c ≡ deskCall (deskSeen d) list table
+    → (calledSeen c ≡ deskCall (deskSeen d) list table) × (Agrees d → d .heard < fullCount → CountsOne d c)
+unfolding calledSeen
+in-plain-words d list table c e = (e, λ agrees room. one-more d c agrees (raises agrees room))
+  where
+    raises : Agrees d → d .heard < fullCount → deskSeen (c .desk) ≡ raised (deskSeen d) (replySeen (c .reply))
+    raises agrees room =
+        let q = e ∙ call-with-room d list table agrees (λ full. omega arith) in
+        ap (λ (k : MeantCalled). k .desk) q ∙ ap (raised (deskSeen d)) (sym (ap (λ (k : MeantCalled). k .answer) q))

@@ -1,0 +1,69 @@
+-- The desk of the code counts its calls: what `meaning` proves of the definitions holds of every run of the code.
+use mathlib.Core.Path.{_≡_, refl, sym, ap, ap₂, _∙_}
+use mathlib.Core.List.{List, _∷_, map}
+use Rattle.meaning.specs.Reply.{Reply as MeantReply}
+use Rattle.meaning.specs.Desk.{freshDesk, fullCount, Call, deskCall, deskAfter, deskReplies}
+use Rattle.meaning.specs.Desk.{Desk as MeantDesk, Called as MeantCalled}
+use Rattle.meaning.proofs.Desk.{counts}
+use Rattle.service.specs.Reply.{replySeen}
+use Rattle.desk.specs.declared.Desk.{Desk}
+use Rattle.desk.specs.declared.Called.{Called}
+use Rattle.desk.specs.Desk.{Agrees, deskSeen, calledSeen}
+use Rattle.desk.specs.Run.{Run, no-call, then, callsOf, repliesOf, deskOf}
+use Rattle.desk.specs.Claims.{CodeCounts, CodeStaysFull, fullReply}
+use Rattle.desk.proofs.Calling.{call-full}
+
+-- ---- a run of the code is one of the definitions
+
+desk-of-run : {d : Desk} (run : Run d) → deskSeen (deskOf run) ≡ deskAfter (deskSeen d) (callsOf run)
+unfolding deskAfter callsOf deskOf calledSeen
+desk-of-run (no-call d) = refl
+desk-of-run (then d c gave h run) = desk-of-run run ∙ ap (λ (k : MeantCalled). deskAfter (k .desk) (callsOf run)) h
+
+replies-of-run : {d : Desk} (run : Run d) → map replySeen (repliesOf run) ≡ deskReplies (deskSeen d) (callsOf run)
+unfolding deskReplies callsOf repliesOf calledSeen
+replies-of-run (no-call d) = refl
+replies-of-run (then d c gave h run) =
+    ap (λ (rs : List MeantReply). replySeen (gave .reply) ∷ rs) (replies-of-run run)
+    ∙ ap (λ (k : MeantCalled). k .answer ∷ deskReplies (k .desk) (callsOf run)) h
+
+-- ---- up to the full count
+
+pub code-counts : CodeCounts
+unfolding deskSeen
+code-counts d run fresh few =
+    let after : deskSeen (deskOf run) ≡ deskAfter freshDesk (callsOf run) =
+    desk-of-run run ∙ ap (λ (m : MeantDesk). deskAfter m (callsOf run)) fresh in
+    let replies : map replySeen (repliesOf run) ≡ deskReplies freshDesk (callsOf run) =
+    replies-of-run run ∙ ap (λ (m : MeantDesk). deskReplies m (callsOf run)) fresh in
+    let c = rw (sym after) at (counts (callsOf run) few) in
+    (c .0, c .1, c .2, c .3, replies ∙ c .4)
+
+-- ---- at the full count
+
+-- what a call gave is all seen
+same-called : (c e : Called) → calledSeen c ≡ calledSeen e → c ≡ e
+unfolding calledSeen deskSeen replySeen
+same-called c e q = ap code q
+  where
+    code : MeantCalled → Called
+    code k =
+        record {
+          desk = record { heard = k .desk .heard; accepted = k .desk .accepted; refused = k .desk .refused };
+          reply = record { number = k .answer .number; place = k .answer .place };
+        }
+
+full-call : (d : Desk) (c : Call) (gave : Called) → Agrees d → d .heard ≡ fullCount
+    → calledSeen gave ≡ deskCall (deskSeen d) (c .list) (c .table) → gave ≡ record { desk = d; reply = fullReply c }
+unfolding calledSeen replySeen fullReply
+full-call d c gave agrees full h =
+    same-called gave (record { desk = d; reply = fullReply c }) (h ∙ call-full d (c .list) (c .table) agrees full)
+
+pub code-stays-full : CodeStaysFull
+unfolding callsOf repliesOf deskOf
+code-stays-full _ (no-call d) agrees full = (refl, refl)
+code-stays-full _ (then d c gave h run) agrees full =
+    let q = full-call d c gave agrees full h in
+    let same : gave .desk ≡ d = ap (λ (k : Called). k .desk) q in
+    let rest = code-stays-full (gave .desk) run (rw same agrees) (rw same full) in
+    (rest .0 ∙ same, ap₂ _∷_ (ap (λ (k : Called). k .reply) q) (rest .1))

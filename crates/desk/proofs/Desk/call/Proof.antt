@@ -1,0 +1,77 @@
+-- `desk::Desk::call`: 19, then 20, then the check that is counted.
+use mathlib.Core.Path.{sym, _∙_}
+use denote.Ref.{now}
+use borrow.Author.Tests.{eqb-true, eqb-false}
+use borrow.Author.Needs.{needs}
+use Rattle.meaning.specs.Desk.{fullCount}
+use Rattle.desk.proofs.Calling.{tested-agrees, call-disagrees, call-full, call-counted, in-plain-words}
+use Rattle.desk.proofs.Desk.call.Statement.{statement}
+use Rattle.desk.proofs.Desk.call.Tie as tie
+use Rattle.desk.proofs.Desk.call.Reads as reads
+use Rattle.desk.proofs.Desk.call.Lts as lts
+use Rattle.desk.proofs.Desk.agrees.Reads as agrees-reads
+use Rattle.desk.proofs.Desk.raised.Reads as raised-reads
+use Rattle.desk.proofs.Desk.refusal.Reads as refusal-reads
+use Rattle.service.proofs.check.Reads as check-reads
+
+-- src/lib.rt:45:13
+agrees-requires : tie.Need-agrees-requires
+agrees-requires c κs = search needs
+
+-- src/lib.rt:48:13
+refusal-requires : tie.Need-refusal-requires
+refusal-requires c κs = search needs
+
+-- src/lib.rt:48:13
+returns : tie.Need-returns
+returns c =
+    let S = c .before .before .before .before .before .before in
+    let disagrees = call-disagrees (S .args .self) _ (c .before .before .before .agrees .ensures) (now (S .args .list)) (now (S .args .table)) (c .before .if1 .taken) in
+    in-plain-words (S .args .self) _ _ _ (c .refusal .ensures ∙ sym disagrees)
+
+-- src/lib.rt:51:13
+refusal-requires-2 : tie.Need-refusal-requires-2
+refusal-requires-2 c κs = search needs
+
+-- src/lib.rt:51:13
+returns-2 : tie.Need-returns-2
+unfolding fullCount
+returns-2 c =
+    let S = c .before .before .before .before .before .before .before in
+    let agrees = tested-agrees (S .args .self) _ (c .before .before .before .before .agrees .ensures) (c .before .before .if1 .left) in
+    let full = call-full (S .args .self) (now (S .args .list)) (now (S .args .table)) agrees (eqb-true (S .args .self .heard) fullCount (c .before .if2 .taken)) in
+    in-plain-words (S .args .self) _ _ _ (c .refusal2 .ensures ∙ sym full)
+
+-- src/lib.rt:53:13
+check-requires : tie.Need-check-requires
+check-requires c κs = search needs
+
+-- src/lib.rt:54:13
+raised-requires : tie.Need-raised-requires
+unfolding fullCount
+raised-requires c κs =
+    let S = c .before .before .before .before .before .before .before in
+    let agrees = tested-agrees (S .args .self) _ (c .before .before .before .before .agrees .ensures) (c .before .before .if1 .left) in
+    (agrees, eqb-false (S .args .self .heard) fullCount (c .before .if2 .left))
+
+-- src/lib.rt:41:5
+returns-3 : tie.Need-returns-3
+unfolding fullCount
+returns-3 c =
+    let S = c .before .before .before .before .before .before .before .before in
+    let agrees = tested-agrees (S .args .self) _ (c .before .before .before .before .before .agrees .ensures) (c .before .before .before .if1 .left) in
+    let room = eqb-false (S .args .self .heard) fullCount (c .before .before .if2 .left) in
+    in-plain-words (S .args .self) _ _ _ (call-counted (S .args .self) (now (S .args .list)) (now (S .args .table)) agrees room _ (c .raised .ensures) (c .before .check .ensures))
+
+pub call-spec : {M : Type 1} → statement M
+call-spec =
+    tie.close
+    (tie.spec
+    agrees-requires
+    refusal-requires
+    returns
+    refusal-requires-2
+    returns-2
+    check-requires
+    raised-requires
+    returns-3)

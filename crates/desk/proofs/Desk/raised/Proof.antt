@@ -1,0 +1,41 @@
+-- `desk::Desk::raised`: below the full count no sum passes 64 bits.
+use borrow.Author.Needs.{needs}
+use Rattle.meaning.specs.Desk.{fullCount}
+use Rattle.desk.specs.Desk.{deskSeen}
+use Rattle.desk.proofs.Calling.{raise-accepted, raise-refused}
+use Rattle.desk.proofs.Desk.raised.Statement.{statement}
+use Rattle.desk.proofs.Desk.raised.Tie as tie
+use Rattle.desk.proofs.Desk.raised.Reads as reads
+use Rattle.desk.proofs.Desk.raised.Lts as lts
+
+-- src/lib.rt:86:21
+add-heard : tie.Need-add-heard
+unfolding fullCount
+add-heard c = search needs
+
+-- src/lib.rt:87:24
+add-accepted : tie.Need-add-accepted
+unfolding fullCount
+add-accepted c = search needs
+
+-- src/lib.rt:88:23
+add-refused : tie.Need-add-refused
+unfolding fullCount
+add-refused c = search needs
+
+-- src/lib.rt:82:5
+returns : tie.Need-returns
+unfolding deskSeen
+returns c =
+    let S = c .before .before .before .before .before in
+    raise-accepted (S .args .self) (S .args .reply) (c .if1 .taken)
+
+-- src/lib.rt:82:5
+returns-2 : tie.Need-returns-2
+unfolding deskSeen
+returns-2 c =
+    let S = c .before .before .before .before .before in
+    raise-refused (S .args .self) (S .args .reply) (c .if1 .left)
+
+pub raised-spec : {M : Type 1} → statement M
+raised-spec = tie.close (tie.spec add-heard add-accepted add-refused returns returns-2)

@@ -1,0 +1,16 @@
+-- `desk::Desk::refusal`: what is given is what is seen.
+use mathlib.Core.Path.{refl}
+use Rattle.service.specs.Reply.{replySeen}
+use Rattle.desk.specs.Desk.{calledSeen}
+use Rattle.desk.proofs.Desk.refusal.Statement.{statement}
+use Rattle.desk.proofs.Desk.refusal.Tie as tie
+use Rattle.desk.proofs.Desk.refusal.Reads as reads
+use Rattle.desk.proofs.Desk.refusal.Lts as lts
+
+-- src/lib.rt:62:5
+returns : tie.Need-returns
+unfolding calledSeen replySeen
+returns c = refl
+
+pub refusal-spec : {M : Type 1} → statement M
+refusal-spec = tie.close (tie.spec returns)

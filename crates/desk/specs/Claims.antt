@@ -1,0 +1,32 @@
+-- What is claimed of the code (demand 2), as types: after any number of calls the counts still mean what they say.
+use Prim.Native.Nat.{_<_, _^_}
+use mathlib.Core.Path.{_≡_}
+use mathlib.Core.Bool.{not}
+use mathlib.Core.List.{map}
+use lib.ListN.{length}
+use Rattle.meaning.specs.Desk.{freshDesk, fullCount, Call}
+use Rattle.meaning.specs.Claims.{howMany, passes, checkOf}
+use Rattle.service.specs.Reply.{replySeen}
+use Rattle.service.specs.declared.reply.Reply.{Reply}
+use Rattle.desk.specs.declared.Desk.{Desk}
+use Rattle.desk.specs.Desk.{Agrees, deskSeen}
+use Rattle.desk.specs.Run.{Run, callsOf, repliesOf, deskOf}
+
+-- from a fresh desk, up to the full count: each count is the number of such calls, and each call is answered by its check
+abbrev pub CodeCounts : Type 0
+CodeCounts =
+    (d : Desk) (run : Run d) → deskSeen d ≡ freshDesk → length (callsOf run) < 2 ^ 64 →
+    Agrees (deskOf run)
+    × (deskOf run .heard ≡ length (callsOf run))
+    × (deskOf run .accepted ≡ howMany passes (callsOf run))
+    × (deskOf run .refused ≡ howMany (λ c. not (passes c)) (callsOf run))
+    × (map replySeen (repliesOf run) ≡ map checkOf (callsOf run))
+
+unfoldable pub fullReply : Call → Reply
+fullReply c = record { number = 20; place = 0 }
+
+-- at the full count: every further call is refused 20, 0 and nothing moves
+abbrev pub CodeStaysFull : Type 0
+CodeStaysFull =
+    (d : Desk) (run : Run d) → Agrees d → d .heard ≡ fullCount →
+    (deskOf run ≡ d) × (repliesOf run ≡ map fullReply (callsOf run))

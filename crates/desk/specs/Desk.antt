@@ -1,0 +1,26 @@
+-- How a desk of the code, and what a call gave, are read as those of the definitions; and what a call does to the counts, in plain words.
+use Prim.Native.Nat.{_+_}
+use mathlib.Core.Path.{_≡_}
+use mathlib.Core.Logic.{_⊎_, _≢_}
+use Rattle.meaning.specs.Desk.{counted, called}
+use Rattle.meaning.specs.Desk.{Desk as MeantDesk, Called as MeantCalled}
+use Rattle.service.specs.Reply.{replySeen}
+use Rattle.desk.specs.declared.Desk.{Desk}
+use Rattle.desk.specs.declared.Called.{Called}
+
+unfoldable pub deskSeen : Desk → MeantDesk
+deskSeen d = counted (d .heard) (d .accepted) (d .refused)
+
+unfoldable pub calledSeen : Called → MeantCalled
+calledSeen c = called (deskSeen (c .desk)) (replySeen (c .reply))
+
+-- the counts of a desk agree
+abbrev pub Agrees : Desk → Type 0
+Agrees d = d .heard ≡ d .accepted + d .refused
+
+-- a call that is counted: heard and exactly one of the others are one more, accepted where the reply is 0
+pub record CountsOne (d : Desk) (c : Called) : Type 0 where
+  pub agrees : Agrees (c .desk)
+  pub heard : c .desk .heard ≡ d .heard + 1
+  pub one-other : ((c .reply .number ≡ 0) × (c .desk .accepted ≡ d .accepted + 1) × (c .desk .refused ≡ d .refused))
+      ⊎ ((c .reply .number ≢ 0) × (c .desk .accepted ≡ d .accepted) × (c .desk .refused ≡ d .refused + 1))

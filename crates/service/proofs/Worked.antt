@@ -1,0 +1,254 @@
+-- Working a list line by line: the value that a line makes is taken in, and what holds before each line of the walk.
+use mathlib.Core.Path.{_≡_, refl, sym, ap, ap₂, _∙_, subst}
+use mathlib.Core.Bool.{Bool, true, false, cond}
+use mathlib.Core.List.{List, [], _∷_, _++_, append-nil, append-assoc}
+use mathlib.Core.Option.{Option, none, some, Option·some-injective, Option·none-ne-some}
+use Prim.Native.Nat.{ℕ, zero, suc, _+_, _-_, _≤_, _<_}
+use native.Mathlib.Omega.{arith}
+use native.Mathlib.Nat.{add-zero}
+use native.Mathlib.Numerals.{add-one}
+use lib.Dec.{T, leb→le}
+use lib.IntN.{ℤ, pos}
+use lib.ListN.{length, getD, take, drop, set, length-append, length-set}
+use lib.Seq.{take-suc-set, getD-drop, drop-drop}
+use Rattle.algebra.proofs.Test.{≡-test}
+use Rattle.meaning.specs.Number.{inRange}
+use Rattle.meaning.specs.Text.{isEnded}
+use Rattle.meaning.specs.Line.{Line}
+use Rattle.meaning.specs.Known.{Known, fresh}
+use Rattle.meaning.specs.Gadget.Interface.{Gadget}
+use Rattle.meaning.specs.Meaning.{gadget, after}
+use Rattle.meaning.specs.Refusal.{valueLimit}
+use Rattle.meaning.specs.Work.{false-at, true-table, withCells, workFrom, work}
+use Rattle.meaning.specs.Work.{Worked as Meant}
+use Rattle.meaning.specs.Claims.{Column}
+use Rattle.meaning.proofs.Kept.{Kept, Keeps, keeps-all}
+use Rattle.meaning.proofs.Law.{Within, Law}
+use Rattle.meaning.proofs.Induction.{first-law}
+use Rattle.meaning.proofs.Working.{inputs-grow}
+use Rattle.text.specs.Word.{wordOf}
+use Rattle.text.specs.Place.{Found}
+use Rattle.text.specs.Parsed.{LineRead}
+use Rattle.text.specs.declared.Word.{Word}
+use Rattle.text.specs.declared.Parsed.{Parsed}
+use Rattle.text.specs.declared.Parsed.the-variants.{Line as Spelt}
+use Rattle.reader.specs.Told.{lineWith}
+use Rattle.reader.specs.declared.state.Counts.{Counts}
+use Rattle.reader.proofs.Steps.{few}
+use Rattle.table.specs.Cells.{workedSeen}
+use Rattle.table.specs.LineValues.{ValuesAsked}
+use Rattle.table.specs.declared.value.Worked.{Worked}
+use Rattle.table.specs.declared.value.Worked.the-variants.{Value, NoValue, False}
+use Rattle.service.specs.Walk.{Counted, Stands, ListRead}
+use Rattle.service.specs.Make.{withValue, isTrue, WorkAsked, WorkDone}
+use Rattle.service.specs.declared.making.Working.{Working}
+use Rattle.service.specs.declared.making.Working.the-variants.{AllTrue, FalseAt}
+use Rattle.service.proofs.Listed.{same-lines, same-last}
+use Rattle.service.proofs.Standing.{stands-first, nothing-left, known-last, line-kept}
+
+-- ---- the value that a line makes
+
+some-value : {xs ys : List ℤ} → _≡_ {A = Option (List ℤ)} (some xs) (some ys) → xs ≡ ys
+some-value e = Option·some-injective _ _ e
+
+-- with those before it, it is among the first values
+pub value-taken : (values : List ℤ) (at : ℕ) (r : Worked) (ys : List ℤ) → workedSeen r ≡ some ys → at + length ys ≤ length values
+    → take (at + length ys) (withValue values at r) ≡ take at values ++ ys
+unfolding workedSeen withValue
+value-taken values at (Value z) ys e h =
+    let is : z ∷ [] ≡ ys = some-value e in
+    let one : length ys ≡ 1 = sym (ap (λ (q : List ℤ). length q) is) in
+    rw (← is, add-one at, take-suc-set values at z (omega arith)) refl
+value-taken values at NoValue ys e h = rw (← some-value e, add-zero at) (sym (append-nil (take at values)))
+value-taken values at False ys e h = absurd (Option·none-ne-some _ e)
+
+pub values-kept : (values : List ℤ) (at : ℕ) (r : Worked) → length (withValue values at r) ≡ length values
+unfolding withValue
+values-kept values at (Value z) = length-set values at z
+values-kept values at NoValue = refl
+values-kept values at False = refl
+
+-- ---- what working a line answers
+
+module _ (r : Worked) (statement : Bool) (ys : List ℤ) (told : workedSeen r ≡ cond statement (some ys) none) where
+  -- it is true exactly where the statement is
+  true-is : isTrue r ≡ statement
+  unfolding workedSeen isTrue
+  true-is = by r statement told
+    where
+      by : (x : Worked) (t : Bool) → workedSeen x ≡ cond t (some ys) none → isTrue x ≡ t
+      by (Value z) true e = refl
+      by (Value z) false e = absurd (Option·none-ne-some _ (sym e))
+      by NoValue true e = refl
+      by NoValue false e = absurd (Option·none-ne-some _ (sym e))
+      by False true e = absurd (Option·none-ne-some _ e)
+      by False false e = refl
+
+  made-told : isTrue r ≡ true → workedSeen r ≡ some ys
+  made-told e = told ∙ rw (sym true-is ∙ e) refl
+
+-- ---- cells in front of cells
+
+cells-joined : (cs ds : List ℕ) (w : Meant) → withCells cs (withCells ds w) ≡ withCells (cs ++ ds) w
+unfolding withCells
+cells-joined cs ds (false-at n) = refl
+cells-joined cs ds (true-table vs es) = ap (true-table vs) (sym (append-assoc cs ds es))
+
+-- ---- the walk
+
+-- the values of the lines before this one stand in the array
+pub record WorkingOn (list : List ℕ) (inputs numbers values : List ℤ) (c : Counts) (at n : ℕ) : Type 0 where
+  pub asked : WorkAsked list inputs
+  pub state : Known
+  pub left : List Line
+  pub stands : Stands list (asked .listed .last) state left c at n
+  pub numbers-long : length numbers ≡ 33
+  pub values-long : length values ≡ 256
+  pub within : Within (state .known) (take (length (state .known)) values)
+  pub cells : List ℕ
+  pub so-far : work (asked .listed .lines) inputs
+      ≡ withCells cells (workFrom n state (take (length (state .known)) values) (drop (c .inputs) inputs) left)
+
+nothing-before : (w : Meant) → w ≡ withCells [] w
+unfolding withCells
+nothing-before (false-at n) = refl
+nothing-before (true-table vs cs) = refl
+
+pub working-first : (list : List ℕ) (inputs numbers values : List ℤ) → length numbers ≡ 33 → length values ≡ 256 → WorkAsked list inputs
+    → WorkingOn list inputs numbers values (record { values = 0; inputs = 0; cells = 0; rows = 0 }) 0 0
+unfolding work fresh
+working-first list inputs numbers values h k a = record {
+  asked = a;
+  state = fresh;
+  left = a .listed .lines;
+  stands = stands-first list (a .listed .lines) (a .listed .last) (a .listed .is-read) (a .listed .p-most);
+  numbers-long = h;
+  values-long = k;
+  within = tt;
+  cells = [];
+  so-far = nothing-before (work (a .listed .lines) inputs);
+}
+
+module _ {list : List ℕ} {inputs numbers values : List ℤ} {c : Counts} {at n : ℕ} (w : WorkingOn list inputs numbers values c at n) where
+  abbrev before : List ℤ
+  before = take (length (w .state .known)) values
+
+  abbrev next : ℤ
+  next = getD inputs (c .inputs) (pos 0)
+
+  next-is : getD (drop (c .inputs) inputs) 0 (pos 0) ≡ next
+  next-is = getD-drop (c .inputs) inputs 0 (pos 0) ∙ ap (λ (i : ℕ). getD inputs i (pos 0)) (add-zero (c .inputs))
+
+  pub working-end : length list ≤ at → (m : ListRead list) → WorkDone (m .lines) (m .last) inputs values AllTrue
+  unfolding WorkDone workFrom withCells
+  working-end h m = (
+    w .cells ++ [],
+    ap (λ (ls : List Line). work ls inputs) (sym (same-lines (w .asked .listed) m)) ∙ w .so-far ∙ rw (nothing-left (w .stands) h)
+        (ap (λ (z : Known). true-table (take (length (z .known)) values) (w .cells ++ [])) (known-last (w .stands) h ∙ same-last (w .asked .listed) m)),
+  )
+
+  -- ---- what a line is worked with
+
+  module _ (ended : isEnded list ≡ true) {end : ℕ} (inside : at < length list) (found : Found 10 list at end) {numbers′ : List ℤ} {r : Parsed}
+      (parsed : LineRead (take (end - at) (drop at list)) numbers numbers′ r) {word : Word} {count : ℕ} (is : r ≡ Spelt word count) where
+    abbrev pub values-asked : ValuesAsked (wordOf word) numbers′ count values
+    values-asked = record {
+      kept = line-kept (w .stands) ended inside found parsed (w .numbers-long) is;
+      values-long = w .values-long;
+      within = w .within;
+    }
+
+  -- ---- what the line's working then tells
+
+  module _ (l : Line) (rest : List Line) (left-is : w .left ≡ l ∷ rest) (r : Worked)
+      (told : workedSeen r ≡ cond (gadget (w .state) l .statement before) (some (gadget (w .state) l .values before next)) none) where
+    abbrev g : Gadget
+    g = gadget (w .state) l
+
+    abbrev later : Meant
+    later = workFrom (suc n) (after (w .state) l) (before ++ g .values before next) (drop (g .inputs) (drop (c .inputs) inputs)) rest
+
+    -- working from this line on
+    from-here : work (w .asked .listed .lines) inputs ≡ withCells (w .cells) (cond (g .statement before) (withCells (g .cells before next) later) (false-at n))
+    unfolding workFrom
+    from-here = w .so-far ∙ rw (left-is, next-is) refl
+
+    pub working-false : isTrue r ≡ false → (m : ListRead list) (final : List ℤ) → WorkDone (m .lines) (m .last) inputs final (FalseAt n)
+    unfolding WorkDone withCells
+    working-false is m final =
+        ap (λ (ls : List Line). work ls inputs) (sym (same-lines (w .asked .listed) m)) ∙ from-here
+        ∙ rw (sym (true-is r (g .statement before) (g .values before next) told) ∙ is) refl
+
+    module _ (true-here : isTrue r ≡ true) (kept : Kept n (w .state) (l ∷ rest) (w .asked .listed .last)) where
+      statement-true : g .statement before ≡ true
+      statement-true = sym (true-is r (g .statement before) (g .values before next) told) ∙ true-here
+
+      holds : T (g .statement before)
+      holds = ≡-test (g .statement before) statement-true
+
+      made : workedSeen r ≡ some (g .values before next)
+      made = made-told r (g .statement before) (g .values before next) told true-here
+
+      law : Law (w .asked .listed .last .p) (w .state) g
+      law = first-law l rest n (w .state) (w .asked .listed .last) kept (w .stands .sound)
+
+      -- there is room for the values of the line
+      room : length (w .state .known) + length (g .values before next) ≤ 256
+      unfolding valueLimit
+      room = omega (
+        arith,
+        law .values-count before next,
+        leb→le (length (w .state .known) + length (g .made)) 256 (keeps-all n (w .state) l (kept .0) .values-fit),
+      )
+
+      pub value-inside : (z : ℤ) → r ≡ Value z → c .values < length values
+      unfolding workedSeen
+      value-inside z is =
+          let one : length (g .values before next) ≡ 1 = sym (ap (λ (q : List ℤ). length q) (some-value (sym (ap workedSeen is) ∙ made))) in
+          omega (arith, room, w .values-long, w .stands .counted .values-are)
+
+      -- the values after the line
+      count-after : length (after (w .state) l .known) ≡ length (w .state .known) + length (g .values before next)
+      unfolding after
+      count-after = omega (arith, length-append (g .narrowed) (g .made), few n (w .state) l (keeps-all n (w .state) l (kept .0)) .2, law .values-count before next)
+
+      abbrev values′ : List ℤ
+      values′ = withValue values (c .values) r
+
+      pub taken : take (length (after (w .state) l .known)) values′ ≡ before ++ g .values before next
+      taken =
+          ap (λ (i : ℕ). take i values′) (count-after ∙ ap (λ (i : ℕ). i + length (g .values before next)) (w .stands .counted .values-are))
+          ∙ value-taken values (c .values) r (g .values before next) made (omega (arith, room, w .values-long, w .stands .counted .values-are))
+          ∙ ap (λ (i : ℕ). take i values ++ g .values before next) (sym (w .stands .counted .values-are))
+
+      in-range : 1 ≤ g .inputs → T (inRange (w .asked .listed .last .p) next)
+      unfolding after
+      in-range i = w .asked .column .within (c .inputs) (omega (
+        arith,
+        inputs-grow rest (suc n) (after (w .state) l) (w .asked .listed .last) (kept .1),
+        w .asked .column .count,
+        w .stands .counted .inputs-are,
+      ))
+
+      pub working-next : {d : Counts} {at′ : ℕ} (numbers′ : List ℤ)
+          → Stands list (w .asked .listed .last) (after (w .state) l) rest d at′ (n + 1) → length numbers′ ≡ 33
+          → WorkingOn list inputs numbers′ values′ d at′ (n + 1)
+      unfolding after
+      working-next {d} numbers′ stands long = record {
+        asked = w .asked;
+        state = after (w .state) l;
+        left = rest;
+        stands = stands;
+        numbers-long = long;
+        values-long = values-kept values (c .values) r ∙ w .values-long;
+        within = rw taken (law .within before next (w .within) holds in-range);
+        cells = w .cells ++ g .cells before next;
+        so-far = from-here ∙ rw statement-true
+            (cells-joined (w .cells) (g .cells before next) later ∙ ap (withCells (w .cells ++ g .cells before next)) same-later);
+      }
+        where
+          inputs-after : c .inputs + g .inputs ≡ d .inputs
+          inputs-after = omega (arith, w .stands .counted .inputs-are, stands .counted .inputs-are)
+
+          same-later : later ≡ workFrom (n + 1) (after (w .state) l) (take (length (after (w .state) l .known)) values′) (drop (d .inputs) inputs) rest
+          same-later = rw (add-one n, taken, drop-drop (g .inputs) (c .inputs) inputs, inputs-after) refl

@@ -1,0 +1,57 @@
+-- `service::checking::check`: the list's own refusal, or the check of the table.
+use mathlib.Core.Path.{_∙_}
+use denote.Ref.{now}
+use Rattle.service.specs.Reply.{replySeen}
+use Rattle.service.proofs.Listed.{survey-refused, survey-counted}
+use Rattle.service.proofs.Checked.{check-refused, check-read}
+use borrow.Author.Needs.{needs}
+use Rattle.service.proofs.checking.check.Statement.{statement}
+use Rattle.service.proofs.checking.check.Tie as tie
+use Rattle.service.proofs.checking.check.Reads as reads
+use Rattle.service.proofs.checking.check.Lts as lts
+use Rattle.reader.proofs.read.survey.Reads as survey-reads
+use Rattle.service.proofs.checking.check_table.Reads as check-table-reads
+
+-- src/checking.rt:30:9
+survey-requires : tie.Need-survey-requires
+survey-requires c κs = search needs
+
+-- src/checking.rt:32:27
+enum-known-found : tie.Need-enum-known-found
+enum-known-found c = search needs
+
+-- src/checking.rt:36:27
+enum-known-found-2 : tie.Need-enum-known-found-2
+enum-known-found-2 c = search needs
+
+-- src/checking.rt:36:41
+check-table-requires : tie.Need-check-table-requires
+check-table-requires c κs =
+    let l = survey-counted (now (c .before .before .before .before .before .before .args .list)) _ (c .before .before .before .survey .ensures .0) (c .before .before .before .survey .ensures .1) _ _ (c .before .found2 .given .1) in
+    record { listed = l .listed; prime = l .prime; cells-are = l .counts-are .cells-are }
+
+-- src/checking.rt:27:1
+returns : tie.Need-returns
+unfolding replySeen
+returns c =
+    let S = c .before .before .before .before .before .before in
+    check-refused (now (S .args .list)) (now (S .args .table)) _ _ (survey-refused _ _ (c .before .before .before .survey .ensures .0) _ _ (c .before .found .given .1))
+
+-- src/checking.rt:27:1
+returns-2 : tie.Need-returns-2
+unfolding replySeen
+returns-2 c =
+    let S = c .before .before .before .before .before .before .before in
+    let l = survey-counted (now (S .args .list)) _ (c .before .before .before .before .survey .ensures .0) (c .before .before .before .before .survey .ensures .1) _ _ (c .before .before .found2 .given .1) .listed in
+    c .check-table .ensures l ∙ check-read (now (S .args .list)) (now (S .args .table)) l
+
+pub check-spec : {M : Type 1} → statement M
+check-spec =
+    tie.close
+    (tie.spec
+    survey-requires
+    enum-known-found
+    enum-known-found-2
+    check-table-requires
+    returns
+    returns-2)

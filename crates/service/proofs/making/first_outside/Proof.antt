@@ -1,0 +1,83 @@
+-- `service::making::first_outside`: the inputs are looked at from the first on.
+use mathlib.Core.Path.{sym, _∙_}
+use Prim.Native.Nat.{_-_}
+use lib.IntN.{pos}
+use lib.ListN.{length, getD}
+use mir.Syntax.{w64}
+use mir.Val.{SFits}
+use denote.Ref.{now}
+use borrow.Author.Needs.{needs}
+use borrow.Author.Tests.{not-true, not-false}
+use Rattle.meaning.specs.Number.{inRange}
+use Rattle.number.proofs.Word.{back}
+use Rattle.service.specs.Make.{inputsSeen}
+use Rattle.service.proofs.Scan.{Scanned, scanned-none, scan-end, scan-here, scan-next}
+use Rattle.service.proofs.making.first_outside.Statement.{statement}
+use Rattle.service.proofs.making.first_outside.Tie as tie
+use Rattle.service.proofs.making.first_outside.Reads as reads
+use Rattle.service.proofs.making.first_outside.Lts as lts
+use Rattle.number.proofs.whole.in_range.Reads as in-range-reads
+
+abbrev Inv-loop : tie.InvT-loop
+Inv-loop inputs p i₀ i = Scanned (inRange p) (pos 0) inputs i
+
+abbrev μ-loop : tie.MeasureT-loop
+μ-loop inputs p i₀ i = length inputs - i
+
+-- src/making.rt:88:5
+loop-holds : tie.Need-loop-holds Inv-loop μ-loop
+loop-holds c = scanned-none _ _ _
+
+-- src/making.rt:89:28
+mul-t4 : tie.Need-mul-t4 Inv-loop μ-loop
+mul-t4 c = search needs
+
+-- src/making.rt:89:28
+shared-slice-copy-out-t7 : tie.Need-shared-slice-copy-out-t7 Inv-loop μ-loop
+shared-slice-copy-out-t7 c = search needs
+
+-- src/making.rt:89:13
+in-range-requires : tie.Need-in-range-requires Inv-loop μ-loop
+in-range-requires c κs = search needs
+
+-- src/making.rt:90:13
+returns : tie.Need-returns Inv-loop μ-loop
+unfolding inputsSeen
+returns c =
+    let f : SFits w64 (getD (now (c .before .before .before .before .before .args .inputs)) (c .before .before .before .before .loop .i) (pos 0)) = search needs in
+    scan-here (inRange (c .before .before .before .before .before .args .p)) (pos 0) (now (c .before .before .before .before .before .args .inputs)) _ (c .before .before .before .before .loop .inv) (c .before .before .before .loop-test .taken) (rw (back f) at (sym (c .before .in-range .ensures) ∙ not-true _ (c .if1 .taken)))
+
+-- src/making.rt:92:9
+add-i : tie.Need-add-i Inv-loop μ-loop
+add-i c = search needs
+
+-- src/making.rt:88:5
+loop-less : tie.Need-loop-less Inv-loop μ-loop
+loop-less c = search needs
+
+-- src/making.rt:88:5
+loop-again : tie.Need-loop-again Inv-loop μ-loop
+loop-again c =
+    let f : SFits w64 (getD (now (c .before .before .before .before .before .args .inputs)) (c .before .before .before .before .loop .i) (pos 0)) = search needs in
+    scan-next (inRange (c .before .before .before .before .before .args .p)) (pos 0) (now (c .before .before .before .before .before .args .inputs)) _ (c .before .before .before .before .loop .inv) (c .before .before .before .loop-test .taken) (rw (back f) at (sym (c .before .in-range .ensures) ∙ not-false _ (c .if1 .left)))
+
+-- src/making.rt:83:1
+returns-2 : tie.Need-returns-2 Inv-loop μ-loop
+unfolding inputsSeen
+returns-2 c = scan-end (inRange (c .before .before .args .p)) (pos 0) (now (c .before .before .args .inputs)) _ (c .before .loop .inv) (c .loop-test .left)
+
+pub first-outside-spec : {M : Type 1} → statement M
+first-outside-spec =
+    tie.close
+    (tie.spec
+    Inv-loop
+    μ-loop
+    loop-holds
+    mul-t4
+    shared-slice-copy-out-t7
+    in-range-requires
+    returns
+    add-i
+    loop-less
+    loop-again
+    returns-2)

@@ -1,0 +1,62 @@
+-- `service::making::make`: the list's own refusal, or the making of the table.
+use mathlib.Core.Path.{_∙_}
+use denote.Ref.{now}
+use Rattle.service.specs.Reply.{replySeen}
+use Rattle.service.proofs.Listed.{survey-refused, survey-counted}
+use Rattle.service.proofs.Made.{make-refused, make-read, told-apart}
+use borrow.Author.Needs.{needs}
+use Rattle.service.proofs.making.make.Statement.{statement}
+use Rattle.service.proofs.making.make.Tie as tie
+use Rattle.service.proofs.making.make.Reads as reads
+use Rattle.service.proofs.making.make.Lts as lts
+use Rattle.reader.proofs.read.survey.Reads as survey-reads
+use Rattle.service.proofs.making.make_table.Reads as make-table-reads
+
+-- src/making.rt:45:9
+survey-requires : tie.Need-survey-requires
+survey-requires c κs = search needs
+
+-- src/making.rt:47:27
+enum-known-found : tie.Need-enum-known-found
+enum-known-found c = search needs
+
+-- src/making.rt:51:27
+enum-known-found-2 : tie.Need-enum-known-found-2
+enum-known-found-2 c = search needs
+
+-- src/making.rt:51:41
+make-table-requires : tie.Need-make-table-requires
+make-table-requires c κs =
+    survey-counted (now (c .before .before .before .before .before .before .before .args .list)) _ (c .before .before .before .before .survey .ensures .0) (c .before .before .before .before .survey .ensures .1) _ _ (c .before .before .found2 .given .1)
+
+-- src/making.rt:41:1
+returns : tie.Need-returns
+unfolding replySeen
+returns c =
+    let S = c .before .before .before .before .before .before in
+    told-apart (make-refused (now (S .args .list)) (now (S .args .inputs)) (now (S .args .table)) _ _
+    (survey-refused _ _ (c .before .before .before .survey .ensures .0) _ _ (c .before .found .given .1)))
+
+-- src/making.rt:41:1
+same-length : tie.Need-same-length
+same-length c = search needs
+
+-- src/making.rt:41:1
+returns-2 : tie.Need-returns-2
+unfolding replySeen
+returns-2 c =
+    let S = c .before .before .before .before .before .before .before .before .before .before in
+    let l = survey-counted (now (S .args .list)) _ (c .before .before .before .before .before .before .before .survey .ensures .0) (c .before .before .before .before .before .before .before .survey .ensures .1) _ _ (c .before .before .before .before .before .found2 .given .1) .listed in
+    told-apart (c .before .before .make-table .ensures l ∙ make-read (now (S .args .list)) (now (S .args .inputs)) (now (S .args .table)) l)
+
+pub make-spec : {M : Type 1} → statement M
+make-spec =
+    tie.close
+    (tie.spec
+    survey-requires
+    enum-known-found
+    enum-known-found-2
+    make-table-requires
+    returns
+    same-length
+    returns-2)

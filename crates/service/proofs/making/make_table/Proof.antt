@@ -1,0 +1,106 @@
+-- `service::making::make_table`: the length, the count of inputs, each input, and then the lines.
+use mathlib.Core.Path.{_≡_, sym, ap, _∙_}
+use mathlib.Core.List.{List}
+use Prim.Native.Nat.{ℕ}
+use native.Mathlib.Omega.{arith}
+use denote.Ref.{now}
+use Rattle.meaning.specs.Known.{Known}
+use Rattle.reader.specs.declared.state.Counts.{Counts}
+use Rattle.service.specs.Reply.{replySeen}
+use Rattle.service.specs.Walk.{ListRead, Listed}
+use Rattle.service.proofs.Listed.{same-last}
+use Rattle.service.proofs.Made.{outside-found, none-outside, column-of, made-wrong-length, made-wrong-count, made-outside, made-worked}
+use borrow.Author.Needs.{needs}
+use Rattle.service.proofs.making.make_table.Statement.{statement}
+use Rattle.service.proofs.making.make_table.Tie as tie
+use Rattle.service.proofs.making.make_table.Reads as reads
+use Rattle.service.proofs.making.make_table.Lts as lts
+use Rattle.service.proofs.making.first_outside.Reads as first-outside-reads
+use Rattle.service.proofs.making.make_true.Reads as make-true-reads
+
+-- p and the counts, by any reading of the list
+module _ {list : List ℕ} {p : ℕ} {counts : Counts} (a : Listed list p counts) (l : ListRead list) where
+  prime-by : p ≡ l .last .p
+  prime-by = sym (a .prime) ∙ ap (λ (s : Known). s .p) (same-last (a .listed) l)
+
+  cells-by : counts .cells ≡ l .last .cells
+  cells-by = sym (a .counts-are .cells-are) ∙ ap (λ (s : Known). s .cells) (same-last (a .listed) l)
+
+  inputs-by : counts .inputs ≡ l .last .inputs
+  inputs-by = sym (a .counts-are .inputs-are) ∙ ap (λ (s : Known). s .inputs) (same-last (a .listed) l)
+
+-- src/making.rt:62:9
+returns : tie.Need-returns
+unfolding replySeen
+returns c l =
+    let S = c .before .before .before .before in
+    made-wrong-length (l .last) (l .lines) (now (S .args .inputs)) (now (S .args .table)) (λ e. c .if1 .taken (e ∙ sym (cells-by (S .pre) l)))
+
+-- src/making.rt:68:9
+returns-2 : tie.Need-returns-2
+unfolding replySeen
+returns-2 c l =
+    let S = c .before .before .before .before .before .before in
+    made-wrong-count (l .last) (l .lines) (now (S .args .inputs)) (now (S .args .table)) (c .before .before .if1 .left ∙ cells-by (S .pre) l)
+    (λ e. c .if2 .taken (e ∙ sym (inputs-by (S .pre) l)))
+
+-- src/making.rt:73:9
+first-outside-requires : tie.Need-first-outside-requires
+first-outside-requires c κs =
+    let odd = c .before .before .before .before .before .before .pre .odd .three in
+    search (needs, odd)
+
+-- src/making.rt:74:28
+enum-known-found : tie.Need-enum-known-found
+enum-known-found c = search needs
+
+-- src/making.rt:75:9
+returns-3 : tie.Need-returns-3
+unfolding replySeen
+returns-3 c l =
+    let S = c .before .before .before .before .before .before .before .before .before .before in
+    let found = outside-found (now (S .args .inputs)) (S .args .p) _ (c .before .before .before .first-outside .ensures) _ (c .before .found .given .1) in
+    made-outside (l .last) (l .lines) (now (S .args .inputs)) (now (S .args .table)) (c .before .before .before .before .before .before .if1 .left ∙ cells-by (S .pre) l)
+    (c .before .before .before .before .if2 .left ∙ inputs-by (S .pre) l) _ (rw (← prime-by (S .pre) l) found)
+
+enum-told : tie.Need-enum-told
+enum-told c = search needs
+
+-- src/making.rt:80:5
+make-true-requires : tie.Need-make-true-requires
+make-true-requires c κs =
+    let S = c .before .before .before .before .before .before .before .before .before .before in
+    let l = S .pre .listed in
+    let none-found = none-outside (now (S .args .inputs)) (S .args .p) _ (c .before .before .before .first-outside .ensures) (c .before .enum-told .given .1) in (
+      record { listed = l; column = column-of (l .last) (now (S .args .inputs)) (c .before .before .before .before .if2 .left ∙ inputs-by (S .pre) l) (rw (← prime-by (S .pre) l) none-found) },
+      S .pre .prime,
+      c .before .before .before .before .before .before .if1 .left ∙ cells-by (S .pre) l,
+    )
+
+-- src/making.rt:56:1
+same-length : tie.Need-same-length
+same-length c = search needs
+
+-- src/making.rt:56:1
+returns-4 : tie.Need-returns-4
+unfolding replySeen
+returns-4 c l =
+    let S = c .before .before .before .before .before .before .before .before .before .before .before .before .before in
+    let none-found = none-outside (now (S .args .inputs)) (S .args .p) _ (c .before .before .before .before .before .before .first-outside .ensures) (c .before .before .before .before .enum-told .given .1) in
+    c .before .before .make-true .ensures l
+    ∙ made-worked (l .last) (l .lines) (now (S .args .inputs)) (now (S .args .table)) (c .before .before .before .before .before .before .before .before .before .if1 .left ∙ cells-by (S .pre) l)
+    (c .before .before .before .before .before .before .before .if2 .left ∙ inputs-by (S .pre) l) (rw (← prime-by (S .pre) l) none-found)
+
+pub make-table-spec : {M : Type 1} → statement M
+make-table-spec =
+    tie.close
+    (tie.spec
+    returns
+    returns-2
+    first-outside-requires
+    enum-known-found
+    returns-3
+    enum-told
+    make-true-requires
+    same-length
+    returns-4)

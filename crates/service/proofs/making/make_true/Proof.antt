@@ -1,0 +1,75 @@
+-- `service::making::make_true`: a false statement leaves the table as it was; where there is none, every cell is written.
+use mathlib.Core.Path.{_≡_, ap, _∙_}
+use mathlib.Core.List.{List}
+use Prim.Native.Nat.{ℕ}
+use denote.Ref.{now}
+use Rattle.meaning.specs.Reply.{reply, making}
+use Rattle.service.specs.Reply.{replySeen}
+use Rattle.service.proofs.Made.{false-made, write-asked, true-made}
+use borrow.Author.Needs.{needs}
+use Rattle.service.proofs.making.make_true.Statement.{statement}
+use Rattle.service.proofs.making.make_true.Tie as tie
+use Rattle.service.proofs.making.make_true.Reads as reads
+use Rattle.service.proofs.making.make_true.Lts as lts
+use Rattle.service.proofs.making.work_lines.Reads as work-lines-reads
+use Rattle.service.proofs.making.write_lines.Reads as write-lines-reads
+
+-- src/making.rt:104:43
+slice-aggregate-work-lines : tie.Need-slice-aggregate-work-lines
+slice-aggregate-work-lines c = search needs
+
+-- src/making.rt:104:9
+work-lines-requires : tie.Need-work-lines-requires
+work-lines-requires c κs = search needs
+
+-- src/making.rt:105:29
+enum-known-worked : tie.Need-enum-known-worked
+enum-known-worked c = search needs
+
+-- src/making.rt:106:9
+returns : tie.Need-returns
+unfolding replySeen
+returns c l = false-made (l .lines) (l .last) (now (c .before .before .before .before .before .before .before .before .args .inputs)) _ _ (c .before .before .before .before .work-lines .ensures .0 l) _ _ (c .before .worked .given .1)
+
+enum-told : tie.Need-enum-told
+enum-told c = search needs
+
+-- src/making.rt:111:26
+slice-aggregate-write-lines : tie.Need-slice-aggregate-write-lines
+slice-aggregate-write-lines c = search needs
+
+-- src/making.rt:111:5
+write-lines-requires : tie.Need-write-lines-requires
+write-lines-requires c κs =
+    let S = c .before .before .before .before .before .before .before .before .before in
+    let done = c .before .before .before .before .before .work-lines .ensures in
+    write-asked (now (S .args .list)) (now (S .args .table)) (S .args .p) (now (S .args .inputs)) _ (S .pre .0) (S .pre .1) (S .pre .2) (done .1) _ (done .0 (S .pre .0 .listed)) (c .before .before .enum-told .given .1)
+
+-- src/making.rt:98:1
+same-length : tie.Need-same-length
+same-length c = search needs
+
+-- src/making.rt:98:1
+returns-2 : tie.Need-returns-2
+unfolding replySeen
+returns-2 c l =
+    let S = c .before .before .before .before .before .before .before .before .before .before .before .before in
+    let done = c .before .before .before .before .before .before .before .before .work-lines .ensures in
+    let worked = c .before .before .before .before .before .enum-told .given .1 in
+    let asked = write-asked (now (S .args .list)) (now (S .args .table)) (S .args .p) (now (S .args .inputs)) _ (S .pre .0) (S .pre .1) (S .pre .2) (done .1) _ (done .0 (S .pre .0 .listed)) worked in
+    ap (making (reply 0 0)) (c .before .before .write-lines .ensures asked)
+    ∙ true-made (now (S .args .list)) (now (S .args .table)) (S .args .p) (now (S .args .inputs)) _ (S .pre .0) (S .pre .1) (S .pre .2) (done .1) _ (done .0 (S .pre .0 .listed)) worked l _
+
+pub make-true-spec : {M : Type 1} → statement M
+make-true-spec =
+    tie.close
+    (tie.spec
+    slice-aggregate-work-lines
+    work-lines-requires
+    enum-known-worked
+    returns
+    enum-told
+    slice-aggregate-write-lines
+    write-lines-requires
+    same-length
+    returns-2)

@@ -1,0 +1,55 @@
+-- Making a table for a list that was read: what working its lines and writing their cells are asked with, and what they then tell.
+use mathlib.Core.Path.{_≡_}
+use mathlib.Core.Bool.{Bool, true, false}
+use mathlib.Core.List.{List}
+use mathlib.Core.Option.{Option, none, some}
+use Prim.Native.Nat.{ℕ}
+use lib.IntN.{ℤ}
+use lib.ListN.{length, take, set}
+use Rattle.meaning.specs.Line.{Line}
+use Rattle.meaning.specs.Known.{Known}
+use Rattle.meaning.specs.Work.{false-at, true-table, work}
+use Rattle.meaning.specs.Claims.{Column}
+use Rattle.table.specs.declared.value.Worked.{Worked}
+use Rattle.table.specs.declared.value.Worked.the-variants.{Value, NoValue, False}
+use Rattle.service.specs.Walk.{ListRead}
+use Rattle.service.specs.declared.making.Inputs.{Inputs}
+use Rattle.service.specs.declared.making.Inputs.the-variants.{AllInRange, Outside}
+use Rattle.service.specs.declared.making.Working.{Working}
+use Rattle.service.specs.declared.making.Working.the-variants.{AllTrue, FalseAt}
+
+-- the place of the first input outside the signed range
+unfoldable pub inputsSeen : Inputs → Option ℕ
+inputsSeen AllInRange = none
+inputsSeen (Outside i) = some i
+
+-- the values with the one that a line makes, where it makes one
+unfoldable pub withValue : List ℤ → ℕ → Worked → List ℤ
+withValue values at (Value z) = set values at z
+withValue values at NoValue = values
+withValue values at False = values
+
+unfoldable pub isTrue : Worked → Bool
+isTrue (Value z) = true
+isTrue NoValue = true
+isTrue False = false
+
+-- a column of inputs for a list that was read
+pub record WorkAsked (list : List ℕ) (inputs : List ℤ) : Type 0 where
+  pub listed : ListRead list
+  pub column : Column (listed .last) inputs
+
+-- the first line whose statement is false; or none is, and the values stand in the array
+unfoldable pub WorkDone : List Line → Known → (inputs values : List ℤ) → Working → Type 0
+WorkDone ls s xs values (FalseAt n) = work ls xs ≡ false-at n
+WorkDone ls s xs values AllTrue = (cells : List ℕ) × (work ls xs ≡ true-table (take (length (s .known)) values) cells)
+
+-- the values of a column whose statements are true, and a table of the list's length
+pub record WriteAsked (list : List ℕ) (p : ℕ) (values : List ℤ) (table : List ℕ) : Type 0 where
+  pub inputs : List ℤ
+  pub asked : WorkAsked list inputs
+  pub prime : asked .listed .last .p ≡ p
+  pub values-long : length values ≡ 256
+  pub cells : List ℕ
+  pub worked : work (asked .listed .lines) inputs ≡ true-table (take (length (asked .listed .last .known)) values) cells
+  pub long : length table ≡ asked .listed .last .cells
