@@ -6,3 +6,4 @@ pub mod Lengths
 pub mod Parting
 pub mod Inputs
 pub mod Answering
+pub mod Responding
