@@ -1,0 +1,14 @@
+// The program: a list, the line `end` and one input a line from standard input; the table or the refusal to standard output. What it answers
+// is `respond`'s, which is proved; this only reads and writes. One byte beyond the limit is read, so that 65,537 bytes are told from 65,536.
+// The longest answer, the table of 4,096 cells, has 65,547 bytes (`table-most` in crates/program/proofs/Lengths.antt).
+use libc::STDIN_FILENO;
+use libc::STDOUT_FILENO;
+use program::respond;
+
+fn main() {
+    let mut input: [u8; 65537] = [0; 65537];
+    let mut output: [u8; 65547] = [0; 65547];
+    let read = io::read_full(STDIN_FILENO, &mut input);
+    let written = respond(&input[..read], &mut output);
+    io::write_all(STDOUT_FILENO, &output[..written]);
+}
