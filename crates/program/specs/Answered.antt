@@ -14,7 +14,7 @@ unfoldable pub longest : ℕ
 longest = 11 + 4096 * (4 + 10 + 2)
 
 -- where the answer has room, the output begins with it and is else unchanged, and its length is returned; where it has none, nothing is
--- written and 0 is returned
+-- written and 0 is returned; and in an output of the greatest length every answer has room
 pub record Answered (answer before after : List ℕ) (r : ℕ) : Type 0 where
   pub left : after ≡ cond (leb (length answer) (length before)) (answer ++ drop (length answer) before) before
   pub returned : r ≡ cond (leb (length answer) (length before)) (length answer) 0
