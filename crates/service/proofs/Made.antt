@@ -19,8 +19,8 @@ use Rattle.service.specs.Walk.{ListRead}
 use Rattle.service.specs.Make.{inputsSeen, WorkAsked, WorkDone, WriteAsked}
 use Rattle.service.specs.declared.making.Inputs.{Inputs}
 use Rattle.service.specs.declared.making.Inputs.the-variants.{AllInRange, Outside}
-use Rattle.service.specs.declared.making.Working.{Working}
-use Rattle.service.specs.declared.making.Working.the-variants.{AllTrue, FalseAt}
+use Rattle.service.specs.declared.working.Working.{Working}
+use Rattle.service.specs.declared.working.Working.the-variants.{AllTrue, FalseAt}
 use Rattle.service.proofs.Listed.{same-lines, same-last}
 
 -- ---- the inputs
