@@ -11,16 +11,19 @@ use lib.Seq.{length-take-le, take-at}
 use Rattle.meaning.specs.Reply.{Reply, reply, making, makeReply}
 use Rattle.meaning.specs.Program.{refusalText, tableText, makingText}
 use Rattle.program.specs.Written.{Written}
-use Rattle.program.specs.Answered.{Answered}
+use Rattle.program.specs.Answered.{Answered, longest}
 
-module _ {answer before : List ℕ} where
+module _ {answer before : List ℕ} (short : length answer ≤ longest) where
   pub answered-room : {after : List ℕ} {r : ℕ} → Written answer before after r → length answer ≤ length before → Answered answer before after r
-  answered-room w h = record { left = rw (le-leb (length answer) (length before) h) (w .stands); returned = rw (le-leb (length answer) (length before) h) (w .counted) }
+  answered-room w h =
+      let room = le-leb (length answer) (length before) h in
+      record { left = rw room (w .stands); returned = rw room (w .counted); short = short }
 
-pub answered-no-room : (answer before : List ℕ) (n : ℕ) → n ≡ length answer → length before < n → Answered answer before before 0
-answered-no-room answer before n e h =
-    let short : length before < length answer = rw (← e) h in
-    record { left = rw (lt-leb (length answer) (length before) short); returned = rw (lt-leb (length answer) (length before) short) }
+  pub answered-no-room : (n : ℕ) → n ≡ length answer → length before < n → Answered answer before before 0
+  answered-no-room n e h =
+      let less : length before < length answer = rw (← e) h in
+      let no-room = lt-leb (length answer) (length before) less in
+      record { left = rw no-room; returned = rw no-room; short = short }
 
 pub answered-as : {answer other before after : List ℕ} {r : ℕ} → answer ≡ other → Answered answer before after r → Answered other before after r
 answered-as {before = before} {after = after} {r = r} e a = subst (λ (t : List ℕ). Answered t before after r) e a

@@ -6,11 +6,11 @@ use native.Mathlib.Omega.{arith}
 use native.Mathlib.Numerals.{add-one}
 use lib.ListN.{length, getD, drop, length-append, drop-of-length-le}
 use lib.Seq.{drop-cons}
-use Rattle.algebra.specs.Digits.{Below}
 use Rattle.meaning.specs.Text.{bytes, decimalOf}
 use Rattle.meaning.specs.Reply.{reply}
 use Rattle.meaning.specs.Program.{tabbed, refusalText, cellsText, tableText}
 use Rattle.program.specs.Written.{pairText, headingText}
+use Rattle.program.specs.Answered.{longest}
 use Rattle.program.proofs.Digits.{decimal-most, decimal-of-32, decimal-of-64}
 use Rattle.program.proofs.Texts.{table-parts, cell-parts}
 
@@ -68,15 +68,17 @@ module _ {table : List ℕ} {total i : ℕ} (s : Summing table total i) where
 
 -- ---- the longest
 
-cells-most : (i : ℕ) (t : List ℕ) → i + length t ≤ 4096 → Below 4294967296 t → length (cellsText i t) ≤ 16 * length t
+cells-most : (i : ℕ) (t : List ℕ) → i + length t ≤ 4096 → ((j : ℕ) → getD t j 0 < 4294967296) → length (cellsText i t) ≤ 16 * length t
 unfolding cellsText
-cells-most i [] h below = omega arith
-cells-most i (c ∷ cs) h below =
-    omega (arith, cell-length i c cs, pair-length i c, decimal-most 3 i (omega arith), decimal-of-32 c (below .0), cells-most (suc i) cs (omega arith) (below .1))
+cells-most i [] h small = omega arith
+cells-most i (c ∷ cs) h small =
+    omega (arith, cell-length i c cs, pair-length i c, decimal-most 3 i (omega arith), decimal-of-32 c (small 0), cells-most (suc i) cs (omega arith) (λ j. small (suc j)))
 
 -- 4,096 lines of at most 16 bytes, after a first line of 11
-pub table-most : (t : List ℕ) → length t ≤ 4096 → Below 4294967296 t → length (tableText t) ≤ 65547
-table-most t h below = omega (arith, table-length t, decimal-most 3 (length t) (omega arith), cells-most 0 t (omega arith) below)
+pub table-most : (t : List ℕ) → length t ≤ 4096 → ((j : ℕ) → getD t j 0 < 4294967296) → length (tableText t) ≤ longest
+unfolding longest
+table-most t h small = omega (arith, table-length t, decimal-most 3 (length t) (omega arith), cells-most 0 t (omega arith) small)
 
-pub refusal-most : (number place : ℕ) → number < 4294967296 → place < 18446744073709551616 → length (refusalText (reply number place)) ≤ 40
+pub refusal-most : (number place : ℕ) → number < 4294967296 → place < 18446744073709551616 → length (refusalText (reply number place)) ≤ longest
+unfolding longest
 refusal-most number place h k = omega (arith, refusal-length number place, pair-length number place, decimal-of-32 number h, decimal-of-64 place k)

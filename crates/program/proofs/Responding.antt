@@ -1,26 +1,20 @@
 -- The answer to an input with a line `end`, by what was found in it.
 use mathlib.Core.Path.{_≡_, sym, ap, subst, _∙_}
-use mathlib.Core.Bool.{Bool, true, false, cond}
-use mathlib.Core.List.{List, [], _∷_}
+use mathlib.Core.Bool.{Bool, true, false}
+use mathlib.Core.List.{List, []}
 use mathlib.Core.Option.{none, some}
 use Prim.Native.Nat.{ℕ, suc, _+_, _-_, _≤_, _<_}
 use native.Mathlib.Omega.{arith}
 use borrow.Author.Tests.{le-leb, lt-leb}
-use lib.Dec.{eqb, leb→le}
 use lib.IntN.{ℤ}
-use lib.ListN.{length, take, drop, replicate, length-append, length-drop, length-replicate}
+use lib.ListN.{length, take, drop, replicate, length-drop, length-replicate}
 use lib.Seq.{take-all, length-take-le}
-use Rattle.meaning.specs.Text.{onFirst, split, withoutLast, linesOf, isEnded, number}
-use Rattle.meaning.specs.Line.{Line, numbersOf}
-use Rattle.meaning.specs.Known.{Known, fresh}
-use Rattle.meaning.specs.Meaning.{gadget, after}
-use Rattle.meaning.specs.Refusal.{textLimit, valueLimit, cellLimit, onSome, refused, read, onReading, reading}
+use Rattle.meaning.specs.Text.{linesOf, isEnded, number}
+use Rattle.meaning.specs.Line.{numbersOf}
+use Rattle.meaning.specs.Refusal.{textLimit, onSome, refused, read, onReading, reading}
 use Rattle.meaning.specs.Reply.{reply, firstFail, made, makeReply}
 use Rattle.meaning.specs.Program.{refusalText, makingText, Parts, partsOf, joined, isSome, orNone, answerParts, onParts, respond}
-use Rattle.meaning.proofs.Kept.{Kept, Keeps, keeps-all}
-use Rattle.meaning.proofs.Reading.{read-kept}
 use Rattle.text.specs.Place.{linesFrom}
-use Rattle.reader.proofs.Steps.{few}
 use Rattle.reader.specs.declared.state.Counts.{Counts}
 use Rattle.service.specs.Walk.{ListRead, Listed}
 use Rattle.service.proofs.Made.{made-wrong-count, make-read}
@@ -30,67 +24,8 @@ use Rattle.program.specs.declared.input.Ending.{Ending}
 use Rattle.program.specs.declared.input.Ending.the-variants.{At, Missing}
 use Rattle.program.specs.declared.input.Inputs.{Inputs}
 use Rattle.program.specs.declared.input.Inputs.the-variants.{Numbers, NoNumber}
+use Rattle.program.proofs.Limits.{list-most, joined-few, lines-few}
 use Rattle.program.specs.Answered.{ListAsked, InputsAsked}
-
--- ---- the most that a list which is read has
-
-pub record Most (s : Known) : Type 0 where
-  pub values-most : length (s .known) ≤ 256
-  pub inputs-most : s .inputs ≤ length (s .known)
-  pub cells-most : s .cells ≤ 4096
-
-most-after : (n : ℕ) (s : Known) (l : Line) → Keeps n s l → Most s → Most (after s l)
-unfolding after valueLimit cellLimit
-most-after n s l keeps m =
-    let g = gadget s l in
-    let f = few n s l keeps in
-    let all = length-append (g .narrowed) (g .made) in
-    record {
-      values-most = omega (arith, all, f .2, leb→le (length (s .known) + length (g .made)) 256 (keeps .values-fit));
-      inputs-most = omega (arith, all, f .0, f .2, m .inputs-most);
-      cells-most = omega (arith, leb→le (s .cells + g .width) 4096 (keeps .cells-fit));
-    }
-
-most-kept : (ls : List Line) (n : ℕ) (s last : Known) → Kept n s ls last → Most s → Most last
-most-kept [] n s last k m = subst Most k m
-most-kept (l ∷ ls) n s last k m = most-kept ls (suc n) (after s l) last (k .1) (most-after n s l (keeps-all n s l (k .0)) m)
-
-pub list-most : {list : List ℕ} (l : ListRead list) → Most (l .last)
-unfolding fresh
-list-most {list} l =
-    most-kept (l .lines) 0 fresh (l .last) (read-kept list (l .lines) (l .last) (l .is-read))
-    (record { values-most = omega arith; inputs-most = omega arith; cells-most = omega arith })
-
--- ---- a text has no more lines than bytes
-
-joined-few : (ls : List (List ℕ)) → length ls ≤ length (joined ls)
-unfolding joined
-joined-few [] = omega arith
-joined-few (l ∷ ls) = omega (arith, joined-few ls, length-append l (10 ∷ joined ls))
-
-first-few : (x : ℕ) (parts : List (List ℕ)) (n : ℕ) → length parts ≤ suc n → length (onFirst x parts) ≤ suc (suc n)
-unfolding onFirst
-first-few x [] n h = omega arith
-first-few x (p ∷ ps) n h = omega arith
-
-split-few-at : (t : Bool) (x : ℕ) (rest : List (List ℕ)) (n : ℕ) → length rest ≤ suc n → length (cond t ([] ∷ rest) (onFirst x rest)) ≤ suc (suc n)
-split-few-at true x rest n h = omega arith
-split-few-at false x rest n h = first-few x rest n h
-
-split-few : (separator : ℕ) (xs : List ℕ) → length (split separator xs) ≤ suc (length xs)
-unfolding split
-split-few separator [] = omega arith
-split-few separator (x ∷ xs) = split-few-at (eqb x separator) x (split separator xs) (length xs) (split-few separator xs)
-
-without-few : (ls : List (List ℕ)) → length (withoutLast ls) ≤ length ls - 1
-unfolding withoutLast
-without-few [] = omega arith
-without-few (l ∷ []) = omega arith
-without-few (l ∷ (m ∷ ls)) = omega (arith, without-few (m ∷ ls))
-
-lines-few : (text : List ℕ) → length (linesOf text) ≤ length text
-unfolding linesOf
-lines-few text = omega (arith, without-few (split 10 text), split-few 10 text)
 
 -- ---- the answers
 
@@ -152,19 +87,25 @@ module _ {input : List ℕ} {end lines : ℕ} (asked : ListAsked input end lines
         answer ∙ whole
 
     module _ {stored : List ℤ} {count : ℕ} (n : NumbersRead (linesFrom input (end + 4)) stored count) where
-      made-whole : makingText (made (l .last) (l .lines) (orNone (numbersOf (linesFrom input (end + 4)))) (replicate (l .last .cells) 0)) ≡ onParts (partsOf (linesOf input))
+      abbrev column : List ℤ
+      column = orNone (numbersOf (linesFrom input (end + 4)))
+
+      abbrev zeros : List ℕ
+      zeros = replicate (l .last .cells) 0
+
+      made-whole : makingText (made (l .last) (l .lines) column zeros) ≡ onParts (partsOf (linesOf input))
       unfolding answerParts onReading onSome
       made-whole =
           let passed : firstFail isNumber (suc (length (parts .list))) (parts .inputs) ≡ none =
           none-from isNumber [] (parts .inputs) (suc (length (parts .list))) (rw (← asked .ends .left) (n .all)) in
-          let answer : makingText (made (l .last) (l .lines) (orNone (numbersOf (linesFrom input (end + 4)))) (replicate (l .last .cells) 0)) ≡ answerParts parts =
+          let answer : makingText (made (l .last) (l .lines) column zeros) ≡ answerParts parts =
           rw (here, passed, asked .ends .left) in
           answer ∙ whole
 
       pub too-many : 256 < count → refusalText (reply 16 0) ≡ onParts (partsOf (linesOf input))
       unfolding makingText
       too-many h =
-          ap makingText (made-wrong-count (l .last) (l .lines) (orNone (numbersOf (linesFrom input (end + 4)))) (replicate (l .last .cells) 0) (length-replicate (l .last .cells) 0)
+          ap makingText (made-wrong-count (l .last) (l .lines) column zeros (length-replicate (l .last .cells) 0)
           (λ e. omega (arith, n .counted, list-most l .inputs-most, list-most l .values-most)))
           ∙ made-whole
 
@@ -172,9 +113,9 @@ module _ {input : List ℕ} {end lines : ℕ} (asked : ListAsked input end lines
           → makingText (makeReply (take (end - 0) input) (take (count - 0) stored) (replicate cells 0)) ≡ onParts (partsOf (linesOf input))
       made-answer cells h e =
           let same : count - 0 ≡ count = omega arith in
-          let all : take count stored ≡ orNone (numbersOf (linesFrom input (end + 4))) =
-          sym (n .stands) ∙ take-all 256 (orNone (numbersOf (linesFrom input (end + 4)))) (omega (arith, n .counted)) in
-          rw (← e, upto, same, all) (ap makingText (sym (make-read (take end input) (orNone (numbersOf (linesFrom input (end + 4)))) (replicate (l .last .cells) 0) l)) ∙ made-whole)
+          let all : take count stored ≡ column =
+          sym (n .stands) ∙ take-all 256 column (omega (arith, n .counted)) in
+          rw (← e, upto, same, all) (ap makingText (sym (make-read (take end input) column zeros l)) ∙ made-whole)
 
 -- ---- what was read of the inputs
 

@@ -27,7 +27,7 @@ pub fn answer_refusal(output: &mut [u8], number: u32, place: usize) -> usize
     write_refusal(output, number, place)
 }
 
-pub fn answer_table(output: &mut [u8], table: &[u32]) -> usize
+fn answer_table(output: &mut [u8], table: &[u32]) -> usize
     requires { ⌜ length (now table) ≤ 4096 ⌝ }
     ensures { λ r. ⌜ Answered (tableText (now (table .entry))) (now (output .entry)) (now (output .exit)) r ⌝ }
 {

@@ -1,7 +1,8 @@
 -- Each way out is one law of `Responding`.
 use native.Mathlib.Omega.{arith}
 use Rattle.program.proofs.Answering.{answered-as}
-use Rattle.program.proofs.Responding.{list-most, inputs-no-number, inputs-numbers, place-fits, no-number, too-many, made-answer}
+use Rattle.program.proofs.Limits.{list-most}
+use Rattle.program.proofs.Responding.{inputs-no-number, inputs-numbers, place-fits, no-number, too-many, made-answer}
 use borrow.Author.Needs.{needs}
 use Rattle.program.proofs.answer.answer_inputs.Statement.{statement}
 use Rattle.program.proofs.answer.answer_inputs.Tie as tie
@@ -20,14 +21,18 @@ enum-known-found c = search needs
 
 add-answer-refusal : tie.Need-add-answer-refusal
 add-answer-refusal c =
-    let s = c .before .before .before .before .before .before .before .before .before in
-    let fails = inputs-no-number _ _ (c .before .before .before .before .before .read-inputs .ensures) (c .before .before .found .given .1) in
+    let at-found = c .before .before in
+    let at-read = at-found .before .before .before in
+    let s = at-read .before .before .before .before in
+    let fails = inputs-no-number _ _ (at-read .read-inputs .ensures) (at-found .found .given .1) in
     omega (arith, place-fits (s .pre .asked) (s .pre .listed) _ fails)
 
 add-answer-refusal-2 : tie.Need-add-answer-refusal-2
 add-answer-refusal-2 c =
-    let s = c .before .before .before .before .before .before .before .before .before in
-    let fails = inputs-no-number _ _ (c .before .before .before .before .before .read-inputs .ensures) (c .before .before .found .given .1) in
+    let at-found = c .before .before in
+    let at-read = at-found .before .before .before in
+    let s = at-read .before .before .before .before in
+    let fails = inputs-no-number _ _ (at-read .read-inputs .ensures) (at-found .found .given .1) in
     omega (arith, place-fits (s .pre .asked) (s .pre .listed) _ fails)
 
 answer-refusal-requires : tie.Need-answer-refusal-requires
@@ -44,8 +49,13 @@ same-length c = search needs
 
 returns : tie.Need-returns
 returns c =
-    let s = c .before .before .before .before .before .before .before .before .before .before .before .before .before in
-    answered-as (too-many (s .pre .asked) (s .pre .listed) (inputs-numbers _ _ (c .before .before .before .before .before .before .before .before .before .read-inputs .ensures) (c .before .before .before .before .before .before .found2 .given .1)) (c .before .before .before .before .if1 .taken)) (c .before .before .answer-refusal2 .ensures)
+    let at-answer = c .before .before in
+    let at-if1 = at-answer .before .before in
+    let at-found = at-if1 .before .before in
+    let at-read = at-found .before .before .before in
+    let s = at-read .before .before .before .before in
+    let numbers = inputs-numbers _ _ (at-read .read-inputs .ensures) (at-found .found2 .given .1) in
+    answered-as (too-many (s .pre .asked) (s .pre .listed) numbers (at-if1 .if1 .taken)) (at-answer .answer-refusal2 .ensures)
 
 sub-answer-made : tie.Need-sub-answer-made
 sub-answer-made c = search needs
@@ -75,16 +85,25 @@ same-length-2 c = search needs
 
 returns-2 : tie.Need-returns-2
 returns-2 c =
-    let s = c .before .before .before .before .before .before .before .before .before .before .before .before in
-    answered-as (no-number (s .pre .asked) (s .pre .listed) _ (inputs-no-number _ _ (c .before .before .before .before .before .before .before .before .read-inputs .ensures) (c .before .before .before .before .before .found .given .1))) (c .before .before .answer-refusal .ensures)
+    let at-answer = c .before .before in
+    let at-found = at-answer .before .before .before in
+    let at-read = at-found .before .before .before in
+    let s = at-read .before .before .before .before in
+    let fails = inputs-no-number _ _ (at-read .read-inputs .ensures) (at-found .found .given .1) in
+    answered-as (no-number (s .pre .asked) (s .pre .listed) _ fails) (at-answer .answer-refusal .ensures)
 
 same-length-3 : tie.Need-same-length-3
 same-length-3 c = search needs
 
 returns-3 : tie.Need-returns-3
 returns-3 c =
-    let s = c .before .before .before .before .before .before .before .before .before .before .before .before .before .before .before .before in
-    answered-as (made-answer (s .pre .asked) (s .pre .listed) (inputs-numbers _ _ (c .before .before .before .before .before .before .before .before .before .before .before .before .read-inputs .ensures) (c .before .before .before .before .before .before .before .before .before .found2 .given .1)) (s .args .cells) (c .before .before .before .before .before .before .before .if1 .left) (s .pre .cells-are)) (c .before .before .answer-made .ensures)
+    let at-answer = c .before .before in
+    let at-if1 = at-answer .before .before .before .before .before in
+    let at-found = at-if1 .before .before in
+    let at-read = at-found .before .before .before in
+    let s = at-read .before .before .before .before in
+    let numbers = inputs-numbers _ _ (at-read .read-inputs .ensures) (at-found .found2 .given .1) in
+    answered-as (made-answer (s .pre .asked) (s .pre .listed) numbers (s .args .cells) (at-if1 .if1 .left) (s .pre .cells-are)) (at-answer .answer-made .ensures)
 
 pub answer-inputs-spec : {M : Type 1} → statement M
 answer-inputs-spec =

@@ -29,17 +29,23 @@ enum-known-found-2 c = search needs
 
 answer-inputs-requires : tie.Need-answer-inputs-requires
 answer-inputs-requires c κs =
-    let s = c .before .before .before .before .before .before .before .before in
-    let told = c .before .before .before .before .survey .ensures in
-    list-read (s .pre) (survey-counted _ _ (told .0) (told .1) _ _ (c .before .before .found2 .given .1))
+    let at-found = c .before .before in
+    let at-survey = at-found .before .before in
+    let s = at-survey .before .before .before .before in
+    let told = at-survey .survey .ensures in
+    list-read (s .pre) (survey-counted _ _ (told .0) (told .1) _ _ (at-found .found2 .given .1))
 
 same-length : tie.Need-same-length
 same-length c = search needs
 
 returns : tie.Need-returns
 returns c =
-    let s = c .before .before .before .before .before .before .before .before .before .before .before in
-    answered-as (list-refused (s .pre) _ _ (survey-refused _ _ (c .before .before .before .before .before .before .before .survey .ensures .0) _ _ (c .before .before .before .before .before .found .given .1))) (c .before .before .answer-refusal .ensures)
+    let at-answer = c .before .before in
+    let at-found = at-answer .before .before .before in
+    let at-survey = at-found .before .before in
+    let s = at-survey .before .before .before .before in
+    let refused-at = survey-refused _ _ (at-survey .survey .ensures .0) _ _ (at-found .found .given .1) in
+    answered-as (list-refused (s .pre) _ _ refused-at) (at-answer .answer-refusal .ensures)
 
 same-length-2 : tie.Need-same-length-2
 same-length-2 c = search needs

@@ -14,8 +14,10 @@ same-length c = search needs
 returns : tie.Need-returns
 unfolding replySeen
 returns c =
-    let s = c .before .before .before .before .before .before .before .before in
-    answered-as (making-table (s .args .reply .number) (s .args .reply .place) (s .args .table .now) (c .before .before .before .before .if1 .taken)) (c .before .before .answer-table .ensures)
+    let at-answer = c .before .before in
+    let at-if1 = at-answer .before .before in
+    let a = at-if1 .before .before .before .before .args in
+    answered-as (making-table (a .reply .number) (a .reply .place) (a .table .now) (at-if1 .if1 .taken)) (at-answer .answer-table .ensures)
 
 answer-refusal-requires : tie.Need-answer-refusal-requires
 answer-refusal-requires c κs = search needs
@@ -26,8 +28,10 @@ same-length-2 c = search needs
 returns-2 : tie.Need-returns-2
 unfolding replySeen
 returns-2 c =
-    let s = c .before .before .before .before .before .before .before .before in
-    answered-as (making-refusal (s .args .reply .number) (s .args .reply .place) (s .args .table .now) (c .before .before .before .before .if1 .left)) (c .before .before .answer-refusal .ensures)
+    let at-answer = c .before .before in
+    let at-if1 = at-answer .before .before in
+    let a = at-if1 .before .before .before .before .args in
+    answered-as (making-refusal (a .reply .number) (a .reply .place) (a .table .now) (at-if1 .if1 .left)) (at-answer .answer-refusal .ensures)
 
 pub answer-making-spec : {M : Type 1} → statement M
 answer-making-spec =
