@@ -1,13 +1,16 @@
 -- Answering: where an answer has room it is written, and else nothing is; and what making answers.
-use mathlib.Core.Path.{_≡_, refl, ap, ap₂, subst, _∙_}
+use mathlib.Core.Path.{_≡_, refl, sym, ap, ap₂, subst, _∙_}
+use mathlib.Core.Bool.{Bool, true, false, cond}
 use mathlib.Core.List.{List, _∷_}
 use Prim.Native.Nat.{ℕ, zero, suc, _-_, _≤_, _<_}
 use native.Mathlib.Omega.{arith}
 use borrow.Author.Tests.{le-leb, lt-leb, eq-eqb, ne-eqb}
 use borrow.Rule.Slice.PartMut.{putMid}
+use lib.Dec.{leb, leb→le}
 use lib.IntN.{ℤ}
 use lib.ListN.{length, take, drop, replicate}
 use lib.Seq.{length-take-le, take-at}
+use Rattle.algebra.proofs.Test.{≡-test}
 use Rattle.meaning.specs.Reply.{Reply, reply, making, makeReply}
 use Rattle.meaning.specs.Program.{refusalText, tableText, makingText}
 use Rattle.program.specs.Written.{Written}
@@ -55,3 +58,16 @@ within-text list xs table last cells r zeros inside long told =
     let size : length last ≡ cells - 0 = long ∙ length-take-le (cells - 0) table (omega arith) in
     let after : take (cells - 0) (putMid 0 (cells - 0) table last) ≡ last = take-at last (drop (cells - 0) table) (cells - 0) size in
     rw after (ap₂ (λ (q : Reply) (t : List ℕ). makingText (making q t)) (rw before at (told .0)) (rw before at (told .1)))
+
+-- ---- what was written is a part of the output
+
+module _ {answer before after : List ℕ} {r : ℕ} (a : Answered answer before after r) where
+  pub written-within : r ≤ length before
+  written-within = by (leb (length answer) (length before)) refl (a .returned)
+    where
+      by : (t : Bool) → leb (length answer) (length before) ≡ t → r ≡ cond t (length answer) 0 → r ≤ length before
+      by true e q = omega (arith, leb→le (length answer) (length before) (≡-test (leb (length answer) (length before)) e))
+      by false e q = omega arith
+
+  pub written-count : length after ≡ length before → r ≡ length (take r after)
+  written-count same = sym (length-take-le r after (omega (arith, written-within, same)))

@@ -1,14 +1,5 @@
 -- `digit_table::main`: what is written is a part of the output, as `respond` returns no more than its length.
-use mathlib.Core.Path.{_≡_, refl, sym}
-use mathlib.Core.Bool.{Bool, true, false, cond}
-use mathlib.Core.List.{List}
-use Prim.Native.Nat.{ℕ, _≤_}
-use native.Mathlib.Omega.{arith}
-use lib.Dec.{leb, leb→le}
-use lib.ListN.{length}
-use lib.Seq.{length-take-le}
-use Rattle.algebra.proofs.Test.{≡-test}
-use Rattle.program.specs.Answered.{Answered}
+use Rattle.program.proofs.Answering.{written-within, written-count}
 use borrow.Author.Needs.{needs}
 use Rattle.digit_table.proofs.main.Statement.{statement}
 use Rattle.digit_table.proofs.main.Tie as tie
@@ -17,13 +8,6 @@ use Rattle.digit_table.proofs.main.Lts as lts
 use Rattle.io.proofs.read_full.Reads as read-full-reads
 use Rattle.io.proofs.write_all.Reads as write-all-reads
 use Rattle.program.proofs.respond.Reads as respond-reads
-
-within : (answer before after : List ℕ) (r : ℕ) → Answered answer before after r → r ≤ length before
-within answer before after r a = by (leb (length answer) (length before)) refl (a .returned)
-  where
-    by : (t : Bool) → leb (length answer) (length before) ≡ t → r ≡ cond t (length answer) 0 → r ≤ length before
-    by true e q = omega (arith, leb→le (length answer) (length before) (≡-test (leb (length answer) (length before)) e))
-    by false e q = omega arith
 
 -- src/main.rt:11:44
 slice-aggregate-read-full : tie.Need-slice-aggregate-read-full
@@ -52,14 +36,12 @@ respond-requires c κs = search needs
 -- src/main.rt:13:34
 array-share-prefix-output : tie.Need-array-share-prefix-output
 array-share-prefix-output c =
-    let inside = within _ _ _ _ (c .before .respond .ensures) in
+    let inside = written-within (c .before .respond .ensures) in
     search (needs, inside)
 
 -- src/main.rt:13:34
 slice-aggregate-write-all : tie.Need-slice-aggregate-write-all
-slice-aggregate-write-all c =
-    let inside = within _ _ _ _ (c .before .before .respond .ensures) in
-    sym (length-take-le (c .before .before .respond .result) (c .before .before .respond .last .1 .0) (omega (arith, inside, c .before .output2 .given)))
+slice-aggregate-write-all c = written-count (c .before .before .respond .ensures) (c .before .output2 .given)
 
 -- src/main.rt:13:5
 write-all-requires : tie.Need-write-all-requires

@@ -1,3 +1,5 @@
+-- `stored_answers::print_answer`: what is written is a part of the output.
+use Rattle.program.proofs.Answering.{written-within, written-count}
 use borrow.Author.Needs.{needs}
 use Rattle.stored_answers.proofs.print_answer.Statement.{statement}
 use Rattle.stored_answers.proofs.print_answer.Tie as tie
@@ -16,11 +18,13 @@ respond-requires c κs = search needs
 
 -- src/main.rt:9:34
 array-share-prefix-output : tie.Need-array-share-prefix-output
-array-share-prefix-output c = ?
+array-share-prefix-output c =
+    let inside = written-within (c .before .respond .ensures) in
+    search (needs, inside)
 
 -- src/main.rt:9:34
 slice-aggregate-write-all : tie.Need-slice-aggregate-write-all
-slice-aggregate-write-all c = ?
+slice-aggregate-write-all c = written-count (c .before .before .respond .ensures) (c .before .output2 .given)
 
 -- src/main.rt:9:5
 write-all-requires : tie.Need-write-all-requires
