@@ -1,7 +1,5 @@
 -- `service::making::make_true`: a false statement leaves the table as it was; where there is none, every cell is written.
-use mathlib.Core.Path.{_≡_, ap, _∙_}
-use mathlib.Core.List.{List}
-use Prim.Native.Nat.{ℕ}
+use mathlib.Core.Path.{ap, _∙_}
 use denote.Ref.{now}
 use Rattle.meaning.specs.Reply.{reply, making}
 use Rattle.service.specs.Reply.{replySeen}

@@ -1,5 +1,5 @@
 -- `service::working::take_value`: one value is written where the line makes one, and none else.
-use mathlib.Core.Path.{sym, ap, refl}
+use mathlib.Core.Path.{sym, ap}
 use mir.Syntax.{w64}
 use mir.Val.{SFits}
 use denote.Ref.{now}
