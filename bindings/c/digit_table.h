@@ -1,0 +1,69 @@
+/* Digit tables over Z/p: the service's calls for C and C++, as crates/exports/src/lib.rt exports them.
+ *
+ * Every call ends, for any bytes, and answers what its contract there says. What is asked of the caller is asked of every C function:
+ *  - a pointer that comes with a length leads to so many elements, aligned, and is not NULL, even where the length is 0;
+ *  - a pointer that comes without one leads to one number;
+ *  - what a call writes (all that is not const) overlaps nothing else that is lent to the same call.
+ * Nothing is kept after a call and nothing is allocated: calls may run at the same time. A call takes less than 32 KiB of stack.
+ *
+ * A reply is a number and a place, as document 01 has them under "Replies": number 0 for a list that was read, a table that was accepted
+ * and a table that was made, 1 to 20 for a refusal. The place is a line, a cell, a row or an input, by the number. Lines, cells, rows,
+ * values and inputs count from 0. */
+#ifndef DIGIT_TABLE_H
+#define DIGIT_TABLE_H
+
+#include <stddef.h>
+#include <stdint.h>
+
+#ifdef __cplusplus
+extern "C" {
+#endif
+
+/* Reads a list.
+ * Reads: the list's bytes.
+ * Writes: all five places. For a list that was read, 0, p, and its counts of values, cells and rows; for a refused one the place of the
+ *   refusal, and 0 into the other four.
+ * Returns: 0, or the number of the refusal, 1 to 12. */
+uint32_t digit_table_read(const uint8_t *list, size_t list_length,
+                          size_t *place, uint32_t *p, size_t *values, size_t *cells, size_t *rows);
+
+/* Checks a table, whoever wrote it.
+ * Reads: the list's bytes and the table's cells.
+ * Writes: the place, 0 where the table is accepted. The table is left as it is.
+ * Returns: 0, or the number of the refusal, 1 to 15. */
+uint32_t digit_table_check(const uint8_t *list, size_t list_length,
+                           const uint32_t *table, size_t table_length,
+                           size_t *place);
+
+/* Makes the table of a column of inputs. The table has as many cells as digit_table_read counts.
+ * Reads: the list's bytes and the inputs.
+ * Writes: the place; and every cell of the table where 0 is returned, no cell where not.
+ * Returns: 0, or the number of the refusal, 1 to 13 or 16 to 18. */
+uint32_t digit_table_make(const uint8_t *list, size_t list_length,
+                          const int64_t *inputs, size_t inputs_length,
+                          uint32_t *table, size_t table_length,
+                          size_t *place);
+
+/* Shows a line: which cells of a table hold it, table[*first] to table[*first + count - 1].
+ * Reads: the list's bytes. Of the table the length alone counts.
+ * Writes: the first cell, 0 where there is none. *first + count is never more than table_length.
+ * Returns: the count of cells. It is 0 for the field line, for a line that is not there, for a refused list and for a wrong table length. */
+size_t digit_table_show(const uint8_t *list, size_t list_length,
+                        const uint32_t *table, size_t table_length,
+                        size_t line, size_t *first);
+
+/* Calls a desk, which is three counts; a fresh one has 0, 0, 0. It checks the table and counts the call.
+ * Reads: the counts, the list's bytes and the table's cells.
+ * Writes: the place, and the counts: heard is one more, and so is accepted where 0 is returned, else refused. Refusals 19 and 20, which come
+ *   before all others, leave the counts as they are.
+ * Returns: what digit_table_check returns; or 19 where heard is not accepted + refused, 20 where heard is 2^64-1. */
+uint32_t digit_table_desk_call(uint64_t *heard, uint64_t *accepted, uint64_t *refused,
+                               const uint8_t *list, size_t list_length,
+                               const uint32_t *table, size_t table_length,
+                               size_t *place);
+
+#ifdef __cplusplus
+}
+#endif
+
+#endif

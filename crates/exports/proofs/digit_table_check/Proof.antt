@@ -1,0 +1,18 @@
+-- `exports::digit_table_check`: what is written and returned is `check`'s reply.
+use Rattle.service.specs.Reply.{replySeen}
+use borrow.Author.Needs.{needs}
+use Rattle.exports.proofs.digit_table_check.Statement.{statement}
+use Rattle.exports.proofs.digit_table_check.Tie as tie
+use Rattle.exports.proofs.digit_table_check.Reads as reads
+use Rattle.exports.proofs.digit_table_check.Lts as lts
+use Rattle.service.proofs.check.Reads as check-reads
+
+check-requires : tie.Need-check-requires
+check-requires c κs = search needs
+
+returns : tie.Need-returns
+unfolding replySeen
+returns c = c .check .ensures
+
+pub digit-table-check-spec : {M : Type 1} → statement M
+digit-table-check-spec = tie.close (tie.spec check-requires returns)

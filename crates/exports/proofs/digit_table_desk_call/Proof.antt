@@ -1,0 +1,19 @@
+-- `exports::digit_table_desk_call`: the counts are taken in as a desk, and what is written and returned is what the call gives.
+use Rattle.service.specs.Reply.{replySeen}
+use Rattle.desk.specs.Desk.{deskSeen, calledSeen}
+use borrow.Author.Needs.{needs}
+use Rattle.exports.proofs.digit_table_desk_call.Statement.{statement}
+use Rattle.exports.proofs.digit_table_desk_call.Tie as tie
+use Rattle.exports.proofs.digit_table_desk_call.Reads as reads
+use Rattle.exports.proofs.digit_table_desk_call.Lts as lts
+use Rattle.desk.proofs.Desk.call.Reads as call-reads
+
+call-requires : tie.Need-call-requires
+call-requires c κs = search needs
+
+returns : tie.Need-returns
+unfolding calledSeen deskSeen replySeen
+returns c = c .before .before .call .ensures .0
+
+pub digit-table-desk-call-spec : {M : Type 1} → statement M
+digit-table-desk-call-spec = tie.close (tie.spec call-requires returns)

@@ -1,0 +1,25 @@
+-- `exports::digit_table_make`: what is written and returned is `make`'s reply.
+use mathlib.Core.Path.{ap₂}
+use Rattle.meaning.specs.Reply.{making}
+use Rattle.service.specs.Reply.{replySeen}
+use borrow.Author.Needs.{needs}
+use Rattle.exports.proofs.digit_table_make.Statement.{statement}
+use Rattle.exports.proofs.digit_table_make.Tie as tie
+use Rattle.exports.proofs.digit_table_make.Reads as reads
+use Rattle.exports.proofs.digit_table_make.Lts as lts
+use Rattle.service.proofs.make.Reads as make-reads
+
+make-requires : tie.Need-make-requires
+make-requires c κs = search needs
+
+same-length : tie.Need-same-length
+same-length c = search needs
+
+returns : tie.Need-returns
+unfolding replySeen
+returns c =
+    let given = c .before .before .make .ensures in
+    ap₂ making (given .0) (given .1)
+
+pub digit-table-make-spec : {M : Type 1} → statement M
+digit-table-make-spec = tie.close (tie.spec make-requires same-length returns)

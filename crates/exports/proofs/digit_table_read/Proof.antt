@@ -1,0 +1,34 @@
+-- `exports::digit_table_read`: the six numbers are those of `read`'s answer.
+use mathlib.Core.Path.{sym, ap, _∙_}
+use Rattle.reader.specs.Read.{answerSeen}
+use Rattle.reader.specs.declared.read.Answer.{Answer}
+use Rattle.exports.specs.Read.{numbersOf}
+use borrow.Author.Needs.{needs}
+use Rattle.exports.proofs.digit_table_read.Statement.{statement}
+use Rattle.exports.proofs.digit_table_read.Tie as tie
+use Rattle.exports.proofs.digit_table_read.Reads as reads
+use Rattle.exports.proofs.digit_table_read.Lts as lts
+use Rattle.reader.proofs.read.read.Reads as read-reads
+
+read-requires : tie.Need-read-requires
+read-requires c κs = search needs
+
+enum-known-answer : tie.Need-enum-known-answer
+enum-known-answer c = search needs
+
+enum-known-answer-2 : tie.Need-enum-known-answer-2
+enum-known-answer-2 c = search needs
+
+returns : tie.Need-returns
+unfolding numbersOf answerSeen
+returns c =
+    sym (ap (λ (a : Answer). numbersOf (answerSeen a)) (c .before .answer .given .1)) ∙ ap numbersOf (c .before .before .before .read .ensures .0)
+
+returns-2 : tie.Need-returns-2
+unfolding numbersOf answerSeen
+returns-2 c =
+    sym (ap (λ (a : Answer). numbersOf (answerSeen a)) (c .before .answer2 .given .1)) ∙ ap numbersOf (c .before .before .before .read .ensures .0)
+
+pub digit-table-read-spec : {M : Type 1} → statement M
+digit-table-read-spec =
+    tie.close (tie.spec read-requires enum-known-answer enum-known-answer-2 returns returns-2)

@@ -1,0 +1,28 @@
+-- `exports::first_of`: the first cell of an empty part is read as 0.
+use mathlib.Core.Path.{sym}
+use native.Mathlib.Omega.{arith}
+use lib.ListN.{List·getD-eq-default}
+use denote.Ref.{now}
+use borrow.Author.Needs.{needs}
+use Rattle.exports.proofs.first_of.Statement.{statement}
+use Rattle.exports.proofs.first_of.Tie as tie
+use Rattle.exports.proofs.first_of.Reads as reads
+use Rattle.exports.proofs.first_of.Lts as lts
+use Rattle.exports.proofs.wide.Reads as wide-reads
+
+returns : tie.Need-returns
+returns c =
+    let none = c .if1 .taken in
+    sym (List·getD-eq-default (now (c .before .before .args .part)) 0 {n = 0} (omega arith))
+
+shared-slice-read-wide : tie.Need-shared-slice-read-wide
+shared-slice-read-wide c = search needs
+
+wide-requires : tie.Need-wide-requires
+wide-requires c κs = search needs
+
+returns-2 : tie.Need-returns-2
+returns-2 c = search needs
+
+pub first-of-spec : {M : Type 1} → statement M
+first-of-spec = tie.close (tie.spec returns shared-slice-read-wide wide-requires returns-2)

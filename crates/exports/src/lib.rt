@@ -1,0 +1,161 @@
+// The public calls for programs in other languages, by the C ABI: numbers pass as themselves, a slice as a pointer and a length, and a
+// place that is lent for one number as a pointer. No function asks anything of its caller but that what it lends is there and that what
+// is written overlaps nothing else that is lent. Each returns the number of its reply, but for showing, which has none.
+use desk::Desk;
+use reader::read::Answer;
+use reader::read::read;
+use service::check;
+use service::make;
+use service::show;
+ghost use mathlib.Core.Path.{_≡_};
+ghost use Prim.Native.Nat.{_+_, _≤_};
+ghost use lib.ListN.{length, getD, take, drop};
+ghost use Rattle.meaning.specs.Reply.{reply, making, readReply, checkReply, makeReply, shown};
+ghost use Rattle.meaning.specs.Desk.{counted, called, deskCall};
+ghost use Rattle.exports.specs.Read.{numbers, numbersOf};
+ghost use Rattle.exports.specs.Show.{upFrom, firstShown};
+
+// A list of more cells is refused.
+const MOST_CELLS: usize = 4096;
+
+// Reads a list: 0 and its p and counts, or the number and place of its refusal. All five places are written.
+#[no_mangle]
+pub extern "C" fn digit_table_read(
+    list: &[u8],
+    place: &mut usize,
+    p: &mut u32,
+    values: &mut usize,
+    cells: &mut usize,
+    rows: &mut usize,
+) -> u32
+    ensures { λ r. ⌜ numbers r (now (place .exit)) (now (p .exit)) (now (values .exit)) (now (cells .exit)) (now (rows .exit))
+        ≡ numbersOf (readReply (now (list .entry))) ⌝ }
+{
+    let answer = read(list);
+    match answer {
+        Answer::Read(prime, made, laid, stated) => {
+            *place = 0;
+            *p = prime;
+            *values = made;
+            *cells = laid;
+            *rows = stated;
+            0
+        }
+        Answer::Refused(number, at) => {
+            *place = at;
+            *p = 0;
+            *values = 0;
+            *cells = 0;
+            *rows = 0;
+            number
+        }
+    }
+}
+
+// Checks a table. The place is written.
+#[no_mangle]
+pub extern "C" fn digit_table_check(list: &[u8], table: &[u32], place: &mut usize) -> u32
+    ensures { λ r. ⌜ reply r (now (place .exit)) ≡ checkReply (now (list .entry)) (now (table .entry)) ⌝ }
+{
+    let checked = check(list, table);
+    *place = checked.place;
+    checked.number
+}
+
+// Makes the table of a column of inputs. The place is written, and the table where the number is 0.
+#[no_mangle]
+pub extern "C" fn digit_table_make(
+    list: &[u8],
+    inputs: &[i64],
+    table: &mut [u32],
+    place: &mut usize,
+) -> u32
+    ensures { λ r. ⌜ making (reply r (now (place .exit))) (now (table .exit))
+        ≡ makeReply (now (list .entry)) (now (inputs .entry)) (now (table .entry)) ⌝ }
+{
+    let made = make(list, inputs, table);
+    *place = made.place;
+    made.number
+}
+
+// Calls a desk, lent as its three counts; all 0 is a fresh one. The place is written, and the counts are those after the call.
+#[no_mangle]
+pub extern "C" fn digit_table_desk_call(
+    heard: &mut u64,
+    accepted: &mut u64,
+    refused: &mut u64,
+    list: &[u8],
+    table: &[u32],
+    place: &mut usize,
+) -> u32
+    ensures { λ r. ⌜ called (counted (now (heard .exit)) (now (accepted .exit)) (now (refused .exit))) (reply r (now (place .exit)))
+        ≡ deskCall (counted (now (heard .entry)) (now (accepted .entry)) (now (refused .entry))) (now (list .entry)) (now (table .entry)) ⌝ }
+{
+    let desk = Desk {
+        heard: *heard,
+        accepted: *accepted,
+        refused: *refused,
+    };
+    let call = desk.call(list, table);
+    let after = call.desk;
+    *heard = after.heard;
+    *accepted = after.accepted;
+    *refused = after.refused;
+    let replied = call.reply;
+    *place = replied.place;
+    replied.number
+}
+
+// Shows a line: how many cells the part of the table has, and its first cell, which is written; both 0 where the part is empty.
+// `show` is asked for the part of a table whose cells are their own numbers, so that the part tells where it starts.
+#[no_mangle]
+pub extern "C" fn digit_table_show(
+    list: &[u8],
+    table: &[u32],
+    line: usize,
+    first: &mut usize,
+) -> usize
+    ensures part { λ r. ⌜ take r (drop (now (first .exit)) (now (table .entry))) ≡ shown (now (list .entry)) (now (table .entry)) line ⌝ }
+    ensures count { λ r. ⌜ r ≡ length (shown (now (list .entry)) (now (table .entry)) line) ⌝ }
+    ensures start { λ _. ⌜ now (first .exit) ≡ firstShown (now (list .entry)) (length (now (table .entry))) line ⌝ }
+    ensures inside { λ r. ⌜ now (first .exit) + r ≤ length (now (table .entry)) ⌝ }
+{
+    let cells = table.len();
+    if MOST_CELLS < cells {
+        *first = 0;
+        return 0;
+    }
+    let mut numbered: [u32; MOST_CELLS] = [0; MOST_CELLS];
+    number_cells(&mut numbered);
+    let part = show(list, &numbered[0..cells], line);
+    *first = first_of(part);
+    part.len()
+}
+
+// The first cell of a part, and 0 where it is empty.
+fn first_of(part: &[u32]) -> usize
+    ensures { λ r. ⌜ r ≡ getD (now (part .entry)) 0 0 ⌝ }
+{
+    if part.len() == 0 {
+        return 0;
+    }
+    wide(part[0])
+}
+
+fn wide(cell: u32) -> usize
+    ensures { λ r. ⌜ r ≡ cell ⌝ }
+{
+    cell as usize
+}
+
+// Each cell holds its own number.
+fn number_cells(cells: &mut [u32])
+    requires { ⌜ length (now cells) ≤ 4096 ⌝ }
+    ensures { λ _. ⌜ now (cells .exit) ≡ upFrom 0 (length (now (cells .entry))) ⌝ }
+{
+    let mut i: usize = 0;
+    while i < cells.len() {
+        cells[i] = i as u32;
+        i += 1;
+    }
+}
