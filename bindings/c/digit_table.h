@@ -62,6 +62,16 @@ uint32_t digit_table_desk_call(uint64_t *heard, uint64_t *accepted, uint64_t *re
                                const uint32_t *table, size_t table_length,
                                size_t *place);
 
+/* The longest answer of digit_table_respond, in bytes. */
+#define DIGIT_TABLE_LONGEST_ANSWER 65547
+
+/* Answers what the program answers: a list, the line `end` and one input a line give the table or one line of refusal.
+ * Reads: the input's bytes.
+ * Writes: the answer at the start of the output, where it has room; nothing where it has none.
+ * Returns: the length of the answer, or 0 where it has no room. Every answer has room in DIGIT_TABLE_LONGEST_ANSWER bytes. */
+size_t digit_table_respond(const uint8_t *input, size_t input_length,
+                           uint8_t *output, size_t output_length);
+
 #ifdef __cplusplus
 }
 #endif

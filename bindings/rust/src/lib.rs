@@ -119,6 +119,25 @@ pub fn show<'a>(list: &[u8], table: &'a [u32], line: usize) -> &'a [u32] {
     &table[first..first + count]
 }
 
+/// The longest answer of `respond`, in bytes. That no answer is longer is proved of the call.
+pub const LONGEST_ANSWER: usize = 65_547;
+
+/// Answers what the program answers: a list, the line `end` and one input a line give the table or one line of refusal.
+pub fn respond(input: &[u8]) -> Vec<u8> {
+    let mut output = vec![0; LONGEST_ANSWER];
+    // SAFETY: both slices are there for the call, and the output is borrowed for it alone.
+    let written = unsafe {
+        calls::digit_table_respond(
+            input.as_ptr(),
+            input.len(),
+            output.as_mut_ptr(),
+            output.len(),
+        )
+    };
+    output.truncate(written);
+    output
+}
+
 /// Three counts of the tables that a desk has heard, all 0 when fresh.
 #[derive(Clone, Copy, Debug, Default, PartialEq, Eq)]
 pub struct Desk {

@@ -138,3 +138,12 @@ fn any_arguments_are_answered() {
     assert_eq!(make(&text("field 31;in"), &[i64::MIN], &mut [0]), refused(17, 0));
     assert_eq!(make(&text("field 31;in"), &[0], &mut []), refused(13, 0));
 }
+
+#[test]
+fn the_program_answers_the_nine_lines_of_p1() {
+    let input = b"field\t31\nin\nrelu\t0\t2\t4\nend\n-3\n";
+    let nine = b"table\t8\n0\t28\n1\t0\n2\t1\n3\t0\n4\t1\n5\t0\n6\t0\n7\t30\n";
+    assert_eq!(digit_table::respond(input), nine);
+    assert_eq!(digit_table::respond(&[b'\n'; 65_537]), b"refused\t1\t0\n");
+    assert_eq!(digit_table::respond(b"field\t31\nin\nend\n1\n+1\n"), b"refused\t3\t4\n");
+}
