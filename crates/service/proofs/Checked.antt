@@ -1,9 +1,9 @@
 -- Checking a table: the replies by its length, its cells and its rows, and what holds before each line of the walk over the rows.
-use mathlib.Core.Path.{_≡_, refl, sym, ap, ap₂, _∙_, subst}
+use mathlib.Core.Path.{_≡_, refl, sym, ap, ap₂, _∙_}
 use mathlib.Core.Bool.{Bool, true, false}
-use mathlib.Core.List.{List, [], _∷_, _++_}
-use mathlib.Core.Option.{Option, none, some, Option·some-injective}
-use Prim.Native.Nat.{ℕ, zero, suc, _+_, _-_, _*_, _^_, _≤_, _<_}
+use mathlib.Core.List.{List, [], _∷_}
+use mathlib.Core.Option.{Option, none, some}
+use Prim.Native.Nat.{ℕ, suc, _+_, _-_, _^_, _≤_, _<_}
 use native.Mathlib.Omega.{arith}
 use borrow.Author.Tests.{eq-eqb, ne-eqb, lt-ltb, le-ltb}
 use lib.Dec.{T, ltb, leb→le}
@@ -34,7 +34,7 @@ use Rattle.table.specs.declared.rows.Rows.{Rows}
 use Rattle.table.specs.declared.rows.Rows.the-variants.{AllHold, Fails}
 use Rattle.table.specs.LineRows.{RowsAsked}
 use Rattle.table.proofs.RowsFirst.{first-append}
-use Rattle.service.specs.Walk.{Counted, Stands, Placed, ListRead}
+use Rattle.service.specs.Walk.{Stands, Placed, ListRead}
 use Rattle.service.specs.Check.{cellsSeen, TableAsked, rowsReply}
 use Rattle.service.specs.declared.checking.Cells.{Cells}
 use Rattle.service.specs.declared.checking.Cells.the-variants.{AllBelow, Large}

@@ -7,3 +7,4 @@ pub mod Checked
 pub mod Worked
 pub mod Written
 pub mod Made
+pub mod Claims

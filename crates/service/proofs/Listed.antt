@@ -115,3 +115,15 @@ module _ (list : List ℕ) (x : Surveyed) (told : surveySeen x ≡ surveyOf (rea
   unfolding surveySeen PrimeFound
   survey-counted found p c is =
       counted-by list (reading list) p c refl (subst PrimeFound is found) (ap surveySeen (sym is) ∙ told)
+
+-- ---- p and the counts, by any reading of the list
+
+module _ {list : List ℕ} {p : ℕ} {counts : Counts} (a : Listed list p counts) (l : ListRead list) where
+  pub prime-by : p ≡ l .last .p
+  prime-by = sym (a .prime) ∙ ap (λ (s : Known). s .p) (same-last (a .listed) l)
+
+  pub cells-by : counts .cells ≡ l .last .cells
+  cells-by = sym (a .counts-are .cells-are) ∙ ap (λ (s : Known). s .cells) (same-last (a .listed) l)
+
+  pub inputs-by : counts .inputs ≡ l .last .inputs
+  inputs-by = sym (a .counts-are .inputs-are) ∙ ap (λ (s : Known). s .inputs) (same-last (a .listed) l)

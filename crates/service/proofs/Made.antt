@@ -1,9 +1,8 @@
 -- Making a table: the replies by its length, the inputs and the lines' statements, and the table that each leaves.
-use mathlib.Core.Path.{_≡_, refl, sym, ap, ap₂, _∙_, subst}
+use mathlib.Core.Path.{_≡_, refl, sym, ap, _∙_, subst}
 use mathlib.Core.List.{List}
 use mathlib.Core.Option.{none, some}
-use Prim.Native.Nat.{ℕ, _<_}
-use native.Mathlib.Omega.{arith}
+use Prim.Native.Nat.{ℕ}
 use borrow.Author.Tests.{eq-eqb, ne-eqb}
 use lib.IntN.{ℤ, pos}
 use lib.ListN.{length, take}
@@ -11,7 +10,7 @@ use Rattle.meaning.specs.Number.{inRange}
 use Rattle.meaning.specs.Line.{Line}
 use Rattle.meaning.specs.Known.{Known}
 use Rattle.meaning.specs.Refusal.{onSome, refused, onReading, reading}
-use Rattle.meaning.specs.Work.{Worked, false-at, true-table, work}
+use Rattle.meaning.specs.Work.{false-at, true-table, work}
 use Rattle.meaning.specs.Reply.{Reply, reply, firstFail, Making, making, filled, made, makeReply}
 use Rattle.meaning.specs.Claims.{Column}
 use Rattle.meaning.proofs.Lists.{all-pass}
@@ -19,9 +18,9 @@ use Rattle.service.specs.Walk.{ListRead}
 use Rattle.service.specs.Make.{inputsSeen, WorkAsked, WorkDone, WriteAsked}
 use Rattle.service.specs.declared.making.Inputs.{Inputs}
 use Rattle.service.specs.declared.making.Inputs.the-variants.{AllInRange, Outside}
-use Rattle.service.specs.declared.making.Working.{Working}
-use Rattle.service.specs.declared.making.Working.the-variants.{AllTrue, FalseAt}
-use Rattle.service.proofs.Listed.{same-lines, same-last}
+use Rattle.service.specs.declared.working.Working.{Working}
+use Rattle.service.specs.declared.working.Working.the-variants.{AllTrue, FalseAt}
+use Rattle.service.proofs.Listed.{same-lines}
 
 -- ---- the inputs
 

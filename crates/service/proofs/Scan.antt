@@ -1,15 +1,15 @@
 -- Looking for the first element that fails a test, from the first on: at element i, those before it have passed.
-use mathlib.Core.Path.{_≡_, refl, sym, ap, _∙_}
-use mathlib.Core.Bool.{Bool, true, false, cond}
-use mathlib.Core.List.{List, [], _∷_}
-use mathlib.Core.Option.{Option, none, some}
-use Prim.Native.Nat.{ℕ, suc, _+_, _≤_, _<_}
+use mathlib.Core.Path.{_≡_, refl, sym, _∙_}
+use mathlib.Core.Bool.{Bool, true, false}
+use mathlib.Core.List.{List}
+use mathlib.Core.Option.{none, some}
+use Prim.Native.Nat.{ℕ, _+_, _≤_, _<_}
 use native.Mathlib.Omega.{arith}
 use native.Mathlib.Numerals.{add-one}
 use lib.ListN.{length, getD, drop, drop-of-length-le}
 use lib.Seq.{drop-cons}
 use Rattle.meaning.specs.Reply.{firstFail}
-use Rattle.meaning.proofs.Lists.{FirstFails, all-pass, first-fails, first-fails-at}
+use Rattle.meaning.proofs.Lists.{all-pass, first-fails, first-fails-at}
 
 module _ {A : Type 0} (f : A → Bool) (d : A) (xs : List A) where
   -- what is left to be looked at, from element i on

@@ -1,8 +1,7 @@
 -- Showing a line: what holds before each line of the walk to it, and what the walk answers.
-use mathlib.Core.Path.{_≡_, refl, sym, ap, ap₂, _∙_, subst}
-use mathlib.Core.Bool.{true}
+use mathlib.Core.Path.{_≡_, refl, sym, ap, ap₂, _∙_}
 use mathlib.Core.List.{List, [], _∷_}
-use Prim.Native.Nat.{ℕ, zero, suc, _+_, _-_, _≤_, _<_}
+use Prim.Native.Nat.{ℕ, suc, _+_, _-_, _≤_}
 use native.Mathlib.Omega.{arith}
 use borrow.Author.Tests.{eq-eqb, ne-eqb}
 use lib.ListN.{length, take, drop}
@@ -12,10 +11,9 @@ use Rattle.meaning.specs.Known.{Known, fresh}
 use Rattle.meaning.specs.Meaning.{gadget, after}
 use Rattle.meaning.specs.Refusal.{refused, onReading, reading}
 use Rattle.meaning.specs.Reply.{stretch, shown}
-use Rattle.meaning.proofs.Kept.{Kept}
 use Rattle.meaning.proofs.Induction.{cells-grow}
 use Rattle.reader.specs.declared.state.Counts.{Counts}
-use Rattle.service.specs.Walk.{Counted, Stands, ListRead}
+use Rattle.service.specs.Walk.{Stands, ListRead}
 use Rattle.service.specs.Show.{IsStretch}
 use Rattle.service.specs.declared.showing.Stretch.{Stretch}
 use Rattle.service.proofs.Listed.{same-lines, same-last}

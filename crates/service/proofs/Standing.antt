@@ -1,22 +1,22 @@
 -- The laws of walking a list that was read once more: the first line, the line that is read at a place, the next, and the end.
 use mathlib.Core.Path.{_≡_, refl, sym, ap, _∙_, subst}
-use mathlib.Core.Bool.{Bool, true, false}
-use mathlib.Core.List.{List, [], _∷_, _++_, map}
+use mathlib.Core.Bool.{true, false}
+use mathlib.Core.List.{List, [], _∷_, map}
 use mathlib.Core.Option.{Option, none, some, Option·some-injective, Option·none-ne-some}
-use Prim.Native.Nat.{ℕ, zero, suc, _+_, _-_, _*_, _≤_, _<_}
+use Prim.Native.Nat.{ℕ, zero, suc, _+_, _-_, _≤_, _<_}
 use native.Mathlib.Omega.{arith}
 use native.Mathlib.Numerals.{add-one}
 use lib.Dec.{T, leb→le}
 use lib.IntN.{ℤ}
 use lib.ListN.{length, take, drop, length-append}
-use Rattle.meaning.specs.Text.{linesOf, isEnded}
+use Rattle.meaning.specs.Text.{isEnded}
 use Rattle.meaning.specs.Line.{Line, lineOf}
 use Rattle.meaning.specs.Line.{Word as Meant}
 use Rattle.meaning.specs.Known.{Known, fresh}
 use Rattle.meaning.specs.Meaning.{gadget, after}
 use Rattle.meaning.specs.Refusal.{valueLimit, cellLimit, isField, isPlaced, read, reading}
 use Rattle.meaning.proofs.Kept.{Kept, Keeps, keeps-all}
-use Rattle.meaning.proofs.Lines.{Sound, sound-fresh, sound-after}
+use Rattle.meaning.proofs.Lines.{sound-fresh, sound-after}
 use Rattle.meaning.proofs.Induction.{prime-kept, cells-grow}
 use Rattle.meaning.proofs.Reading.{reads-exactly, read-kept}
 use Rattle.text.specs.Word.{wordOf}

@@ -1,15 +1,15 @@
 -- Working a list line by line: the value that a line makes is taken in, and what holds before each line of the walk.
-use mathlib.Core.Path.{_≡_, refl, sym, ap, ap₂, _∙_, subst}
+use mathlib.Core.Path.{_≡_, refl, sym, ap, _∙_}
 use mathlib.Core.Bool.{Bool, true, false, cond}
 use mathlib.Core.List.{List, [], _∷_, _++_, append-nil, append-assoc}
 use mathlib.Core.Option.{Option, none, some, Option·some-injective, Option·none-ne-some}
-use Prim.Native.Nat.{ℕ, zero, suc, _+_, _-_, _≤_, _<_}
+use Prim.Native.Nat.{ℕ, suc, _+_, _-_, _≤_, _<_}
 use native.Mathlib.Omega.{arith}
 use native.Mathlib.Nat.{add-zero}
 use native.Mathlib.Numerals.{add-one}
 use lib.Dec.{T, leb→le}
 use lib.IntN.{ℤ, pos}
-use lib.ListN.{length, getD, take, drop, set, length-append, length-set}
+use lib.ListN.{length, getD, take, drop, length-append, length-set}
 use lib.Seq.{take-suc-set, getD-drop, drop-drop}
 use Rattle.algebra.proofs.Test.{≡-test}
 use Rattle.meaning.specs.Number.{inRange}
@@ -21,8 +21,7 @@ use Rattle.meaning.specs.Meaning.{gadget, after}
 use Rattle.meaning.specs.Refusal.{valueLimit}
 use Rattle.meaning.specs.Work.{false-at, true-table, withCells, workFrom, work}
 use Rattle.meaning.specs.Work.{Worked as Meant}
-use Rattle.meaning.specs.Claims.{Column}
-use Rattle.meaning.proofs.Kept.{Kept, Keeps, keeps-all}
+use Rattle.meaning.proofs.Kept.{Kept, keeps-all}
 use Rattle.meaning.proofs.Law.{Within, Law}
 use Rattle.meaning.proofs.Induction.{first-law}
 use Rattle.meaning.proofs.Working.{inputs-grow}
@@ -32,17 +31,16 @@ use Rattle.text.specs.Parsed.{LineRead}
 use Rattle.text.specs.declared.Word.{Word}
 use Rattle.text.specs.declared.Parsed.{Parsed}
 use Rattle.text.specs.declared.Parsed.the-variants.{Line as Spelt}
-use Rattle.reader.specs.Told.{lineWith}
 use Rattle.reader.specs.declared.state.Counts.{Counts}
 use Rattle.reader.proofs.Steps.{few}
 use Rattle.table.specs.Cells.{workedSeen}
 use Rattle.table.specs.LineValues.{ValuesAsked}
 use Rattle.table.specs.declared.value.Worked.{Worked}
 use Rattle.table.specs.declared.value.Worked.the-variants.{Value, NoValue, False}
-use Rattle.service.specs.Walk.{Counted, Stands, ListRead}
+use Rattle.service.specs.Walk.{Stands, ListRead}
 use Rattle.service.specs.Make.{withValue, isTrue, WorkAsked, WorkDone}
-use Rattle.service.specs.declared.making.Working.{Working}
-use Rattle.service.specs.declared.making.Working.the-variants.{AllTrue, FalseAt}
+use Rattle.service.specs.declared.working.Working.{Working}
+use Rattle.service.specs.declared.working.Working.the-variants.{AllTrue, FalseAt}
 use Rattle.service.proofs.Listed.{same-lines, same-last}
 use Rattle.service.proofs.Standing.{stands-first, nothing-left, known-last, line-kept}
 

@@ -1,8 +1,8 @@
 -- Writing the cells of a list line by line, for values that were worked before: what holds before each line of the walk.
-use mathlib.Core.Path.{_≡_, refl, sym, ap, ap₂, _∙_, subst}
-use mathlib.Core.Bool.{Bool, true, false, cond}
+use mathlib.Core.Path.{_≡_, refl, sym, ap, ap₂, _∙_}
+use mathlib.Core.Bool.{true, cond}
 use mathlib.Core.List.{List, [], _∷_, _++_, append-nil, append-assoc}
-use Prim.Native.Nat.{ℕ, zero, suc, _+_, _-_, _≤_, _<_}
+use Prim.Native.Nat.{ℕ, suc, _+_, _-_, _≤_, _<_}
 use native.Mathlib.Omega.{arith}
 use native.Mathlib.Nat.{add-zero}
 use native.Mathlib.Numerals.{add-one}
@@ -27,9 +27,8 @@ use Rattle.meaning.specs.Gadget.Root.{rootLine}
 use Rattle.meaning.specs.Meaning.{byWord, gadget, after}
 use Rattle.meaning.specs.Work.{Worked, false-at, true-table, withCells, workFrom, work}
 use Rattle.meaning.proofs.Kept.{Kept, keeps-all}
-use Rattle.meaning.proofs.Law.{Within, Law, within-length}
+use Rattle.meaning.proofs.Law.{Within, Law}
 use Rattle.meaning.proofs.Induction.{first-law, cells-grow, valuesIn, cellsIn, split-worked}
-use Rattle.meaning.proofs.Lines.{Sound, sound-after}
 use Rattle.meaning.proofs.Working.{inputs-grow}
 use Rattle.text.specs.Word.{wordOf}
 use Rattle.text.specs.Place.{Found}
@@ -41,8 +40,8 @@ use Rattle.reader.specs.Told.{lineWith}
 use Rattle.reader.specs.declared.state.Counts.{Counts}
 use Rattle.reader.proofs.Steps.{few}
 use Rattle.table.specs.LineValues.{CellsAsked}
-use Rattle.service.specs.Walk.{Counted, Stands, ListRead}
-use Rattle.service.specs.Make.{WorkAsked, WriteAsked}
+use Rattle.service.specs.Walk.{Stands}
+use Rattle.service.specs.Make.{WriteAsked}
 use Rattle.service.proofs.Listed.{same-lines, same-last}
 use Rattle.service.proofs.Standing.{stands-first, nothing-left, known-last, line-kept, prime-here, cells-inside}
 

@@ -19,13 +19,7 @@ unfoldable pub cellsSeen : Cells → Option ℕ
 cellsSeen AllBelow = none
 cellsSeen (Large i) = some i
 
--- a table of the list's length
-pub record LengthAsked (list : List ℕ) (p cells : ℕ) : Type 0 where
-  pub listed : ListRead list
-  pub prime : listed .last .p ≡ p
-  pub cells-are : listed .last .cells ≡ cells
-
--- and with all cells below p
+-- a table of the list's length with all cells below p
 pub record TableAsked (list table : List ℕ) (p : ℕ) : Type 0 where
   pub listed : ListRead list
   pub prime : listed .last .p ≡ p

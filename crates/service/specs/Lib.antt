@@ -3,3 +3,4 @@ pub mod Reply
 pub mod Show
 pub mod Check
 pub mod Make
+pub mod Claims

@@ -15,8 +15,8 @@ use Rattle.table.specs.declared.value.Worked.the-variants.{Value, NoValue, Fals
 use Rattle.service.specs.Walk.{ListRead}
 use Rattle.service.specs.declared.making.Inputs.{Inputs}
 use Rattle.service.specs.declared.making.Inputs.the-variants.{AllInRange, Outside}
-use Rattle.service.specs.declared.making.Working.{Working}
-use Rattle.service.specs.declared.making.Working.the-variants.{AllTrue, FalseAt}
+use Rattle.service.specs.declared.working.Working.{Working}
+use Rattle.service.specs.declared.working.Working.the-variants.{AllTrue, FalseAt}
 
 -- the place of the first input outside the signed range
 unfoldable pub inputsSeen : Inputs → Option ℕ

@@ -14,8 +14,8 @@ use text::line_of;
 ghost use mathlib.Core.Path.{_≡_};
 ghost use Rattle.meaning.specs.Reply.{isCell, firstFail, checked, checkReply};
 ghost use Rattle.service.specs.Reply.{replySeen};
-ghost use Rattle.service.specs.Walk.{ListRead};
-ghost use Rattle.service.specs.Check.{cellsSeen, LengthAsked, TableAsked, rowsReply};
+ghost use Rattle.service.specs.Walk.{ListRead, Listed};
+ghost use Rattle.service.specs.Check.{cellsSeen, TableAsked, rowsReply};
 
 // The place of the first cell of p or more.
 enum Cells {
@@ -33,16 +33,16 @@ pub fn check(list: &[u8], table: &[u32]) -> Reply
             number: number,
             place: place,
         },
-        Surveyed::Counted(p, counts) => check_table(list, table, p, counts.cells),
+        Surveyed::Counted(p, counts) => check_table(list, table, p, counts),
     }
 }
 
-// A table for a list that is read, which has so many cells.
-fn check_table(list: &[u8], table: &[u32], p: u32, cells: usize) -> Reply
-    requires { ⌜ LengthAsked (now list) p cells ⌝ }
+// A table for a list that is read, which has these counts.
+fn check_table(list: &[u8], table: &[u32], p: u32, counts: Counts) -> Reply
+    requires { ⌜ Listed (now list) p counts ⌝ }
     ensures { λ r. ⌜ ((l : ListRead (now (list .entry))) → replySeen r ≡ checked (l .last) (l .lines) (now (table .entry))) ⌝ }
 {
-    if table.len() != cells {
+    if table.len() != counts.cells {
         return Reply {
             number: 13,
             place: 0,

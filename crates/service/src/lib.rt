@@ -4,6 +4,8 @@ pub mod making;
 pub mod reply;
 pub mod showing;
 mod walk;
+mod working;
+mod writing;
 
 pub use checking::check;
 pub use making::make;

@@ -1,40 +1,28 @@
 // Making the table of a list for a column of inputs. The lines are worked first, and only when every statement is found true is the table
-// written: each line's cells through the part of the lent table that starts at its first cell.
+// written.
 use super::reply::Reply;
-use super::walk::counts_after;
+use super::working::Working;
+use super::working::work_lines;
+use super::writing::write_lines;
 use number::Whole;
 use number::whole::in_range;
 use reader::read::Surveyed;
 use reader::read::survey;
 use reader::state::Counts;
-use table::Worked;
-use table::line_cells::line_cells;
-use table::line_works::line_works;
-use text::Parsed;
-use text::line_end;
-use text::line_of;
 ghost use mathlib.Core.Path.{_≡_};
-ghost use Prim.Native.Nat.{_≤_, _<_};
-ghost use lib.IntN.{ℤ, pos};
-ghost use lib.ListN.{length, getD};
+ghost use Prim.Native.Nat.{_<_};
+ghost use lib.ListN.{length};
 ghost use Rattle.meaning.specs.Number.{inRange};
-ghost use Rattle.meaning.specs.Reply.{firstFail, making, filled, made, makeReply};
 ghost use Rattle.meaning.specs.Work.{work};
-ghost use Rattle.table.specs.declared.value.Worked.the-variants.{Value};
+ghost use Rattle.meaning.specs.Reply.{firstFail, making, filled, made, makeReply};
 ghost use Rattle.service.specs.Reply.{replySeen};
 ghost use Rattle.service.specs.Walk.{ListRead, Listed};
-ghost use Rattle.service.specs.Make.{inputsSeen, withValue, isTrue, WorkAsked, WorkDone, WriteAsked};
+ghost use Rattle.service.specs.Make.{inputsSeen, WorkAsked};
 
 // The place of the first input outside -M..M.
 enum Inputs {
     AllInRange,
     Outside(usize),
-}
-
-// The first line whose statement is false.
-enum Working {
-    AllTrue,
-    FalseAt(usize),
 }
 
 // The public call: for every list, column and table the reply of document 01, and the table that it leaves.
@@ -112,85 +100,5 @@ fn make_true(list: &[u8], p: u32, inputs: &[i64], table: &mut [u32]) -> Reply
     Reply {
         number: 0,
         place: 0,
-    }
-}
-
-// The input at a place, and 0 where there is none.
-fn input_at(inputs: &[i64], at: usize) -> i64
-    ensures { λ r. ⌜ r ≡ getD (now (inputs .entry)) at (pos 0) ⌝ }
-{
-    if at < inputs.len() { inputs[at] } else { 0 }
-}
-
-// Takes in the value that a line makes, where it makes one, and says whether the line's statement is true.
-fn take_value(values: &mut [i64], at: usize, worked: Worked) -> bool
-    requires { ⌜ ((z : ℤ) → worked ≡ Value z → at < length (now values)) ⌝ }
-    ensures { λ r. ⌜ (r ≡ isTrue worked) × (now (values .exit) ≡ withValue (now (values .entry)) at worked) ⌝ }
-{
-    match worked {
-        Worked::Value(z) => {
-            values[at] = z;
-            true
-        }
-        Worked::NoValue => true,
-        Worked::False => false,
-    }
-}
-
-// Every line is worked on the values of the lines before it, until a statement is false.
-fn work_lines(list: &[u8], inputs: &[i64], values: &mut [i64]) -> Working
-    requires { ⌜ WorkAsked (now list) (now inputs) × (length (now values) ≡ 256) ⌝ }
-    ensures told { λ r. ⌜ ((l : ListRead (now (list .entry))) → WorkDone (l .lines) (l .last) (now (inputs .entry)) (now (values .exit)) r) ⌝ }
-    ensures long { λ _. ⌜ length (now (values .exit)) ≡ 256 ⌝ }
-{
-    let mut numbers: [i64; 33] = [0; 33];
-    let mut counts = Counts {
-        values: 0,
-        inputs: 0,
-        cells: 0,
-        rows: 0,
-    };
-    let mut at: usize = 0;
-    let mut n: usize = 0;
-    while at < list.len() {
-        let end = line_end(list, at);
-        let Parsed::Line(word, count) = line_of(&list[at..end], &mut numbers) else {
-            return Working::FalseAt(n);
-        };
-        let next = input_at(inputs, counts.inputs);
-        let worked = line_works(word, &numbers, count, values, next);
-        if !take_value(values, counts.values, worked) {
-            return Working::FalseAt(n);
-        }
-        counts = counts_after(counts, word, &numbers);
-        at = end + 1;
-        n += 1;
-    }
-    Working::AllTrue
-}
-
-// The cells of every line, each line's through the part of the table that starts at its first cell.
-fn write_lines(list: &[u8], p: u32, values: &[i64], table: &mut [u32])
-    requires { ⌜ WriteAsked (now list) p (now values) (now table) ⌝ }
-    ensures { λ _. ⌜ ((a : WriteAsked (now (list .entry)) p (now (values .entry)) (now (table .entry))) → now (table .exit) ≡ a .cells) ⌝ }
-{
-    let mut numbers: [i64; 33] = [0; 33];
-    let mut counts = Counts {
-        values: 0,
-        inputs: 0,
-        cells: 0,
-        rows: 0,
-    };
-    let mut at: usize = 0;
-    while at < list.len() {
-        let end = line_end(list, at);
-        let Parsed::Line(word, count) = line_of(&list[at..end], &mut numbers) else {
-            return;
-        };
-        let first = counts.cells;
-        let known = counts.values;
-        line_cells(word, &numbers, count, p, values, known, &mut table[first..]);
-        counts = counts_after(counts, word, &numbers);
-        at = end + 1;
     }
 }

@@ -39,7 +39,7 @@ unfoldable pub lineAfter : Word → List ℤ → List (List ℕ) → Option Mean
 lineAfter w ns fields = assemble (some (wordOf w)) (afterNumbers ns (numbersOf fields))
 
 -- one number more: it goes from the first that is left to the last that was read
-after-next : (ns : List ℤ) (n : ℤ) (rest : Option (List ℤ)) → afterNumbers ns (consNumber (some n) rest) ≡ afterNumbers (ns ++ n ∷ []) rest
+pub after-next : (ns : List ℤ) (n : ℤ) (rest : Option (List ℤ)) → afterNumbers ns (consNumber (some n) rest) ≡ afterNumbers (ns ++ n ∷ []) rest
 unfolding afterNumbers consNumber
 after-next ns n none = refl
 after-next ns n (some ms) = ap some (sym (append-assoc ns (n ∷ []) ms))
@@ -66,7 +66,7 @@ after-full w ns (some n) (some ms) h = rw (count-over w (length (ns ++ n ∷ ms)
 
 -- ---- the word: the line's first field
 
-before-all : (numbers : Option (List ℤ)) → numbers ≡ afterNumbers [] numbers
+pub before-all : (numbers : Option (List ℤ)) → numbers ≡ afterNumbers [] numbers
 unfolding afterNumbers
 before-all none = refl
 before-all (some ns) = refl

@@ -42,7 +42,7 @@ enum Size {
 }
 
 // Whether two byte strings are equal.
-fn is_same(left: &[u8], right: &[u8]) -> bool
+pub fn is_same(left: &[u8], right: &[u8]) -> bool
     ensures { λ r. ⌜ r ≡ sameBytes (now (left .entry)) (now (right .entry)) ⌝ }
 {
     if left.len() != right.len() {

@@ -27,8 +27,7 @@ enum-known-found-2 c = search needs
 -- src/checking.rt:36:41
 check-table-requires : tie.Need-check-table-requires
 check-table-requires c κs =
-    let l = survey-counted (now (c .before .before .before .before .before .before .args .list)) _ (c .before .before .before .survey .ensures .0) (c .before .before .before .survey .ensures .1) _ _ (c .before .found2 .given .1) in
-    record { listed = l .listed; prime = l .prime; cells-are = l .counts-are .cells-are }
+    survey-counted (now (c .before .before .before .before .before .before .args .list)) _ (c .before .before .before .survey .ensures .0) (c .before .before .before .survey .ensures .1) _ _ (c .before .found2 .given .1)
 
 -- src/checking.rt:27:1
 returns : tie.Need-returns

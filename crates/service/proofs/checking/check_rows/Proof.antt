@@ -1,7 +1,6 @@
 -- `service::checking::check_rows`: the walk over the rows of each line, with what holds before each line as the invariant.
 use mathlib.Core.Path.{refl, _∙_}
 use Prim.Native.Nat.{_+_, _-_, _^_, _≤_, _<_}
-use native.Mathlib.Omega.{arith}
 use lib.ListN.{length}
 use denote.Ref.{now}
 use borrow.Author.Needs.{needs}

@@ -1,14 +1,8 @@
 -- `service::checking::check_table`: the length, then the cells, then the rows.
-use mathlib.Core.Path.{_≡_, sym, ap, _∙_}
-use mathlib.Core.List.{List}
-use Prim.Native.Nat.{ℕ}
-use lib.ListN.{length}
+use mathlib.Core.Path.{sym, _∙_}
 use denote.Ref.{now}
-use Rattle.meaning.specs.Known.{Known}
 use Rattle.service.specs.Reply.{replySeen}
-use Rattle.service.specs.Walk.{ListRead}
-use Rattle.service.specs.Check.{LengthAsked}
-use Rattle.service.proofs.Listed.{same-last}
+use Rattle.service.proofs.Listed.{prime-by, cells-by}
 use Rattle.service.proofs.Checked.{large-found, none-large, all-below, checked-wrong-length, checked-cell, checked-rows}
 use borrow.Author.Needs.{needs}
 use Rattle.service.proofs.checking.check_table.Statement.{statement}
@@ -18,19 +12,11 @@ use Rattle.service.proofs.checking.check_table.Lts as lts
 use Rattle.service.proofs.checking.check_rows.Reads as check-rows-reads
 use Rattle.service.proofs.checking.first_large.Reads as first-large-reads
 
--- p and the count of cells, by any reading of the list
-module _ {list : List ℕ} {p cells : ℕ} (a : LengthAsked list p cells) (l : ListRead list) where
-  prime-by : p ≡ l .last .p
-  prime-by = sym (a .prime) ∙ ap (λ (s : Known). s .p) (same-last (a .listed) l)
-
-  cells-by : cells ≡ l .last .cells
-  cells-by = sym (a .cells-are) ∙ ap (λ (s : Known). s .cells) (same-last (a .listed) l)
-
 -- src/checking.rt:46:9
 returns : tie.Need-returns
 unfolding replySeen
 returns c l =
-    let S = c .before .before .before in
+    let S = c .before .before .before .before in
     checked-wrong-length (l .last) (l .lines) (now (S .args .table)) (λ e. c .if1 .taken (e ∙ sym (cells-by (S .pre) l)))
 
 -- src/checking.rt:51:9
@@ -48,11 +34,11 @@ enum-told c = search needs
 -- src/checking.rt:57:28
 check-rows-requires : tie.Need-check-rows-requires
 check-rows-requires c κs =
-    let S = c .before .before .before .before .before .before in
+    let S = c .before .before .before .before .before .before .before in
     record {
       listed = S .pre .listed;
       prime = S .pre .prime;
-      long = S .pre .cells-are ∙ sym (c .before .before .before .if1 .left);
+      long = S .pre .counts-are .cells-are ∙ sym (c .before .before .before .if1 .left);
       below = all-below (S .args .p) (now (S .args .table)) (none-large (now (S .args .table)) (S .args .p) _ (c .before .before .first-large .ensures) (c .enum-told .given .1));
     }
 
@@ -60,14 +46,14 @@ check-rows-requires c κs =
 returns-2 : tie.Need-returns-2
 unfolding replySeen
 returns-2 c l =
-    let S = c .before .before .before .before .before .before .before in
+    let S = c .before .before .before .before .before .before .before .before in
     let found = large-found (now (S .args .table)) (S .args .p) _ (c .before .before .before .first-large .ensures) _ (c .before .found .given .1) in
     checked-cell (l .last) (l .lines) (now (S .args .table)) (c .before .before .before .before .if1 .left ∙ cells-by (S .pre) l) _ (rw (← prime-by (S .pre) l) found)
 
 -- src/checking.rt:41:1
 returns-3 : tie.Need-returns-3
 returns-3 c l =
-    let S = c .before .before .before .before .before .before .before in
+    let S = c .before .before .before .before .before .before .before .before in
     let none-found = none-large (now (S .args .table)) (S .args .p) _ (c .before .before .before .first-large .ensures) (c .before .enum-told .given .1) in
     c .check-rows .ensures l ∙ checked-rows (l .last) (l .lines) (now (S .args .table)) (c .before .before .before .before .if1 .left ∙ cells-by (S .pre) l) (rw (← prime-by (S .pre) l) none-found)
 

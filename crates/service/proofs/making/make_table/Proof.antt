@@ -1,14 +1,8 @@
 -- `service::making::make_table`: the length, the count of inputs, each input, and then the lines.
-use mathlib.Core.Path.{_≡_, sym, ap, _∙_}
-use mathlib.Core.List.{List}
-use Prim.Native.Nat.{ℕ}
-use native.Mathlib.Omega.{arith}
+use mathlib.Core.Path.{sym, _∙_}
 use denote.Ref.{now}
-use Rattle.meaning.specs.Known.{Known}
-use Rattle.reader.specs.declared.state.Counts.{Counts}
 use Rattle.service.specs.Reply.{replySeen}
-use Rattle.service.specs.Walk.{ListRead, Listed}
-use Rattle.service.proofs.Listed.{same-last}
+use Rattle.service.proofs.Listed.{prime-by, cells-by, inputs-by}
 use Rattle.service.proofs.Made.{outside-found, none-outside, column-of, made-wrong-length, made-wrong-count, made-outside, made-worked}
 use borrow.Author.Needs.{needs}
 use Rattle.service.proofs.making.make_table.Statement.{statement}
@@ -17,17 +11,6 @@ use Rattle.service.proofs.making.make_table.Reads as reads
 use Rattle.service.proofs.making.make_table.Lts as lts
 use Rattle.service.proofs.making.first_outside.Reads as first-outside-reads
 use Rattle.service.proofs.making.make_true.Reads as make-true-reads
-
--- p and the counts, by any reading of the list
-module _ {list : List ℕ} {p : ℕ} {counts : Counts} (a : Listed list p counts) (l : ListRead list) where
-  prime-by : p ≡ l .last .p
-  prime-by = sym (a .prime) ∙ ap (λ (s : Known). s .p) (same-last (a .listed) l)
-
-  cells-by : counts .cells ≡ l .last .cells
-  cells-by = sym (a .counts-are .cells-are) ∙ ap (λ (s : Known). s .cells) (same-last (a .listed) l)
-
-  inputs-by : counts .inputs ≡ l .last .inputs
-  inputs-by = sym (a .counts-are .inputs-are) ∙ ap (λ (s : Known). s .inputs) (same-last (a .listed) l)
 
 -- src/making.rt:62:9
 returns : tie.Need-returns

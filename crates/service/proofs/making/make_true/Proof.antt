@@ -1,7 +1,5 @@
 -- `service::making::make_true`: a false statement leaves the table as it was; where there is none, every cell is written.
-use mathlib.Core.Path.{_≡_, ap, _∙_}
-use mathlib.Core.List.{List}
-use Prim.Native.Nat.{ℕ}
+use mathlib.Core.Path.{ap, _∙_}
 use denote.Ref.{now}
 use Rattle.meaning.specs.Reply.{reply, making}
 use Rattle.service.specs.Reply.{replySeen}
@@ -11,8 +9,8 @@ use Rattle.service.proofs.making.make_true.Statement.{statement}
 use Rattle.service.proofs.making.make_true.Tie as tie
 use Rattle.service.proofs.making.make_true.Reads as reads
 use Rattle.service.proofs.making.make_true.Lts as lts
-use Rattle.service.proofs.making.work_lines.Reads as work-lines-reads
-use Rattle.service.proofs.making.write_lines.Reads as write-lines-reads
+use Rattle.service.proofs.working.work_lines.Reads as work-lines-reads
+use Rattle.service.proofs.writing.write_lines.Reads as write-lines-reads
 
 -- src/making.rt:104:43
 slice-aggregate-work-lines : tie.Need-slice-aggregate-work-lines

@@ -1,5 +1,5 @@
 -- `service::showing::show`: the part of the table that `stretch_of` names, where the list is read and the length is right.
-use mathlib.Core.Path.{_≡_, sym, _∙_}
+use mathlib.Core.Path.{_∙_}
 use Prim.Native.Nat.{_≤_}
 use native.Mathlib.Omega.{arith}
 use lib.ListN.{length}

@@ -6,7 +6,7 @@ use denote.Ref.{now}
 use borrow.Author.Needs.{needs}
 use Rattle.text.proofs.Answers.{line-counted}
 use Rattle.service.proofs.Listed.{read-ended}
-use Rattle.service.proofs.Standing.{line-there, rest, left-is, keeps, stands-next}
+use Rattle.service.proofs.Standing.{line-there, left-is, keeps, stands-next}
 use Rattle.service.proofs.Shown.{Showing, showing-first, showing-end, showing-line, showing-next}
 use Rattle.service.proofs.showing.stretch_of.Statement.{statement}
 use Rattle.service.proofs.showing.stretch_of.Tie as tie

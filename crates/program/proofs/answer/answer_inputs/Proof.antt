@@ -1,0 +1,133 @@
+-- Each way out is one law of `Responding`.
+use native.Mathlib.Omega.{arith}
+use Rattle.program.proofs.Answering.{answered-as}
+use Rattle.program.proofs.Limits.{list-most}
+use Rattle.program.proofs.Responding.{inputs-no-number, inputs-numbers, place-fits, no-number, too-many, made-answer}
+use borrow.Author.Needs.{needs}
+use Rattle.program.proofs.answer.answer_inputs.Statement.{statement}
+use Rattle.program.proofs.answer.answer_inputs.Tie as tie
+
+add-read-inputs : tie.Need-add-read-inputs
+add-read-inputs c = search needs
+
+slice-aggregate-read-inputs : tie.Need-slice-aggregate-read-inputs
+slice-aggregate-read-inputs c = search needs
+
+read-inputs-requires : tie.Need-read-inputs-requires
+read-inputs-requires c κs = search needs
+
+enum-known-found : tie.Need-enum-known-found
+enum-known-found c = search needs
+
+add-answer-refusal : tie.Need-add-answer-refusal
+add-answer-refusal c =
+    let at-found = c .before .before in
+    let at-read = at-found .before .before .before in
+    let s = at-read .before .before .before .before in
+    let fails = inputs-no-number _ _ (at-read .read-inputs .ensures) (at-found .found .given .1) in
+    omega (arith, place-fits (s .pre .asked) (s .pre .listed) _ fails)
+
+add-answer-refusal-2 : tie.Need-add-answer-refusal-2
+add-answer-refusal-2 c =
+    let at-found = c .before .before in
+    let at-read = at-found .before .before .before in
+    let s = at-read .before .before .before .before in
+    let fails = inputs-no-number _ _ (at-read .read-inputs .ensures) (at-found .found .given .1) in
+    omega (arith, place-fits (s .pre .asked) (s .pre .listed) _ fails)
+
+answer-refusal-requires : tie.Need-answer-refusal-requires
+answer-refusal-requires c κs = search needs
+
+enum-known-found-2 : tie.Need-enum-known-found-2
+enum-known-found-2 c = search needs
+
+answer-refusal-requires-2 : tie.Need-answer-refusal-requires-2
+answer-refusal-requires-2 c κs = search needs
+
+same-length : tie.Need-same-length
+same-length c = search needs
+
+returns : tie.Need-returns
+returns c =
+    let at-answer = c .before .before in
+    let at-if1 = at-answer .before .before in
+    let at-found = at-if1 .before .before in
+    let at-read = at-found .before .before .before in
+    let s = at-read .before .before .before .before in
+    let numbers = inputs-numbers _ _ (at-read .read-inputs .ensures) (at-found .found2 .given .1) in
+    answered-as (too-many (s .pre .asked) (s .pre .listed) numbers (at-if1 .if1 .taken)) (at-answer .answer-refusal2 .ensures)
+
+sub-answer-made : tie.Need-sub-answer-made
+sub-answer-made c = search needs
+
+part-answer-made-start : tie.Need-part-answer-made-start
+part-answer-made-start c = search needs
+
+part-answer-made-end : tie.Need-part-answer-made-end
+part-answer-made-end c = search needs
+
+sub-answer-made-2 : tie.Need-sub-answer-made-2
+sub-answer-made-2 c = search needs
+
+part-answer-made-start-2 : tie.Need-part-answer-made-start-2
+part-answer-made-start-2 c = search needs
+
+part-answer-made-end-2 : tie.Need-part-answer-made-end-2
+part-answer-made-end-2 c = search needs
+
+answer-made-requires : tie.Need-answer-made-requires
+answer-made-requires c κs =
+    let s = c .before .before .before .before .before .before .before .before .before .before .before .before .before in
+    omega (arith, list-most (s .pre .listed) .cells-most, s .pre .cells-are)
+
+same-length-2 : tie.Need-same-length-2
+same-length-2 c = search needs
+
+returns-2 : tie.Need-returns-2
+returns-2 c =
+    let at-answer = c .before .before in
+    let at-found = at-answer .before .before .before in
+    let at-read = at-found .before .before .before in
+    let s = at-read .before .before .before .before in
+    let fails = inputs-no-number _ _ (at-read .read-inputs .ensures) (at-found .found .given .1) in
+    answered-as (no-number (s .pre .asked) (s .pre .listed) _ fails) (at-answer .answer-refusal .ensures)
+
+same-length-3 : tie.Need-same-length-3
+same-length-3 c = search needs
+
+returns-3 : tie.Need-returns-3
+returns-3 c =
+    let at-answer = c .before .before in
+    let at-if1 = at-answer .before .before .before .before .before in
+    let at-found = at-if1 .before .before in
+    let at-read = at-found .before .before .before in
+    let s = at-read .before .before .before .before in
+    let numbers = inputs-numbers _ _ (at-read .read-inputs .ensures) (at-found .found2 .given .1) in
+    answered-as (made-answer (s .pre .asked) (s .pre .listed) numbers (s .args .cells) (at-if1 .if1 .left) (s .pre .cells-are)) (at-answer .answer-made .ensures)
+
+pub answer-inputs-spec : {M : Type 1} → statement M
+answer-inputs-spec =
+    tie.close
+    (tie.spec
+    add-read-inputs
+    slice-aggregate-read-inputs
+    read-inputs-requires
+    enum-known-found
+    add-answer-refusal
+    add-answer-refusal-2
+    answer-refusal-requires
+    enum-known-found-2
+    answer-refusal-requires-2
+    same-length
+    returns
+    sub-answer-made
+    part-answer-made-start
+    part-answer-made-end
+    sub-answer-made-2
+    part-answer-made-start-2
+    part-answer-made-end-2
+    answer-made-requires
+    same-length-2
+    returns-2
+    same-length-3
+    returns-3)

@@ -1,0 +1,130 @@
+-- Before each line, `Reading` holds: each of the lines before it is a number, and the first of these are stored.
+use mathlib.Core.Path.{_≡_}
+use Prim.Native.Nat.{_-_}
+use mir.Syntax.{w64}
+use mir.Val.{toZ, ofZ}
+use native.Mathlib.Omega.{arith}
+use lib.ListN.{length}
+use Rattle.program.specs.Input.{InputsRead}
+use Rattle.program.proofs.Inputs.{Reading, reading-start, reading-turn, reading-stops, reading-end}
+use borrow.Author.Needs.{needs}
+use Rattle.program.proofs.input.read_inputs.Statement.{statement}
+use Rattle.program.proofs.input.read_inputs.Tie as tie
+
+abbrev Inv-loop : tie.InvT-loop
+Inv-loop input start inputs₀ at₀ count₀ inputs at count = Reading input start inputs at count
+
+abbrev μ-loop : tie.MeasureT-loop
+μ-loop input start inputs₀ at₀ count₀ inputs at count = length input - at
+
+loop-holds : tie.Need-loop-holds Inv-loop μ-loop
+loop-holds c = reading-start _ _ _ (c .before .pre .1) (c .before .pre .2)
+
+line-end-requires : tie.Need-line-end-requires Inv-loop μ-loop
+line-end-requires c κs = search needs
+
+sub-number-of : tie.Need-sub-number-of Inv-loop μ-loop
+sub-number-of c = search needs
+
+part-number-of-start : tie.Need-part-number-of-start Inv-loop μ-loop
+part-number-of-start c = search needs
+
+part-number-of-end : tie.Need-part-number-of-end Inv-loop μ-loop
+part-number-of-end c = search needs
+
+number-of-requires : tie.Need-number-of-requires Inv-loop μ-loop
+number-of-requires c κs = search needs
+
+enum-known-n : tie.Need-enum-known-n Inv-loop μ-loop
+enum-known-n c = search needs
+
+enum-told : tie.Need-enum-told Inv-loop μ-loop
+enum-told c = search needs
+
+same-length : tie.Need-same-length Inv-loop μ-loop
+same-length c = search needs
+
+returns : tie.Need-returns Inv-loop μ-loop
+unfolding InputsRead
+returns c =
+    let at-number = c .before .before in
+    let at-end = at-number .before .before in
+    let at-test = at-end .before in
+    let at-loop = at-test .before in
+    let s = at-loop .before .before in
+    reading-stops (at-loop .loop .inv) (s .pre .0) (at-test .loop-test .taken) (at-end .line-end .ensures) (at-number .number-of .ensures) (c .enum-told .given .1)
+
+store-requires : tie.Need-store-requires Inv-loop μ-loop
+store-requires c κs = search needs
+
+add-at : tie.Need-add-at Inv-loop μ-loop
+add-at c =
+    let at-number = c .before .before .before .before .before .before in
+    let at-end = at-number .before .before in
+    let at-test = at-end .before in
+    let at-loop = at-test .before in
+    let s = at-loop .before .before in
+    omega (arith, at-end .line-end .ensures .high)
+
+add-count : tie.Need-add-count Inv-loop μ-loop
+add-count c =
+    let at-number = c .before .before .before .before .before .before in
+    let at-end = at-number .before .before in
+    let at-test = at-end .before in
+    let at-loop = at-test .before in
+    let s = at-loop .before .before in
+    omega (arith, at-loop .loop .inv .few)
+
+loop-less : tie.Need-loop-less Inv-loop μ-loop
+loop-less c =
+    let at-number = c .before .before .before .before .before .before in
+    let at-end = at-number .before .before in
+    let at-test = at-end .before in
+    let at-loop = at-test .before in
+    let s = at-loop .before .before in
+    omega (arith, at-end .line-end .ensures .low)
+
+-- a number that was read is what its bits say
+kept : (c : tie.After-known-told Inv-loop μ-loop) → toZ w64 (ofZ w64 (c .before .n .given .0 .0)) ≡ c .before .n .given .0 .0
+kept c = search needs
+
+loop-again : tie.Need-loop-again Inv-loop μ-loop
+loop-again c =
+    let at-number = c .before .before .before .before .before .before in
+    let at-end = at-number .before .before in
+    let at-test = at-end .before in
+    let at-loop = at-test .before in
+    let s = at-loop .before .before in
+    rw (c .before .store .ensures, kept (c .before .before .before)) (reading-turn (at-loop .loop .inv) (s .pre .0) (at-test .loop-test .taken) (at-end .line-end .ensures) (at-number .number-of .ensures) (c .before .before .before .before .n .given .1))
+
+same-length-2 : tie.Need-same-length-2 Inv-loop μ-loop
+same-length-2 c = search needs
+
+returns-2 : tie.Need-returns-2 Inv-loop μ-loop
+unfolding InputsRead
+returns-2 c =
+    reading-end (c .before .loop .inv) (c .loop-test .left)
+
+pub read-inputs-spec : {M : Type 1} → statement M
+read-inputs-spec =
+    tie.close
+    (tie.spec
+    Inv-loop
+    μ-loop
+    loop-holds
+    line-end-requires
+    sub-number-of
+    part-number-of-start
+    part-number-of-end
+    number-of-requires
+    enum-known-n
+    enum-told
+    same-length
+    returns
+    store-requires
+    add-at
+    add-count
+    loop-less
+    loop-again
+    same-length-2
+    returns-2)

@@ -1,0 +1,40 @@
+-- How the input's parts, which the code finds as places and counts, are those of the definitions.
+use mathlib.Core.Path.{_≡_}
+use mathlib.Core.List.{List}
+use mathlib.Core.Option.{none, some}
+use Prim.Native.Nat.{ℕ, _+_, _≤_}
+use lib.IntN.{ℤ}
+use lib.ListN.{length, take}
+use Rattle.meaning.specs.Text.{linesOf, number}
+use Rattle.meaning.specs.Line.{numbersOf}
+use Rattle.meaning.specs.Reply.{firstFail}
+use Rattle.meaning.specs.Program.{Parts, partsOf, joined, isSome, orNone}
+use Rattle.text.specs.Place.{linesFrom}
+use Rattle.program.specs.declared.input.Ending.{Ending}
+use Rattle.program.specs.declared.input.Ending.the-variants.{At, Missing}
+use Rattle.program.specs.declared.input.Inputs.{Inputs}
+use Rattle.program.specs.declared.input.Inputs.the-variants.{Numbers, NoNumber}
+
+-- the first line `end` starts at `at`, after so many lines
+pub record EndsAt (input : List ℕ) (at lines : ℕ) : Type 0 where
+  pub parts : Parts
+  pub are : partsOf (linesOf input) ≡ some parts
+  pub inside : at + 4 ≤ length input
+  pub listed : take at input ≡ joined (parts .list)
+  pub counted : lines ≡ length (parts .list)
+  pub left : linesFrom input (at + 4) ≡ parts .inputs
+
+unfoldable pub EndFound : List ℕ → Ending → Type 0
+EndFound input (At at lines) = EndsAt input at lines
+EndFound input Missing = partsOf (linesOf input) ≡ none
+
+-- all lines are numbers, so many; the first of them are stored, as many as have room
+pub record NumbersRead (lines : List (List ℕ)) (stored : List ℤ) (count : ℕ) : Type 0 where
+  pub all : firstFail (λ l. isSome (number l)) 0 lines ≡ none
+  pub counted : count ≡ length (orNone (numbersOf lines))
+  pub room : length stored ≡ 256
+  pub stands : take 256 (orNone (numbersOf lines)) ≡ take count stored
+
+unfoldable pub InputsRead : List (List ℕ) → List ℤ → Inputs → Type 0
+InputsRead lines stored (Numbers count) = NumbersRead lines stored count
+InputsRead lines stored (NoNumber i) = firstFail (λ l. isSome (number l)) 0 lines ≡ some i

@@ -1,0 +1,29 @@
+-- `service::working::input_at`: an input, or what stands for one that is not there.
+use mathlib.Core.Path.{sym}
+use lib.IntN.{pos}
+use denote.Ref.{now}
+use lib.ListN.{List·getD-eq-default}
+use borrow.Author.Needs.{needs}
+use Rattle.service.proofs.working.input_at.Statement.{statement}
+use Rattle.service.proofs.working.input_at.Tie as tie
+use Rattle.service.proofs.working.input_at.Reads as reads
+use Rattle.service.proofs.working.input_at.Lts as lts
+
+-- src/making.rt:122:28
+mul-result : tie.Need-mul-result
+mul-result c = search needs
+
+-- src/making.rt:122:28
+shared-slice-copy-out-result : tie.Need-shared-slice-copy-out-result
+shared-slice-copy-out-result c = search needs
+
+-- src/making.rt:119:1
+returns : tie.Need-returns
+returns c = search needs
+
+-- src/making.rt:119:1
+returns-2 : tie.Need-returns-2
+returns-2 c = sym (List·getD-eq-default (now (c .before .args .inputs)) (pos 0) (c .if1 .left))
+
+pub input-at-spec : {M : Type 1} → statement M
+input-at-spec = tie.close (tie.spec mul-result shared-slice-copy-out-result returns returns-2)

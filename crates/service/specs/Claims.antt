@@ -1,0 +1,79 @@
+-- What is claimed of the code's own replies, as types: for every list, table and column, whoever wrote the table. Each speaks of a reply
+-- that keeps the promise of `check` or `make` (src/checking.rt, src/making.rt), and of the table that `make` leaves.
+-- The proofs are terms of these types, in proofs/Claims.antt. Document 01 and crates/meaning/specs say what the words mean.
+use Prim.Native.Nat.{ℕ, _<_}
+use mathlib.Core.Path.{_≡_}
+use mathlib.Core.Logic.{_↔_, _⊎_}
+use mathlib.Core.List.{List}
+use lib.ListN.{length}
+use lib.IntN.{ℤ}
+use Rattle.meaning.specs.Line.{Line}
+use Rattle.meaning.specs.Known.{Known}
+use Rattle.meaning.specs.Refusal.{read, reading}
+use Rattle.meaning.specs.Work.{false-at, true-table, work}
+use Rattle.meaning.specs.Reply.{reply, checkReply, makeReply}
+use Rattle.meaning.specs.Claims.{WellFormed, Holds, Column, inputsOf, valuesOf}
+use Rattle.service.specs.Reply.{replySeen}
+use Rattle.service.specs.declared.reply.Reply.{Reply}
+
+-- what `check` promises of its reply
+abbrev pub Checks : (list table : List ℕ) → Reply → Type 0
+Checks list table r = replySeen r ≡ checkReply list table
+
+-- what `make` promises of its reply and of the table afterwards
+pub record Makes (list : List ℕ) (inputs : List ℤ) (table : List ℕ) (r : Reply) (after : List ℕ) : Type 0 where
+  pub replied : replySeen r ≡ makeReply list inputs table .answer
+  pub left : after ≡ makeReply list inputs table .table
+
+-- "0, 0"
+abbrev pub Accepts : Reply → Type 0
+Accepts r = replySeen r ≡ reply 0 0
+
+-- ---- demand 2: rows
+
+-- "A table of the right length with cells below p is accepted exactly when every row holds modulo p, else the first failing row is named"
+abbrev pub RowsAreChecked : Type 0
+RowsAreChecked =
+    (list : List ℕ) (ls : List Line) (s : Known) (table : List ℕ) (r : Reply) → Checks list table r → reading list ≡ read ls s → WellFormed s table →
+    (Accepts r ↔ ((i : ℕ) → i < s .rows → Holds s ls table i))
+    × ((row : ℕ) → replySeen r ≡ reply 15 row ↔ ((row < s .rows) × (¬ Holds s ls table row) × ((i : ℕ) → i < row → Holds s ls table i)))
+    × (Accepts r ⊎ ((row : ℕ) × (replySeen r ≡ reply 15 row)))
+
+-- ---- demand 3: true tables
+
+-- "For every read list and any table, whoever wrote it: accepted exactly when it is the true table of its own inputs"
+abbrev pub OnlyTrueTablesPass : Type 0
+OnlyTrueTablesPass =
+    (list : List ℕ) (ls : List Line) (s : Known) (table : List ℕ) (r : Reply) → Checks list table r → reading list ≡ read ls s →
+    Accepts r ↔ (WellFormed s table × (work ls (inputsOf s ls table) ≡ true-table (valuesOf s table) table))
+
+-- and no table passes with a list that is refused
+abbrev pub NothingPassesUnread : Type 0
+NothingPassesUnread =
+    (list table : List ℕ) (r : Reply) → Checks list table r → Accepts r → (ls : List Line) × (s : Known) × (reading list ≡ read ls s)
+
+-- ---- demand 3: making
+
+-- "The maker writes that table for every column of inputs whose statements are true, and replies 18 with the first false line otherwise"
+abbrev pub MakesTrueTables : Type 0
+MakesTrueTables =
+    (list : List ℕ) (ls : List Line) (s : Known) (inputs : List ℤ) (table : List ℕ) (r : Reply) (after : List ℕ) →
+    Makes list inputs table r after → reading list ≡ read ls s → Column s inputs → length table ≡ s .cells →
+    ((values : List ℤ) (cells : List ℕ) → work ls inputs ≡ true-table values cells →
+    Accepts r × (after ≡ cells) × (inputsOf s ls after ≡ inputs) × (valuesOf s after ≡ values))
+    × ((line : ℕ) → work ls inputs ≡ false-at line → (replySeen r ≡ reply 18 line) × (after ≡ table))
+
+-- what the maker wrote passes, and no other table with these inputs does
+abbrev pub MadeTablesPass : Type 0
+MadeTablesPass =
+    (list : List ℕ) (inputs : List ℤ) (table : List ℕ) (r : Reply) (after : List ℕ) → Makes list inputs table r after → Accepts r →
+    ((checked : Reply) → Checks list after checked → Accepts checked)
+    × ((ls : List Line) (s : Known) → reading list ≡ read ls s → (other : List ℕ) (checked : Reply) → Checks list other checked → Accepts checked →
+    inputsOf s ls other ≡ inputs → other ≡ after)
+
+-- ---- demand 1: memory
+
+-- "a refused call changes nothing"
+abbrev pub RefusedMakingChangesNothing : Type 0
+RefusedMakingChangesNothing =
+    (list : List ℕ) (inputs : List ℤ) (table : List ℕ) (r : Reply) (after : List ℕ) → Makes list inputs table r after → ¬ Accepts r → after ≡ table

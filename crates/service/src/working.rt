@@ -1,0 +1,75 @@
+// Working a list for a column of inputs: the values of its lines, or the first line whose statement is false.
+use super::walk::counts_after;
+use reader::state::Counts;
+use table::Worked;
+use table::line_works::line_works;
+use text::Parsed;
+use text::line_end;
+use text::line_of;
+ghost use mathlib.Core.Path.{_≡_};
+ghost use Prim.Native.Nat.{_<_};
+ghost use lib.IntN.{ℤ, pos};
+ghost use lib.ListN.{length, getD};
+ghost use Rattle.table.specs.declared.value.Worked.the-variants.{Value};
+ghost use Rattle.service.specs.Walk.{ListRead};
+ghost use Rattle.service.specs.Make.{withValue, isTrue, WorkAsked, WorkDone};
+
+// The first line whose statement is false.
+pub enum Working {
+    AllTrue,
+    FalseAt(usize),
+}
+
+// The input at a place, and 0 where there is none.
+fn input_at(inputs: &[i64], at: usize) -> i64
+    ensures { λ r. ⌜ r ≡ getD (now (inputs .entry)) at (pos 0) ⌝ }
+{
+    if at < inputs.len() { inputs[at] } else { 0 }
+}
+
+// Takes in the value that a line makes, where it makes one, and says whether the line's statement is true.
+fn take_value(values: &mut [i64], at: usize, worked: Worked) -> bool
+    requires { ⌜ ((z : ℤ) → worked ≡ Value z → at < length (now values)) ⌝ }
+    ensures { λ r. ⌜ (r ≡ isTrue worked) × (now (values .exit) ≡ withValue (now (values .entry)) at worked) ⌝ }
+{
+    match worked {
+        Worked::Value(z) => {
+            values[at] = z;
+            true
+        }
+        Worked::NoValue => true,
+        Worked::False => false,
+    }
+}
+
+// Every line is worked on the values of the lines before it, until a statement is false.
+pub fn work_lines(list: &[u8], inputs: &[i64], values: &mut [i64]) -> Working
+    requires { ⌜ WorkAsked (now list) (now inputs) × (length (now values) ≡ 256) ⌝ }
+    ensures told { λ r. ⌜ ((l : ListRead (now (list .entry))) → WorkDone (l .lines) (l .last) (now (inputs .entry)) (now (values .exit)) r) ⌝ }
+    ensures long { λ _. ⌜ length (now (values .exit)) ≡ 256 ⌝ }
+{
+    let mut numbers: [i64; 33] = [0; 33];
+    let mut counts = Counts {
+        values: 0,
+        inputs: 0,
+        cells: 0,
+        rows: 0,
+    };
+    let mut at: usize = 0;
+    let mut n: usize = 0;
+    while at < list.len() {
+        let end = line_end(list, at);
+        let Parsed::Line(word, count) = line_of(&list[at..end], &mut numbers) else {
+            return Working::FalseAt(n);
+        };
+        let next = input_at(inputs, counts.inputs);
+        let worked = line_works(word, &numbers, count, values, next);
+        if !take_value(values, counts.values, worked) {
+            return Working::FalseAt(n);
+        }
+        counts = counts_after(counts, word, &numbers);
+        at = end + 1;
+        n += 1;
+    }
+    Working::AllTrue
+}

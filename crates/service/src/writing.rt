@@ -1,0 +1,35 @@
+// Writing the table of a list whose lines are worked: each line's cells through the part of the lent table that starts at its first cell.
+use super::walk::counts_after;
+use reader::state::Counts;
+use table::line_cells::line_cells;
+use text::Parsed;
+use text::line_end;
+use text::line_of;
+ghost use mathlib.Core.Path.{_≡_};
+ghost use Rattle.service.specs.Make.{WriteAsked};
+
+// The cells of every line, each line's through the part of the table that starts at its first cell.
+pub fn write_lines(list: &[u8], p: u32, values: &[i64], table: &mut [u32])
+    requires { ⌜ WriteAsked (now list) p (now values) (now table) ⌝ }
+    ensures { λ _. ⌜ ((a : WriteAsked (now (list .entry)) p (now (values .entry)) (now (table .entry))) → now (table .exit) ≡ a .cells) ⌝ }
+{
+    let mut numbers: [i64; 33] = [0; 33];
+    let mut counts = Counts {
+        values: 0,
+        inputs: 0,
+        cells: 0,
+        rows: 0,
+    };
+    let mut at: usize = 0;
+    while at < list.len() {
+        let end = line_end(list, at);
+        let Parsed::Line(word, count) = line_of(&list[at..end], &mut numbers) else {
+            return;
+        };
+        let first = counts.cells;
+        let known = counts.values;
+        line_cells(word, &numbers, count, p, values, known, &mut table[first..]);
+        counts = counts_after(counts, word, &numbers);
+        at = end + 1;
+    }
+}

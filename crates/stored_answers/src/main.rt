@@ -1,0 +1,65 @@
+// Stored runs of `respond`: P1 of document 01, and each refusal that an input of the program can cause. The answers are printed one after
+// another and compared with the stored ones. (Refusals 13 to 15 are a check's; 19 and 20 are the desk's; the program makes tables only.)
+use libc::STDOUT_FILENO;
+use program::respond;
+
+fn print_answer(input: &[u8]) {
+    let mut output: [u8; 256] = [0; 256];
+    let written = respond(input, &mut output);
+    io::write_all(STDOUT_FILENO, &output[..written]);
+}
+
+// Document 01's nine lines, and P4, whose statement is false.
+fn made() {
+    print_answer(b"field\t31\nin\nrelu\t0\t2\t4\nend\n-3\n");
+    print_answer(b"field\t31\nin\nrelu\t0\t2\t4\nend\n8\n");
+    print_answer(b"field\t3\nend\n");
+}
+
+// 1: over 65,536 bytes. 2: no last byte 10, no line `end`, or no list before it.
+fn refused_as_a_whole() {
+    let long: [u8; 65537] = [10; 65537];
+    print_answer(&long);
+    print_answer(b"field\t31\nend");
+    print_answer(b"field\t31\nin\n");
+    print_answer(b"end\n");
+}
+
+// 3 to 9 of a line of the list.
+fn refused_by_early_rules() {
+    print_answer(b"field\t31\nin\t5\nend\n");
+    print_answer(b"field\t31\nout\nend\n");
+    print_answer(b"field\t031\nend\n");
+    print_answer(b"in\nend\n");
+    print_answer(b"field\t31\nfield\t31\nend\n");
+    print_answer(b"field\t33\nend\n");
+    print_answer(b"field\t31\nin\nspan\t0\t1\t4\t0\nend\n");
+    print_answer(b"field\t31\nin\nspan\t0\t2\t32\t0\nend\n");
+    print_answer(b"field\t31\nsum\t16\nend\n");
+    print_answer(b"field\t31\nin\nrelu\t1\t2\t4\nend\n");
+}
+
+// 10 to 12 of a line of the list.
+fn refused_by_late_rules() {
+    print_answer(b"field\t31\nin\nroot\t0\t2\t1\nend\n");
+    print_answer(b"field\t31\nin\nspan\t0\t2\t4\t1\nend\n");
+    print_answer(b"field\t101\nin\nspan\t0\t2\t5\t0\nsum\t0\t2\t0\nend\n");
+    print_answer(b"field\t31\nin\nspan\t0\t2\t2\t0\nspan\t0\t2\t2\t8\nend\n");
+}
+
+// 3 of an input line, at its place in the whole input; 16, 17 and 18.
+fn refused_by_inputs() {
+    print_answer(b"field\t31\nin\nend\n1\n+1\n");
+    print_answer(b"field\t31\nin\nend\n");
+    print_answer(b"field\t31\nin\nend\n1\n2\n");
+    print_answer(b"field\t31\nin\nend\n16\n");
+    print_answer(b"field\t31\nin\nspan\t0\t2\t4\t0\nend\n-1\n");
+}
+
+fn main() {
+    made();
+    refused_as_a_whole();
+    refused_by_early_rules();
+    refused_by_late_rules();
+    refused_by_inputs();
+}

@@ -1,0 +1,45 @@
+-- `worked_tables::call::cell_count`: in each arm the count is at most the room's length, and so many cells can be taken from it.
+use mathlib.Core.Path.{sym}
+use mathlib.Core.List.{List}
+use Prim.Native.Nat.{ℕ, _≤_}
+use native.Mathlib.Omega.{arith}
+use lib.ListN.{length}
+use lib.Seq.{length-take-le}
+use Rattle.io.specs.Counts.{Counts}
+use borrow.Author.Needs.{needs}
+use Rattle.worked_tables.proofs.call.cell_count.Statement.{statement}
+use Rattle.worked_tables.proofs.call.cell_count.Tie as tie
+use Rattle.worked_tables.proofs.call.cell_count.Reads as reads
+use Rattle.worked_tables.proofs.call.cell_count.Lts as lts
+use Rattle.reader.proofs.read.read.Reads as read-reads
+
+counted : (n : ℕ) (xs : List ℕ) → n ≤ length xs → Counts n xs
+counted n xs h = (h, sym (length-take-le n xs h))
+
+-- src/call.rt:39:9
+read-requires : tie.Need-read-requires
+read-requires c κs = search needs
+
+-- src/call.rt:40:28
+enum-known-answer : tie.Need-enum-known-answer
+enum-known-answer c = search needs
+
+-- src/call.rt:41:9
+enum-told : tie.Need-enum-told
+enum-told c = search needs
+
+-- src/call.rt:41:9
+returns : tie.Need-returns
+returns c = search needs
+
+-- src/call.rt:44:9
+returns-2 : tie.Need-returns-2
+returns-2 c = counted _ _ (omega (arith, c .if1 .taken))
+
+-- src/call.rt:36:1
+returns-3 : tie.Need-returns-3
+returns-3 c = counted _ _ (omega arith)
+
+pub cell-count-spec : {M : Type 1} → statement M
+cell-count-spec =
+    tie.close (tie.spec read-requires enum-known-answer enum-told returns returns-2 returns-3)

@@ -1,0 +1,61 @@
+-- `worked_tables::call::is_blank`: each turn takes the next index, and nothing has to hold from turn to turn.
+use Prim.Native.Nat.{_-_}
+use lib.ListN.{length}
+use borrow.Author.Needs.{needs}
+use Rattle.worked_tables.proofs.call.is_blank.Statement.{statement}
+use Rattle.worked_tables.proofs.call.is_blank.Tie as tie
+use Rattle.worked_tables.proofs.call.is_blank.Reads as reads
+use Rattle.worked_tables.proofs.call.is_blank.Lts as lts
+
+abbrev Inv-loop : tie.InvT-loop
+Inv-loop table i₀ i = Unit {0}
+
+abbrev μ-loop : tie.MeasureT-loop
+μ-loop table i₀ i = length table - i
+
+-- src/call.rt:51:5
+loop-holds : tie.Need-loop-holds Inv-loop μ-loop
+loop-holds c = search needs
+
+-- src/call.rt:52:12
+mul-if1 : tie.Need-mul-if1 Inv-loop μ-loop
+mul-if1 c = search needs
+
+-- src/call.rt:52:12
+shared-slice-read-if1 : tie.Need-shared-slice-read-if1 Inv-loop μ-loop
+shared-slice-read-if1 c = search needs
+
+-- src/call.rt:53:13
+returns : tie.Need-returns Inv-loop μ-loop
+returns c = search needs
+
+-- src/call.rt:55:9
+add-i : tie.Need-add-i Inv-loop μ-loop
+add-i c = search needs
+
+-- src/call.rt:51:5
+loop-less : tie.Need-loop-less Inv-loop μ-loop
+loop-less c = search needs
+
+-- src/call.rt:51:5
+loop-again : tie.Need-loop-again Inv-loop μ-loop
+loop-again c = search needs
+
+-- src/call.rt:49:1
+returns-2 : tie.Need-returns-2 Inv-loop μ-loop
+returns-2 c = search needs
+
+pub is-blank-spec : {M : Type 1} → statement M
+is-blank-spec =
+    tie.close
+    (tie.spec
+    Inv-loop
+    μ-loop
+    loop-holds
+    mul-if1
+    shared-slice-read-if1
+    returns
+    add-i
+    loop-less
+    loop-again
+    returns-2)

@@ -1,0 +1,62 @@
+-- `worked_tables::print::print_inputs`: each turn takes the next index, and nothing has to hold from turn to turn.
+use Prim.Native.Nat.{_-_}
+use lib.ListN.{length}
+use borrow.Author.Needs.{needs}
+use Rattle.worked_tables.proofs.print.print_inputs.Statement.{statement}
+use Rattle.worked_tables.proofs.print.print_inputs.Tie as tie
+use Rattle.worked_tables.proofs.print.print_inputs.Reads as reads
+use Rattle.worked_tables.proofs.print.print_inputs.Lts as lts
+use Rattle.worked_tables.proofs.print.print_whole.Reads as print-whole-reads
+
+abbrev Inv-loop : tie.InvT-loop
+Inv-loop inputs i₀ i = Unit {0}
+
+abbrev μ-loop : tie.MeasureT-loop
+μ-loop inputs i₀ i = length inputs - i
+
+-- src/print.rt:28:5
+loop-holds : tie.Need-loop-holds Inv-loop μ-loop
+loop-holds c = search needs
+
+-- src/print.rt:29:21
+mul-print-whole : tie.Need-mul-print-whole Inv-loop μ-loop
+mul-print-whole c = search needs
+
+-- src/print.rt:29:21
+shared-slice-copy-out-print-whole : tie.Need-shared-slice-copy-out-print-whole Inv-loop μ-loop
+shared-slice-copy-out-print-whole c = search needs
+
+-- src/print.rt:29:9
+print-whole-requires : tie.Need-print-whole-requires Inv-loop μ-loop
+print-whole-requires c κs = search needs
+
+-- src/print.rt:30:9
+add-i : tie.Need-add-i Inv-loop μ-loop
+add-i c = search needs
+
+-- src/print.rt:28:5
+loop-less : tie.Need-loop-less Inv-loop μ-loop
+loop-less c = search needs
+
+-- src/print.rt:28:5
+loop-again : tie.Need-loop-again Inv-loop μ-loop
+loop-again c = search needs
+
+-- src/print.rt:26:1
+returns : tie.Need-returns Inv-loop μ-loop
+returns c = search needs
+
+pub print-inputs-spec : {M : Type 1} → statement M
+print-inputs-spec =
+    tie.close
+    (tie.spec
+    Inv-loop
+    μ-loop
+    loop-holds
+    mul-print-whole
+    shared-slice-copy-out-print-whole
+    print-whole-requires
+    add-i
+    loop-less
+    loop-again
+    returns)

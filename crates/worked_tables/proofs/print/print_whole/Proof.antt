@@ -1,0 +1,67 @@
+-- `worked_tables::print::print_whole`: the magnitude of an i64 is below 2 ^ 63, so that one more fits a u64.
+use mathlib.Core.Path.{_≡_, _∙_, ap}
+use lib.Signed.{mag}
+use native.Mathlib.Omega.{arith}
+use mir.Syntax.{w64}
+use mir.Val.{SFits}
+use borrow.Author.Needs.{needs}
+use Rattle.number.proofs.Word.{back}
+use Rattle.worked_tables.proofs.print.print_whole.Statement.{statement}
+use Rattle.worked_tables.proofs.print.print_whole.Tie as tie
+use Rattle.worked_tables.proofs.print.print_whole.Reads as reads
+use Rattle.worked_tables.proofs.print.print_whole.Lts as lts
+use Rattle.io.proofs.print_decimal.Reads as print-decimal-reads
+use Rattle.number.proofs.whole.magnitude.Reads as magnitude-reads
+use Rattle.worked_tables.proofs.print.print.Reads as print-reads
+use Rattle.worked_tables.proofs.print.print_count.Reads as print-count-reads
+
+fits : (c : tie.Start) → SFits w64 (c .args .n)
+fits c = search needs
+
+-- src/print.rt:17:9
+magnitude-requires : tie.Need-magnitude-requires
+magnitude-requires c κs = search needs
+
+-- src/print.rt:19:15
+slice-aggregate-print : tie.Need-slice-aggregate-print
+slice-aggregate-print c = search needs
+
+-- src/print.rt:19:9
+print-requires : tie.Need-print-requires
+print-requires c κs = search needs
+
+-- src/print.rt:20:42
+add-print-decimal : tie.Need-add-print-decimal
+add-print-decimal c =
+    let s = c .before .before .before in
+    let told : s .magnitude .result ≡ mag (s .before .args .n) = s .magnitude .ensures ∙ ap mag (back (fits (s .before))) in
+    record { fits = omega (arith, told, fits (s .before) .sfits) }
+
+-- src/print.rt:20:9
+print-decimal-requires : tie.Need-print-decimal-requires
+print-decimal-requires c κs = search needs
+
+-- src/print.rt:22:9
+print-count-requires : tie.Need-print-count-requires
+print-count-requires c κs = search needs
+
+-- src/print.rt:16:1
+returns : tie.Need-returns
+returns c = search needs
+
+-- src/print.rt:16:1
+returns-2 : tie.Need-returns-2
+returns-2 c = search needs
+
+pub print-whole-spec : {M : Type 1} → statement M
+print-whole-spec =
+    tie.close
+    (tie.spec
+    magnitude-requires
+    slice-aggregate-print
+    print-requires
+    add-print-decimal
+    print-decimal-requires
+    print-count-requires
+    returns
+    returns-2)

@@ -1,0 +1,67 @@
+// Printing on one line, without its end: a list with its tabs as blanks, a column of inputs and a table with a blank before each number.
+use libc::STDOUT_FILENO;
+use number::Whole;
+use number::whole::magnitude;
+
+pub fn print(text: &[u8]) {
+    io::write_all(STDOUT_FILENO, text);
+}
+
+pub fn print_count(n: u64) {
+    print(b" ");
+    io::print_decimal(STDOUT_FILENO, n);
+}
+
+// Also the lowest i64, which has no negative: below zero, n is -(m + 1) for its magnitude m.
+fn print_whole(n: i64) {
+    let m = magnitude(Whole(n));
+    if n < 0 {
+        print(b" -");
+        io::print_decimal(STDOUT_FILENO, m + 1);
+    } else {
+        print_count(m);
+    }
+}
+
+pub fn print_inputs(inputs: &[i64]) {
+    let mut i: usize = 0;
+    while i < inputs.len() {
+        print_whole(inputs[i]);
+        i += 1;
+    }
+}
+
+fn print_cell(cell: u32) {
+    print_count(cell as u64);
+}
+
+pub fn print_cells(table: &[u32]) {
+    let mut i: usize = 0;
+    while i < table.len() {
+        print_cell(table[i]);
+        i += 1;
+    }
+}
+
+fn print_byte(byte: u8) {
+    if byte == b'\t' {
+        print(b" ");
+    } else {
+        let one = [byte];
+        print(&one);
+    }
+}
+
+// A comma between two lines of the list.
+pub fn print_list(list: &[u8]) {
+    let mut i: usize = 0;
+    while i < list.len() {
+        let byte = list[i];
+        i += 1;
+        if byte != b'\n' {
+            print_byte(byte);
+        } else if i < list.len() {
+            print(b", ");
+        }
+    }
+}
