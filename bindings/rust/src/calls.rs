@@ -49,4 +49,11 @@ extern "C" {
         line: usize,
         first: *mut usize,
     ) -> usize;
+
+    pub fn digit_table_respond(
+        input: *const u8,
+        input_length: usize,
+        output: *mut u8,
+        output_length: usize,
+    ) -> usize;
 }

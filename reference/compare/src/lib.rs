@@ -25,8 +25,10 @@ pub struct Comparison {
 impl Comparison {
     /// Runs both services on a case and shows these lines of its table.
     pub fn compare(&mut self, from: &str, case: &Case, lines: &[usize]) {
-        let proved = outcome::<Proved>(case, lines);
-        let reference = outcome::<Reference>(case, lines);
+        let length = reference::respond(&case.stdin).len();
+        let rooms = [length - 1, length + 5];
+        let proved = outcome::<Proved>(case, lines, &rooms);
+        let reference = outcome::<Reference>(case, lines, &rooms);
         if proved != reference {
             self.differ(from, case, lines, &format!("{proved:?}"), &format!("{reference:?}"));
         }
@@ -39,6 +41,7 @@ impl Comparison {
             ("check", reference.check.0),
             ("make", reference.make.0),
             ("desk", reference.desk.0),
+            ("program", answered(&reference.answers)),
         ] {
             *self.numbers.entry((call, number)).or_default() += 1;
         }
@@ -73,6 +76,7 @@ impl Comparison {
             ("table", format!("{:?}", case.table)),
             ("lines", format!("{lines:?}")),
             ("desk", format!("{:?}", case.desk)),
+            ("standard input", format!("\"{}\"", case.stdin.escape_ascii())),
             ("proved", proved.to_string()),
             ("reference", reference.to_string()),
         ] {
@@ -80,6 +84,14 @@ impl Comparison {
         }
         self.differences.push(text);
     }
+}
+
+/// The number that the program's answer gives, 0 for a table.
+fn answered(answers: &[(usize, Vec<u8>)]) -> u64 {
+    let answer = answers.iter().find(|answer| 0 < answer.0).map_or(&[][..], |answer| &answer.1);
+    let word =
+        answer.strip_prefix(b"refused\t").and_then(|rest| rest.split(|&byte| byte == b'\t').next());
+    word.map_or(0, |word| String::from_utf8_lossy(word).parse().expect("a number"))
 }
 
 /// The lines of a case's list, and one past its end.

@@ -25,13 +25,15 @@ pub struct Outcome {
     pub desk: Reply,
     /// The case's desk after the call.
     pub counts: Desk,
+    /// The length of the program's answer, and the output that it was written to, for each room that was lent.
+    pub answers: Vec<(usize, Vec<u8>)>,
     /// What is lent to be read is as it was.
     pub unchanged: bool,
 }
 
-/// Runs every call on a case; `lines` are the lines to show.
-pub fn outcome<S: Service>(case: &Case, lines: &[usize]) -> Outcome {
-    let (list, inputs) = (case.list.clone(), case.inputs.clone());
+/// Runs every call on a case; `lines` are the lines to show, and `rooms` the lengths of the outputs to answer in.
+pub fn outcome<S: Service>(case: &Case, lines: &[usize], rooms: &[usize]) -> Outcome {
+    let (list, inputs, stdin) = (case.list.clone(), case.inputs.clone(), case.stdin.clone());
     let (table, mut counts) = (case.table.clone(), desk_of(case));
     let (make, made) = make::<S>(&list, &inputs, &table);
     let outcome = Outcome {
@@ -43,14 +45,22 @@ pub fn outcome<S: Service>(case: &Case, lines: &[usize]) -> Outcome {
         show: lines.iter().map(|&line| part(&table, S::show(&list, &table, line))).collect(),
         desk: S::desk(&mut counts, &list, &table),
         counts,
+        answers: rooms.iter().map(|&room| answer::<S>(&stdin, room)).collect(),
         unchanged: true,
     };
     // The compiler is not to conclude that what was lent for reading is unchanged.
-    let (list, inputs, table) = (black_box(list), black_box(inputs), black_box(table));
-    Outcome {
-        unchanged: list == case.list && inputs == case.inputs && table == case.table,
-        ..outcome
-    }
+    let lent = black_box((list, inputs, table, stdin));
+    let unchanged = lent.0 == case.list
+        && lent.1 == case.inputs
+        && lent.2 == case.table
+        && lent.3 == case.stdin;
+    Outcome { unchanged, ..outcome }
+}
+
+/// Answers in an output of so many bytes, of which none is 0.
+fn answer<S: Service>(stdin: &[u8], room: usize) -> (usize, Vec<u8>) {
+    let mut output: Vec<u8> = (0..room).map(|at| (at % 255) as u8 + 1).collect();
+    (S::respond(stdin, &mut output), output)
 }
 
 /// The counts of a case's desk.

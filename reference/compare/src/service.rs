@@ -16,6 +16,8 @@ pub trait Service {
     fn make(list: &[u8], inputs: &[i64], table: &mut [u32]) -> Reply;
     fn show<'a>(list: &[u8], table: &'a [u32], line: usize) -> &'a [u32];
     fn desk(desk: &mut Desk, list: &[u8], table: &[u32]) -> Reply;
+    /// The length of the answer, which is written where it has room; else 0.
+    fn respond(input: &[u8], output: &mut [u8]) -> usize;
 }
 
 /// The program that was written from the document alone.
@@ -46,6 +48,15 @@ impl Service for Reference {
         let reply = called.call(list, table);
         *desk = [called.heard, called.accepted, called.refused];
         reply
+    }
+
+    fn respond(input: &[u8], output: &mut [u8]) -> usize {
+        let answer = reference::respond(input);
+        match output.get_mut(..answer.len()) {
+            Some(begin) => begin.copy_from_slice(&answer),
+            None => return 0,
+        }
+        answer.len()
     }
 }
 
@@ -84,5 +95,9 @@ impl Service for Proved {
         let reply = pair(called.call(list, table));
         *desk = [called.heard, called.accepted, called.refused];
         reply
+    }
+
+    fn respond(input: &[u8], output: &mut [u8]) -> usize {
+        digit_table::respond_into(input, output)
     }
 }

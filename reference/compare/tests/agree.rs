@@ -9,12 +9,13 @@ fn directed_cases_agree_with_each_other_and_the_paper() {
     for directed in directed() {
         let case = &directed.case;
         comparison.compare(&directed.way, case, &[case.line]);
-        let proved = outcome::<Proved>(case, &[]);
+        let proved = outcome::<Proved>(case, &[], &[]);
         let reply = match directed.call {
             Call::Read => proved.read.map_or_else(|refusal| refusal, |_| (0, 0)),
             Call::Check => proved.check,
             Call::Make => proved.make,
             Call::Desk => proved.desk,
+            // The answer is compared with the reference's, whose own tests hold it to the paper.
             Call::Program => continue,
         };
         assert_eq!(reply, directed.reply, "{}", directed.way);
@@ -79,6 +80,14 @@ impl<const CALL: usize> Service for Changed<CALL> {
         }
         reply
     }
+
+    fn respond(input: &[u8], output: &mut [u8]) -> usize {
+        let length = Reference::respond(input, output);
+        if CALL == 5 {
+            output[length] = 0;
+        }
+        length
+    }
 }
 
 #[test]
@@ -87,11 +96,12 @@ fn a_change_of_one_call_is_seen() {
     let mut case = Case::about(text("field 31;in;relu 0 2 4"));
     case.inputs = vec![8];
     case.table[0] = 1;
-    let right = outcome::<Reference>(&case, &[1]);
-    assert_eq!(right, outcome::<Changed<5>>(&case, &[1]));
-    assert_ne!(right, outcome::<Changed<0>>(&case, &[1]));
-    assert_ne!(right, outcome::<Changed<1>>(&case, &[1]));
-    assert_ne!(right, outcome::<Changed<2>>(&case, &[1]));
-    assert_ne!(right, outcome::<Changed<3>>(&case, &[1]));
-    assert_ne!(right, outcome::<Changed<4>>(&case, &[1]));
+    let right = outcome::<Reference>(&case, &[1], &[100]);
+    assert_ne!(right, outcome::<Changed<0>>(&case, &[1], &[100]));
+    assert_ne!(right, outcome::<Changed<1>>(&case, &[1], &[100]));
+    assert_ne!(right, outcome::<Changed<2>>(&case, &[1], &[100]));
+    assert_ne!(right, outcome::<Changed<3>>(&case, &[1], &[100]));
+    assert_ne!(right, outcome::<Changed<4>>(&case, &[1], &[100]));
+    assert_ne!(right, outcome::<Changed<5>>(&case, &[1], &[100]));
+    assert_eq!(right, outcome::<Changed<6>>(&case, &[1], &[100]));
 }
