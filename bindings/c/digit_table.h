@@ -4,7 +4,7 @@
  *  - a pointer that comes with a length leads to so many elements, aligned, and is not NULL, even where the length is 0;
  *  - a pointer that comes without one leads to one number;
  *  - what a call writes (all that is not const) overlaps nothing else that is lent to the same call.
- * Nothing is kept after a call and nothing is allocated: calls may run at the same time. A call takes less than 32 KiB of stack.
+ * Nothing is kept after a call and nothing is allocated: calls may run at the same time. A call takes less than 64 KiB of stack.
  *
  * A reply is a number and a place, as document 01 has them under "Replies": number 0 for a list that was read, a table that was accepted
  * and a table that was made, 1 to 20 for a refusal. The place is a line, a cell, a row or an input, by the number. Lines, cells, rows,
@@ -62,15 +62,16 @@ uint32_t digit_table_desk_call(uint64_t *heard, uint64_t *accepted, uint64_t *re
                                const uint32_t *table, size_t table_length,
                                size_t *place);
 
-/* The longest answer of digit_table_respond, in bytes. */
-#define DIGIT_TABLE_LONGEST_ANSWER 65547
-
-/* Answers what the program answers: a list, the line `end` and one input a line give the table or one line of refusal.
+/* Answers an input as the program does: a list, the line `end`, then one input a line, by the lines of the table or by one line
+ * `refused`, number, place.
  * Reads: the input's bytes.
- * Writes: the answer at the start of the output, where it has room; nothing where it has none.
- * Returns: the length of the answer, or 0 where it has no room. Every answer has room in DIGIT_TABLE_LONGEST_ANSWER bytes. */
+ * Writes: the answer, at the start of the output, where it has room; the rest of the output, or all of it where the answer has no room, is
+ *   left as it is.
+ * Returns: the length of the answer, or 0 where it has no room. In DIGIT_TABLE_LONGEST_ANSWER bytes every answer has room. */
 size_t digit_table_respond(const uint8_t *input, size_t input_length,
                            uint8_t *output, size_t output_length);
+
+#define DIGIT_TABLE_LONGEST_ANSWER 65547
 
 #ifdef __cplusplus
 }

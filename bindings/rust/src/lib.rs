@@ -1,4 +1,4 @@
-//! Digit tables over Z/p: reads lists, makes and checks tables, shows a line's cells, and counts at a desk.
+//! Digit tables over Z/p: reads lists, makes and checks tables, shows a line's cells, counts at a desk, and answers as the program does.
 //!
 //! The work is done by the static library of `crates/exports`, whose functions are proved to answer as document 01 says for every
 //! input. They ask nothing of their caller but that what is lent is there and does not overlap, which references ensure. So every
@@ -119,23 +119,25 @@ pub fn show<'a>(list: &[u8], table: &'a [u32], line: usize) -> &'a [u32] {
     &table[first..first + count]
 }
 
-/// The longest answer of `respond`, in bytes. That no answer is longer is proved of the call.
+/// In an output of so many bytes every answer has room.
 pub const LONGEST_ANSWER: usize = 65_547;
 
-/// Answers what the program answers: a list, the line `end` and one input a line give the table or one line of refusal.
+/// Answers an input as the program does: a list, the line `end`, then one input a line, by the lines of the table or by one line `refused`,
+/// number, place.
 pub fn respond(input: &[u8]) -> Vec<u8> {
     let mut output = vec![0; LONGEST_ANSWER];
-    // SAFETY: both slices are there for the call, and the output is borrowed for it alone.
-    let written = unsafe {
-        calls::digit_table_respond(
-            input.as_ptr(),
-            input.len(),
-            output.as_mut_ptr(),
-            output.len(),
-        )
-    };
-    output.truncate(written);
+    let length = respond_into(input, &mut output);
+    output.truncate(length);
     output
+}
+
+/// The same into a lent output. It begins with the answer, whose length is returned; where the answer has no room the output is as it was,
+/// and 0 is returned.
+pub fn respond_into(input: &[u8], output: &mut [u8]) -> usize {
+    // SAFETY: the slices are there for the call, and `output` is borrowed for it alone.
+    unsafe {
+        calls::digit_table_respond(input.as_ptr(), input.len(), output.as_mut_ptr(), output.len())
+    }
 }
 
 /// Three counts of the tables that a desk has heard, all 0 when fresh.

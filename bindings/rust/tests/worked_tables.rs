@@ -1,6 +1,6 @@
 //! The worked tables P1 to P11 of document 01, and what the calls do with arguments that fit nothing.
 
-use digit_table::{check, make, read, show, Counts, Desk, Refusal};
+use digit_table::{check, make, read, respond, respond_into, show, Counts, Desk, Refusal};
 
 const RELU: &str = "field 31;in;relu 0 2 4";
 
@@ -123,6 +123,23 @@ fn a_damaged_or_full_desk_stays_as_it_is() {
         let mut desk = before;
         assert_eq!(desk.call(&list, &[]), refused(number, 0));
         assert_eq!(desk, before);
+    }
+}
+
+#[test]
+fn the_program_s_answers() {
+    let p1 = text("field 31;in;relu 0 2 4;end;-3");
+    let answer = text("table 8;0 28;1 0;2 1;3 0;4 1;5 0;6 0;7 30");
+    assert_eq!(respond(&p1), answer);
+    assert_eq!(respond(&text("field 31;in;relu 0 2 4;end;8")), text("refused 18 2"));
+    assert_eq!(respond(b""), text("refused 2 0"));
+    for room in [0, answer.len() - 1, answer.len(), answer.len() + 9] {
+        let mut output = vec![7; room];
+        let fits = answer.len() <= room;
+        assert_eq!(respond_into(&p1, &mut output), if fits { answer.len() } else { 0 });
+        let (begin, rest) = output.split_at(if fits { answer.len() } else { 0 });
+        assert_eq!(begin, &answer[..begin.len()]);
+        assert!(rest.iter().all(|&byte| byte == 7));
     }
 }
 

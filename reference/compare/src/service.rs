@@ -1,0 +1,103 @@
+//! The two programs behind one set of calls, so that a case is run in the same way on both.
+
+/// A number and a place; 0, 0 where nothing is refused.
+pub type Reply = (u64, u64);
+
+/// p and the counts of values, cells and rows.
+pub type Counts = [u64; 4];
+
+/// heard, accepted and refused.
+pub type Desk = [u64; 3];
+
+/// The calls of document 01.
+pub trait Service {
+    fn read(list: &[u8]) -> Result<Counts, Reply>;
+    fn check(list: &[u8], table: &[u32]) -> Reply;
+    fn make(list: &[u8], inputs: &[i64], table: &mut [u32]) -> Reply;
+    fn show<'a>(list: &[u8], table: &'a [u32], line: usize) -> &'a [u32];
+    fn desk(desk: &mut Desk, list: &[u8], table: &[u32]) -> Reply;
+    /// The length of the answer, which is written where it has room; else 0.
+    fn respond(input: &[u8], output: &mut [u8]) -> usize;
+}
+
+/// The program that was written from the document alone.
+pub struct Reference;
+
+impl Service for Reference {
+    fn read(list: &[u8]) -> Result<Counts, Reply> {
+        reference::read(list)
+            .map(|counts| [counts.p, counts.values, counts.cells, counts.rows])
+            .map_err(|refusal| (refusal.number, refusal.place))
+    }
+
+    fn check(list: &[u8], table: &[u32]) -> Reply {
+        reference::check(list, table)
+    }
+
+    fn make(list: &[u8], inputs: &[i64], table: &mut [u32]) -> Reply {
+        reference::make(list, inputs, table)
+    }
+
+    fn show<'a>(list: &[u8], table: &'a [u32], line: usize) -> &'a [u32] {
+        reference::show(list, table, line)
+    }
+
+    fn desk(desk: &mut Desk, list: &[u8], table: &[u32]) -> Reply {
+        let [heard, accepted, refused] = *desk;
+        let mut called = reference::Desk { heard, accepted, refused };
+        let reply = called.call(list, table);
+        *desk = [called.heard, called.accepted, called.refused];
+        reply
+    }
+
+    fn respond(input: &[u8], output: &mut [u8]) -> usize {
+        let answer = reference::respond(input);
+        match output.get_mut(..answer.len()) {
+            Some(begin) => begin.copy_from_slice(&answer),
+            None => return 0,
+        }
+        answer.len()
+    }
+}
+
+/// The proved service, by the static library.
+pub struct Proved;
+
+/// A reply as a pair.
+fn pair(reply: Result<(), digit_table::Refusal>) -> Reply {
+    reply.map_or_else(|refusal| (refusal.number.into(), refusal.place as u64), |()| (0, 0))
+}
+
+impl Service for Proved {
+    fn read(list: &[u8]) -> Result<Counts, Reply> {
+        digit_table::read(list)
+            .map(|counts| {
+                [counts.p.into(), counts.values as u64, counts.cells as u64, counts.rows as u64]
+            })
+            .map_err(|refusal| pair(Err(refusal)))
+    }
+
+    fn check(list: &[u8], table: &[u32]) -> Reply {
+        pair(digit_table::check(list, table))
+    }
+
+    fn make(list: &[u8], inputs: &[i64], table: &mut [u32]) -> Reply {
+        pair(digit_table::make(list, inputs, table))
+    }
+
+    fn show<'a>(list: &[u8], table: &'a [u32], line: usize) -> &'a [u32] {
+        digit_table::show(list, table, line)
+    }
+
+    fn desk(desk: &mut Desk, list: &[u8], table: &[u32]) -> Reply {
+        let [heard, accepted, refused] = *desk;
+        let mut called = digit_table::Desk { heard, accepted, refused };
+        let reply = pair(called.call(list, table));
+        *desk = [called.heard, called.accepted, called.refused];
+        reply
+    }
+
+    fn respond(input: &[u8], output: &mut [u8]) -> usize {
+        digit_table::respond_into(input, output)
+    }
+}

@@ -1,0 +1,107 @@
+//! The two services agree; and a case on which two services differ is found.
+
+use compare::{all_lines, outcome, Comparison, Counts, Desk, Proved, Reference, Reply, Service};
+use reference::generate::{cases, directed, large, text, Call, Case};
+
+#[test]
+fn directed_cases_agree_with_each_other_and_the_paper() {
+    let mut comparison = Comparison::default();
+    for directed in directed() {
+        let case = &directed.case;
+        comparison.compare(&directed.way, case, &[case.line]);
+        let proved = outcome::<Proved>(case, &[], &[]);
+        let reply = match directed.call {
+            Call::Read => proved.read.map_or_else(|refusal| refusal, |_| (0, 0)),
+            Call::Check => proved.check,
+            Call::Make => proved.make,
+            Call::Desk => proved.desk,
+            // The answer is compared with the reference's, whose own tests hold it to the paper.
+            Call::Program => continue,
+        };
+        assert_eq!(reply, directed.reply, "{}", directed.way);
+    }
+    assert_eq!(comparison.differences, [""; 0]);
+}
+
+#[test]
+fn large_and_drawn_cases_agree() {
+    let mut comparison = Comparison::default();
+    let case = large(7);
+    comparison.compare("large", &case, &all_lines(&case));
+    for case in cases(7, 20_000) {
+        comparison.compare("seed 7", &case, &[case.line]);
+    }
+    assert_eq!(comparison.differences, [""; 0]);
+}
+
+/// The reference, with one call changed.
+struct Changed<const CALL: usize>;
+
+impl<const CALL: usize> Service for Changed<CALL> {
+    fn read(list: &[u8]) -> Result<Counts, Reply> {
+        let read = Reference::read(list);
+        if CALL == 0 {
+            read.map(|counts| [counts[0], counts[2], counts[1], counts[3]])
+        } else {
+            read
+        }
+    }
+
+    fn check(list: &[u8], table: &[u32]) -> Reply {
+        let reply = Reference::check(list, table);
+        if CALL == 1 {
+            (reply.0, reply.1 + 1)
+        } else {
+            reply
+        }
+    }
+
+    fn make(list: &[u8], inputs: &[i64], table: &mut [u32]) -> Reply {
+        let reply = Reference::make(list, inputs, table);
+        if CALL == 2 {
+            table[0] += 1;
+        }
+        reply
+    }
+
+    fn show<'a>(list: &[u8], table: &'a [u32], line: usize) -> &'a [u32] {
+        let part = Reference::show(list, table, line);
+        if CALL == 3 {
+            &part[1..]
+        } else {
+            part
+        }
+    }
+
+    fn desk(desk: &mut Desk, list: &[u8], table: &[u32]) -> Reply {
+        let reply = Reference::desk(desk, list, table);
+        if CALL == 4 {
+            desk.swap(0, 1);
+        }
+        reply
+    }
+
+    fn respond(input: &[u8], output: &mut [u8]) -> usize {
+        let length = Reference::respond(input, output);
+        if CALL == 5 {
+            output[length] = 0;
+        }
+        length
+    }
+}
+
+#[test]
+fn a_change_of_one_call_is_seen() {
+    // An input that making refuses, and a table that checking refuses.
+    let mut case = Case::about(text("field 31;in;relu 0 2 4"));
+    case.inputs = vec![8];
+    case.table[0] = 1;
+    let right = outcome::<Reference>(&case, &[1], &[100]);
+    assert_ne!(right, outcome::<Changed<0>>(&case, &[1], &[100]));
+    assert_ne!(right, outcome::<Changed<1>>(&case, &[1], &[100]));
+    assert_ne!(right, outcome::<Changed<2>>(&case, &[1], &[100]));
+    assert_ne!(right, outcome::<Changed<3>>(&case, &[1], &[100]));
+    assert_ne!(right, outcome::<Changed<4>>(&case, &[1], &[100]));
+    assert_ne!(right, outcome::<Changed<5>>(&case, &[1], &[100]));
+    assert_eq!(right, outcome::<Changed<6>>(&case, &[1], &[100]));
+}
