@@ -1,7 +1,7 @@
 // The public calls for programs in other languages, by the C ABI: numbers pass as themselves, a slice as a pointer and a length, and a
 // place that is lent for one number as a pointer. No function asks anything of its caller but that what it lends is there and that what
 // is written overlaps nothing else that is lent. Each returns the number of its reply, but for showing and
-// answering, which have none.
+// answering, which return a count.
 use desk::Desk;
 use program::respond;
 use reader::read::Answer;
@@ -15,7 +15,6 @@ ghost use lib.ListN.{length, getD, take, drop};
 ghost use Rattle.meaning.specs.Reply.{reply, making, readReply, checkReply, makeReply, shown};
 ghost use Rattle.meaning.specs.Program.{respond as responseTo};
 ghost use Rattle.meaning.specs.Desk.{counted, called, deskCall};
-ghost use Rattle.meaning.specs.Program.{respond as responseTo};
 ghost use Rattle.program.specs.Answered.{Answered};
 ghost use Rattle.exports.specs.Read.{numbers, numbersOf};
 ghost use Rattle.exports.specs.Show.{upFrom, firstShown};
@@ -137,8 +136,8 @@ pub extern "C" fn digit_table_show(
     part.len()
 }
 
-// Answers an input as the program does: the output begins with the answer, whose length is returned. Where it has no room nothing is
-// written, and 0 is returned.
+// Answers the program's whole input: the output begins with the answer, whose length is returned; where it has no room, nothing is written and
+// 0 is returned.
 #[no_mangle]
 pub extern "C" fn digit_table_respond(input: &[u8], output: &mut [u8]) -> usize
     ensures { λ r. ⌜ Answered (responseTo (now (input .entry))) (now (output .entry)) (now (output .exit)) r ⌝ }
