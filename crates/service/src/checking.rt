@@ -71,7 +71,7 @@ fn first_large(table: &[u32], p: u32) -> Cells
     Cells::AllBelow
 }
 
-// The rows, counted over the whole list. The list was read, so each line is one.
+// The rows, counted over the whole list.
 fn check_rows(list: &[u8], table: &[u32], p: u32) -> Reply
     requires { ⌜ TableAsked (now list) (now table) p ⌝ }
     ensures { λ r. ⌜ ((l : ListRead (now (list .entry))) → replySeen r ≡ rowsReply (l .last) (l .lines) (now (table .entry))) ⌝ }
@@ -87,6 +87,7 @@ fn check_rows(list: &[u8], table: &[u32], p: u32) -> Reply
     let mut at: usize = 0;
     while at < list.len() {
         let end = line_end(list, at);
+        // The list was read, so that each of its lines is one: what is answered for other bytes is never asked for.
         let Parsed::Line(word, count) = line_of(&list[at..end], &mut numbers) else {
             return Reply {
                 number: 3,

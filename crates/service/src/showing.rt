@@ -54,6 +54,7 @@ fn stretch_of(list: &[u8], line: usize) -> Stretch
     let mut n: usize = 0;
     while at < list.len() {
         let end = line_end(list, at);
+        // The list was read, so that each of its lines is one: what is answered for other bytes is never asked for.
         let Parsed::Line(word, _) = line_of(&list[at..end], &mut numbers) else {
             return Stretch { from: 0, to: 0 };
         };

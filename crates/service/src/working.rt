@@ -59,6 +59,7 @@ pub fn work_lines(list: &[u8], inputs: &[i64], values: &mut [i64]) -> Working
     let mut n: usize = 0;
     while at < list.len() {
         let end = line_end(list, at);
+        // The list was read, so that each of its lines is one: what is answered for other bytes is never asked for.
         let Parsed::Line(word, count) = line_of(&list[at..end], &mut numbers) else {
             return Working::FalseAt(n);
         };

@@ -23,6 +23,7 @@ pub fn write_lines(list: &[u8], p: u32, values: &[i64], table: &mut [u32])
     let mut at: usize = 0;
     while at < list.len() {
         let end = line_end(list, at);
+        // The list was read, so that each of its lines is one: what is answered for other bytes is never asked for.
         let Parsed::Line(word, count) = line_of(&list[at..end], &mut numbers) else {
             return;
         };
