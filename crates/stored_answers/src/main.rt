@@ -25,7 +25,7 @@ fn refused_as_a_whole() {
     print_answer(b"end\n");
 }
 
-// 3 to 9 of a line of the list.
+// 3 to 7 of a line of the list.
 fn refused_by_early_rules() {
     print_answer(b"field\t31\nin\t5\nend\n");
     print_answer(b"field\t31\nout\nend\n");
@@ -37,6 +37,16 @@ fn refused_by_early_rules() {
     print_answer(b"field\t31\nin\nspan\t0\t2\t32\t0\nend\n");
     print_answer(b"field\t31\nsum\t16\nend\n");
     print_answer(b"field\t31\nin\nrelu\t1\t2\t4\nend\n");
+}
+
+// 8: 257 inputs. 9: 67 root lines of 62 cells each, after an input's cell.
+fn refused_by_limits() {
+    print_answer(
+        b"field\t31\nin\nin\nin\nin\nin\nin\nin\nin\nin\nin\nin\nin\nin\nin\nin\nin\nin\nin\nin\nin\nin\nin\nin\nin\nin\nin\nin\nin\nin\nin\nin\nin\nin\nin\nin\nin\nin\nin\nin\nin\nin\nin\nin\nin\nin\nin\nin\nin\nin\nin\nin\nin\nin\nin\nin\nin\nin\nin\nin\nin\nin\nin\nin\nin\nin\nin\nin\nin\nin\nin\nin\nin\nin\nin\nin\nin\nin\nin\nin\nin\nin\nin\nin\nin\nin\nin\nin\nin\nin\nin\nin\nin\nin\nin\nin\nin\nin\nin\nin\nin\nin\nin\nin\nin\nin\nin\nin\nin\nin\nin\nin\nin\nin\nin\nin\nin\nin\nin\nin\nin\nin\nin\nin\nin\nin\nin\nin\nin\nin\nin\nin\nin\nin\nin\nin\nin\nin\nin\nin\nin\nin\nin\nin\nin\nin\nin\nin\nin\nin\nin\nin\nin\nin\nin\nin\nin\nin\nin\nin\nin\nin\nin\nin\nin\nin\nin\nin\nin\nin\nin\nin\nin\nin\nin\nin\nin\nin\nin\nin\nin\nin\nin\nin\nin\nin\nin\nin\nin\nin\nin\nin\nin\nin\nin\nin\nin\nin\nin\nin\nin\nin\nin\nin\nin\nin\nin\nin\nin\nin\nin\nin\nin\nin\nin\nin\nin\nin\nin\nin\nin\nin\nin\nin\nin\nin\nin\nin\nin\nin\nin\nin\nin\nin\nin\nin\nin\nin\nin\nin\nin\nin\nin\nin\nin\nin\nin\nin\nin\nin\nin\nin\nin\nin\nin\nin\nin\nin\nend\n",
+    );
+    print_answer(
+        b"field\t2147483647\nin\nroot\t0\t2\t15\nroot\t0\t2\t15\nroot\t0\t2\t15\nroot\t0\t2\t15\nroot\t0\t2\t15\nroot\t0\t2\t15\nroot\t0\t2\t15\nroot\t0\t2\t15\nroot\t0\t2\t15\nroot\t0\t2\t15\nroot\t0\t2\t15\nroot\t0\t2\t15\nroot\t0\t2\t15\nroot\t0\t2\t15\nroot\t0\t2\t15\nroot\t0\t2\t15\nroot\t0\t2\t15\nroot\t0\t2\t15\nroot\t0\t2\t15\nroot\t0\t2\t15\nroot\t0\t2\t15\nroot\t0\t2\t15\nroot\t0\t2\t15\nroot\t0\t2\t15\nroot\t0\t2\t15\nroot\t0\t2\t15\nroot\t0\t2\t15\nroot\t0\t2\t15\nroot\t0\t2\t15\nroot\t0\t2\t15\nroot\t0\t2\t15\nroot\t0\t2\t15\nroot\t0\t2\t15\nroot\t0\t2\t15\nroot\t0\t2\t15\nroot\t0\t2\t15\nroot\t0\t2\t15\nroot\t0\t2\t15\nroot\t0\t2\t15\nroot\t0\t2\t15\nroot\t0\t2\t15\nroot\t0\t2\t15\nroot\t0\t2\t15\nroot\t0\t2\t15\nroot\t0\t2\t15\nroot\t0\t2\t15\nroot\t0\t2\t15\nroot\t0\t2\t15\nroot\t0\t2\t15\nroot\t0\t2\t15\nroot\t0\t2\t15\nroot\t0\t2\t15\nroot\t0\t2\t15\nroot\t0\t2\t15\nroot\t0\t2\t15\nroot\t0\t2\t15\nroot\t0\t2\t15\nroot\t0\t2\t15\nroot\t0\t2\t15\nroot\t0\t2\t15\nroot\t0\t2\t15\nroot\t0\t2\t15\nroot\t0\t2\t15\nroot\t0\t2\t15\nroot\t0\t2\t15\nroot\t0\t2\t15\nroot\t0\t2\t15\nend\n",
+    );
 }
 
 // 10 to 12 of a line of the list.
@@ -60,6 +70,7 @@ fn main() {
     made();
     refused_as_a_whole();
     refused_by_early_rules();
+    refused_by_limits();
     refused_by_late_rules();
     refused_by_inputs();
 }
