@@ -14,6 +14,9 @@ Inv-loop n low₀ high₀ low high = (low < high) × (high ≤ 2 ^ 32) × (low *
 abbrev μ-loop : tie.MeasureT-loop
 μ-loop n low₀ high₀ low high = high - low
 
+above-root-requires : tie.Need-above-root-requires Inv-loop μ-loop
+above-root-requires c κs = search needs
+
 loop-holds : tie.Need-loop-holds Inv-loop μ-loop
 loop-holds c = search needs
 
@@ -53,6 +56,7 @@ square-root-spec =
     (tie.spec
     Inv-loop
     μ-loop
+    above-root-requires
     loop-holds
     sub-loop
     sub-middle

@@ -1,0 +1,39 @@
+-- `number::root::above_root`: a bound that is doubled stays above 0, and the last one, 2 ^ 32, is above the root of every u64.
+use Prim.Native.Nat.{_-_, _^_, _≤_}
+use native.Mathlib.Omega.{arith}
+use borrow.Author.Needs.{needs}
+use Rattle.number.proofs.Word.{wide-product}
+use Rattle.number.proofs.root.above_root.Statement.{statement}
+use Rattle.number.proofs.root.above_root.Tie as tie
+
+abbrev Inv-loop : tie.InvT-loop
+Inv-loop n high₀ high = (1 ≤ high) × (high ≤ 2 ^ 33)
+
+abbrev μ-loop : tie.MeasureT-loop
+μ-loop n high₀ high = 2 ^ 33 - high
+
+loop-holds : tie.Need-loop-holds Inv-loop μ-loop
+loop-holds c = search needs
+
+mul-if1 : tie.Need-mul-if1 Inv-loop μ-loop
+mul-if1 c = wide-product (omega arith) (omega arith)
+
+returns : tie.Need-returns Inv-loop μ-loop
+returns c = search needs
+
+mul-high : tie.Need-mul-high Inv-loop μ-loop
+mul-high c = search needs
+
+loop-less : tie.Need-loop-less Inv-loop μ-loop
+loop-less c = search needs
+
+loop-again : tie.Need-loop-again Inv-loop μ-loop
+loop-again c = search needs
+
+returns-2 : tie.Need-returns-2 Inv-loop μ-loop
+returns-2 c = search needs
+
+pub above-root-spec : {M : Type 1} → statement M
+above-root-spec =
+    tie.close
+    (tie.spec Inv-loop μ-loop loop-holds mul-if1 returns mul-high loop-less loop-again returns-2)

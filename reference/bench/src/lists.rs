@@ -1,0 +1,173 @@
+//! The lists that are measured: a short reorder list, lists of one gadget that are as large as the limits allow, the largest texts,
+//! and lists of growing length.
+//!
+//! A list of spans, or at the greatest prime of any gadget but the sum, comes close to 4,096 cells. The others end at 256 values: a sum
+//! has one cell, and at p = 31 a group has at most four digits.
+
+use reference::generate::{large, text};
+use reference::Counts;
+
+/// A list with a column of inputs and its true table.
+pub struct Workload {
+    pub name: String,
+    pub list: Vec<u8>,
+    pub inputs: Vec<i64>,
+    pub table: Vec<u32>,
+}
+
+/// The greatest prime, and one whose numbers have one or two digits.
+pub const PRIMES: [i64; 2] = [31, 2_147_483_647];
+
+/// How many gadgets have a list of their own.
+pub const GADGETS: usize = 6;
+
+const MOST_VALUES: u64 = 256;
+const MOST_CELLS: u64 = 4_096;
+const MOST_BYTES: usize = 65_536;
+
+/// The service's own example: a reorder figure from the stock and the sales of two weeks.
+const REORDER: &str =
+    "in;in;in;span 0 2 10 0;span 1 2 10 0;span 2 2 10 0;sum 0 2 1 1 2;sum 0 1 3 -1 0;\
+                       relu 4 2 13;max 1 2 2 10;root 6 2 10;which 0 1 2 11;sum 0 1 5 1 7";
+
+/// The same model where pots are counted up to 3, as p = 31 has no room for more.
+const SMALL_REORDER: &str =
+    "in;in;in;span 0 2 2 0;span 1 2 2 0;span 2 2 2 0;sum 0 2 1 1 2;sum 0 1 3 -1 0;\
+                             relu 4 3 3;max 1 2 2 2;root 6 2 2;which 0 1 2 3;sum 0 1 5 1 7";
+
+impl Workload {
+    /// The workload of a list that is read and inputs whose statements are true.
+    fn new(name: String, list: Vec<u8>, inputs: Vec<i64>) -> Workload {
+        let counts = counts(&list).unwrap_or_else(|| panic!("{name} is not read"));
+        let mut table = vec![0; counts.cells as usize];
+        assert_eq!(reference::make(&list, &inputs, &mut table), (0, 0), "{name}");
+        Workload { name, list, inputs, table }
+    }
+}
+
+fn counts(list: &[u8]) -> Option<Counts> {
+    reference::read(list).ok()
+}
+
+/// One gadget's list: how it begins, the line that is repeated, and its inputs.
+struct Gadget {
+    name: &'static str,
+    begin: String,
+    line: String,
+    inputs: Vec<i64>,
+}
+
+/// The gadgets with as many digits as p allows, or as let 256 values fill 4,096 cells.
+fn gadgets(p: i64) -> Vec<Gadget> {
+    let small = p == 31;
+    let digits = |at_31: u32, at_greatest: u32| if small { at_31 } else { at_greatest };
+    let gadget = |name, begin: String, line, inputs: &[i64]| Gadget {
+        name,
+        begin: format!("field {p};{begin}"),
+        line,
+        inputs: inputs.to_vec(),
+    };
+    let pair = |k: u32| format!("in;in;span 0 2 {k} 0;span 1 2 {k} 0");
+    let half = |k: u32| (1 << (k - 1)) - 1;
+    let span = digits(4, 30);
+    let sign = digits(4, 13);
+    let max = digits(3, 7);
+    let root = digits(2, 15);
+    vec![
+        gadget("span", "in".into(), format!("span 0 2 {span} 0"), &[half(span)]),
+        gadget("sum", "in;span 0 2 1 0".into(), format!("sum 1{}", " 1 0 -1 0".repeat(8)), &[1]),
+        gadget("relu", "in".into(), format!("relu 0 2 {sign}"), &[-3]),
+        gadget("which", pair(sign - 1), format!("which 0 1 2 {sign}"), &[2, 5]),
+        gadget("max", pair(max), format!("max 0 1 2 {max}"), &[3, 6]),
+        gadget("root", "in".into(), format!("root 0 2 {root}"), &[half(root)]),
+    ]
+}
+
+impl Gadget {
+    /// The list with so many of its lines, or as many as fit.
+    fn list(&self, most: usize) -> Vec<u8> {
+        let (mut list, line) = (text(&self.begin), text(&self.line));
+        for _ in 0..most {
+            let longer = [&list[..], &line].concat();
+            if counts(&longer).is_none() {
+                break;
+            }
+            list = longer;
+        }
+        list
+    }
+
+    /// As many of its lines as 256 values and 4,096 cells allow.
+    fn full(&self, p: i64) -> Workload {
+        let list = self.list(usize::MAX);
+        let read = counts(&list).expect("a list that is read");
+        let name = format!("{} {p}, {} values, {} cells", self.name, read.values, read.cells);
+        Workload::new(name, list, self.inputs.clone())
+    }
+}
+
+/// Every list that is measured.
+pub fn workloads() -> Vec<Workload> {
+    let mut all = vec![
+        Workload::new(
+            "reorder 31".into(),
+            text(&format!("field 31;{SMALL_REORDER}")),
+            vec![1, 3, 2],
+        ),
+        Workload::new(
+            "reorder 2147483647".into(),
+            text(&format!("field 2147483647;{REORDER}")),
+            vec![40, 120, 95],
+        ),
+    ];
+    for p in PRIMES {
+        all.extend(gadgets(p).iter().map(|gadget| gadget.full(p)));
+    }
+    let mixed = large(0);
+    all.push(Workload::new("mixed 2147483647".into(), mixed.list, mixed.inputs));
+    for p in PRIMES {
+        all.push(longest_of_sums(p));
+        all.push(longest_of_spans(p));
+    }
+    all
+}
+
+/// A text of sums close to 65,536 bytes: a value known to be 0 takes any coefficient.
+fn longest_of_sums(p: i64) -> Workload {
+    let far = -(p - 1) / 2;
+    let mut list = text(&format!("field {p};sum 0"));
+    let line = text(&format!("sum {far}{}", format!(" {far} 0").repeat(16)));
+    while list.len() + line.len() <= MOST_BYTES && counts(&list).expect("read").values < MOST_VALUES
+    {
+        list.extend(&line);
+    }
+    let name = format!("text of sums {p}, {} bytes", list.len());
+    Workload::new(name, list, Vec::new())
+}
+
+/// A text of spans, each with one digit of a long base.
+fn longest_of_spans(p: i64) -> Workload {
+    let far = -(p - 1) / 2;
+    let mut list = text(&format!("field {p};in"));
+    let line = text(&format!("span 0 {p} 1 {far}"));
+    while list.len() + line.len() <= MOST_BYTES && counts(&list).expect("read").cells < MOST_CELLS {
+        list.extend(&line);
+    }
+    let name = format!("text of spans {p}, {} bytes", list.len());
+    Workload::new(name, list, vec![1])
+}
+
+/// A gadget's list with 1, 2, 4, .. of its lines, for how cost grows.
+pub fn growing(gadget: usize, p: i64) -> Vec<Workload> {
+    let gadget = &gadgets(p)[gadget];
+    let mut all = Vec::new();
+    for lines in (3..8).map(|power| 1 << power) {
+        let list = gadget.list(lines);
+        all.push(Workload::new(
+            format!("{} {p}, {lines} lines", gadget.name),
+            list,
+            gadget.inputs.clone(),
+        ));
+    }
+    all
+}
