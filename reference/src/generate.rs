@@ -1,7 +1,8 @@
 //! A deterministic generator of test cases: the same seed and index always give the same case.
 //!
 //! `case` draws one case by chance; `directed` lists cases built on purpose, each with the reply
-//! that the paper gives, so that every refusal is reached in every way it can be.
+//! that the paper gives, so that every refusal is reached in every way it can be; `sources` lists
+//! the worked examples of the source documents and of the paper, with their own figures.
 
 mod columns;
 mod damage;
@@ -11,10 +12,17 @@ mod directed_limits;
 mod directed_lines;
 mod directed_tables;
 mod lists;
+mod sources;
+mod sources_paper;
+mod sources_range;
+mod sources_relu;
+mod sources_root;
+mod sources_whole;
 mod tables;
 
 pub use dice::Dice;
 pub use directed::{directed, Call, Directed};
+pub use sources::sources;
 
 use crate::plan::Plan;
 use crate::Desk;
