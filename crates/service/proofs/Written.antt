@@ -9,7 +9,7 @@ use native.Mathlib.Numerals.{add-one}
 use lib.Dec.{T}
 use lib.IntN.{ℤ, pos}
 use lib.ListN.{length, getD, take, drop, length-append, length-take, length-drop, drop-of-length-le}
-use lib.Seq.{take-add, take-take, take-at, drop-at, take-all, getD-drop, drop-drop, length-take-le}
+use lib.Seq.{take-add, take-take, take-at, drop-at, getD-drop, drop-drop, length-take-le}
 use borrow.Rule.Slice.PartMut.{putMid}
 use Rattle.meaning.specs.Number.{inRange, remainder}
 use Rattle.meaning.specs.Text.{isEnded}
@@ -40,6 +40,7 @@ use Rattle.reader.specs.Told.{lineWith}
 use Rattle.reader.specs.declared.state.Counts.{Counts}
 use Rattle.reader.proofs.Steps.{few}
 use Rattle.table.specs.LineValues.{CellsAsked}
+use Rattle.table.proofs.CellsPart.{written-after}
 use Rattle.service.specs.Walk.{Stands}
 use Rattle.service.specs.Make.{WriteAsked}
 use Rattle.service.proofs.Listed.{same-lines, same-last}
@@ -140,32 +141,6 @@ next-values values ys n h e =
     sym (drop-at (take n values) (take (length ys) (drop n values)) n (length-take-le n values h))
     ∙ ap (drop n) (sym (take-add n (length ys) values) ∙ e)
     ∙ drop-at (take n values) ys n (length-take-le n values h)
-
--- ---- a part of the table that is lent from its n-th cell on
-
--- the first cells are done; the part after them begins with cs and is else as it was
-pub part-written : (before done cs part last table : List ℕ) (n m : ℕ) → length done ≡ n → table ≡ done ++ drop n before → length cs ≡ m
-    → part ≡ take (length table - n) (drop n table) → last ≡ cs ++ drop m part
-    → putMid n (length table - n) table last ≡ (done ++ cs) ++ drop (n + m) before
-part-written before done cs part last table n m long is wide part-is last-is =
-    ap₂ (λ (us vs : List ℕ). us ++ vs) front (ap₂ (λ (us vs : List ℕ). us ++ vs) (last-is ∙ ap (λ (q : List ℕ). cs ++ drop m q) part-rest) none ∙ append-nil (cs ++ drop m (drop n before)))
-    ∙ sym (append-assoc done cs (drop m (drop n before)))
-    ∙ ap (λ (q : List ℕ). (done ++ cs) ++ q) (drop-drop m n before)
-  where
-    front : take n table ≡ done
-    front = ap (take n) is ∙ take-at done (drop n before) n long
-
-    back : drop n table ≡ drop n before
-    back = ap (drop n) is ∙ drop-at done (drop n before) n long
-
-    short : length (drop n table) ≤ length table - n
-    short = omega (arith, length-drop n table)
-
-    none : drop (length table - n) (drop n table) ≡ []
-    none = drop-of-length-le (drop n table) short
-
-    part-rest : part ≡ drop n before
-    part-rest = part-is ∙ take-all (length table - n) (drop n table) short ∙ back
 
 -- ---- the walk
 
@@ -365,9 +340,9 @@ module _ {list : List ℕ} {p : ℕ} {values : List ℤ} {before table : List �
       within = rw after-values (law .within known-values next (w .within) (parted .0) in-range);
       done = w .done ++ here .cells known-values next;
       done-long = omega (arith, length-append (w .done) (here .cells known-values next), w .done-long, wide, cells-after);
-      table-is = part-written before (w .done) (here .cells known-values next) part written table (c .cells) (here .width) (w .done-long) (w .table-is) wide refl
+      table-is = written-after (c .cells) (here .width) (d .cells) before table written (w .done) (here .cells known-values next) (w .done-long) (w .table-is)
           (rw (w .stands .counted .values-are) written-is)
-          ∙ ap (λ (i : ℕ). (w .done ++ here .cells known-values next) ++ drop i before) cells-after;
+          (sym cells-after);
       to-come = parted .1 .0;
       left-worked = rw (add-one (w .number), after-values, ← inputs-after, ← drop-drop (here .inputs) (c .inputs) (w .asked .inputs)) (parted .1 .1);
       all-cells = append-assoc (w .done) (here .cells known-values next) (parted .1 .0) ∙ ap (λ (q : List ℕ). w .done ++ q) (parted .1 .2) ∙ w .all-cells;
