@@ -4,9 +4,8 @@ use mathlib.Core.List.{List, [], _∷_, _++_}
 use mathlib.Core.Logic.{_↔_}
 use Prim.Native.Nat.{ℕ, zero, suc, _+_, _-_, _≤_, _<_}
 use native.Mathlib.Omega.{arith}
-use native.Mathlib.Nat.{add-suc, add-zero}
-use lib.ListN.{length, getD, take, drop, length-drop, take-append-drop}
-use lib.Seq.{take-add, drop-drop, drop-cons, length-take-le, take-at, drop-at, drop-length, take-all}
+use lib.ListN.{length, getD, take, drop, length-drop}
+use lib.Seq.{take-add, drop-drop, drop-cons, length-take-le, take-at, drop-at}
 
 -- the count cells from the one called at
 unfoldable pub cellsAt : List ℕ → (at count : ℕ) → List ℕ

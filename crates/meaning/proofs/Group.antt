@@ -1,23 +1,22 @@
 -- A digit group: its rows hold exactly where the form's whole number lies in L..L+c-1 and the group's cells are its digits.
 -- This is the one place where rows meet the digit rule of algebra; every line with digits goes by it. Then groups one after another.
 use mathlib.Core.Path.{_≡_, refl, sym, ap, _∙_}
-use mathlib.Core.Bool.{Bool, _&&_}
 use mathlib.Core.List.{List, [], _∷_, _++_}
 use mathlib.Core.Logic.{_↔_}
 use Prim.Native.Nat.{ℕ, zero, suc, _+_, _-_, _*_, _^_, _≤_, _<_}
 use native.Mathlib.Omega.{arith}
 use native.Mathlib.Nat.{mul-zero, one-mul}
-use lib.Dec.{T, leb, leb→le}
-use lib.ListN.{length, getD, length-append}
-use lib.IntN.{ℤ, pos, natAbs, _+ℤ_, _-ℤ_, _*ℤ_}
-use lib.Signed.{_≤ℤ_, leZ}
+use lib.Dec.{T, leb→le}
+use lib.ListN.{length, length-append}
+use lib.IntN.{ℤ, pos, natAbs, _+ℤ_, _-ℤ_}
+use lib.Signed.{_≤ℤ_}
 use Rattle.algebra.specs.Congruence.{Congruent}
 use Rattle.algebra.specs.Digits.{value, digits, Below}
-use Rattle.algebra.proofs.Test.{left, right, leZ-iff}
+use Rattle.algebra.proofs.Test.{left, right}
 use Rattle.algebra.proofs.Congruence.{congruent-≡, congruent-refl, congruent-sym, congruent-trans, congruent--}
 use Rattle.algebra.proofs.Digits.{length-digits, digits-below, base-below-power, DigitRule, digit-rule}
 use Rattle.meaning.specs.Known.{Ends, digitRule}
-use Rattle.meaning.specs.Row.{Form, cell, constant, _⊕_, _⊖_, _⊗_, eval, Row, _≅_, digitRows, placeValues, group}
+use Rattle.meaning.specs.Row.{Form, constant, _⊖_, eval, Row, _≅_, digitRows, placeValues, group}
 use Rattle.meaning.specs.Gadget.Digits.{groupCells}
 use Rattle.meaning.proofs.Cells.{cellsAt, cellsAt-zero, cellsAt-suc, length-cellsAt, append-iff}
 use Rattle.meaning.proofs.Hold.{Hold, hold-append, row-holds, digit-holds}

@@ -1,10 +1,9 @@
 -- Rows that hold, as propositions: all rows of a list, a row of two sides as a congruence, a row of a digit as an order.
-use mathlib.Core.Path.{_≡_}
 use mathlib.Core.List.{List, [], _∷_, _++_}
 use mathlib.Core.Logic.{_↔_}
 use Prim.Native.Nat.{ℕ, zero, suc, _<_}
 use native.Mathlib.Omega.{arith}
-use lib.Dec.{T, eqb→eq}
+use lib.Dec.{T}
 use lib.ListN.{length, getD}
 use Rattle.algebra.specs.Congruence.{Congruent, remainder}
 use Rattle.algebra.proofs.Test.{eqb-iff, ltb-iff}

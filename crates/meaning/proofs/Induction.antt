@@ -1,19 +1,17 @@
 -- The induction over the list, by the law of a line alone: the rows of a list hold in a table exactly where working from the table's own
 -- inputs meets no false statement and gives the table's cells.
-use mathlib.Core.Path.{_≡_, refl, sym, ap, ap₂, _∙_, subst}
+use mathlib.Core.Path.{_≡_, refl, sym, ap, _∙_, subst}
 use mathlib.Core.Bool.{Bool, true, false, cond}
 use mathlib.Core.List.{List, [], _∷_, _++_, map}
-use mathlib.Core.Logic.{_↔_, _⊎_, inl, inr, ⊎-elim}
-use Prim.Native.Nat.{ℕ, zero, suc, _+_, _-_, _≤_, _<_, min}
+use mathlib.Core.Logic.{_↔_}
+use Prim.Native.Nat.{ℕ, zero, suc, _+_, _-_, _≤_, _<_}
 use native.Mathlib.Omega.{arith}
-use native.Mathlib.Nat.{add-assoc}
 use lib.Dec.{T}
-use lib.ListN.{length, getD, take, drop, length-take, length-drop, length-append, length-map, take-append-drop}
+use lib.ListN.{length, getD, take, drop, length-take, length-drop, length-map, take-append-drop}
 use lib.Seq.{take-take, drop-drop, drop-cons, drop-length, drop-at, take-at}
 use lib.IntN.{ℤ, pos}
 use Rattle.algebra.specs.Congruence.{remainder}
 use Rattle.algebra.specs.Digits.{Below}
-use Rattle.algebra.proofs.Test.{decide, test-≡}
 use Rattle.meaning.specs.Number.{inRange, signed}
 use Rattle.meaning.specs.Line.{Line}
 use Rattle.meaning.specs.Known.{Ends, Known}
@@ -22,11 +20,11 @@ use Rattle.meaning.specs.Meaning.{gadget, placesFrom, after}
 use Rattle.meaning.specs.Work.{Worked, false-at, true-table, withCells, workFrom}
 use Rattle.meaning.specs.Reply.{rowsFrom}
 use Rattle.meaning.specs.Claims.{inputCellsFrom, signedAt}
-use Rattle.meaning.proofs.Number.{OddPrime, positive, signed-range, signed-remainder}
-use Rattle.meaning.proofs.Cells.{cellsAt, length-cellsAt, head-equal, tail-equal, front-equal, back-equal}
+use Rattle.meaning.proofs.Number.{OddPrime, positive, signed-range}
+use Rattle.meaning.proofs.Cells.{cellsAt, head-equal, tail-equal}
 use Rattle.meaning.proofs.Hold.{Hold, hold-append}
-use Rattle.meaning.proofs.Law.{Within, InCells, cells-append, below-any, below-append, Before, Law}
-use Rattle.meaning.proofs.Kept.{Kept, Keeps, keeps-all}
+use Rattle.meaning.proofs.Law.{Within, InCells, cells-append, below-any, Before, Law}
+use Rattle.meaning.proofs.Kept.{Kept, keeps-all}
 use Rattle.meaning.proofs.Lines.{Sound, line-law, sound-after, same-prime}
 
 -- ---- along the list

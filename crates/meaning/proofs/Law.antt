@@ -1,7 +1,7 @@
 -- The law that every kind of line keeps, over the gadget interface. In it p is the prime after the line, vs are the values before it,
 -- each between its known ends and standing in its cell of a table t with all cells below p. The law says: the line's rows hold
 -- exactly where its statement is true and its cells in t are its true cells; and the values that it makes lie between their ends.
-use mathlib.Core.Path.{_≡_, refl, sym, ap, ap₂, _∙_}
+use mathlib.Core.Path.{_≡_, refl, ap}
 use mathlib.Core.List.{List, [], _∷_, _++_, map}
 use mathlib.Core.Logic.{_↔_}
 use Prim.Native.Nat.{ℕ, zero, suc, _+_, _≤_, _<_}
@@ -18,8 +18,7 @@ use Rattle.meaning.specs.Known.{Ends, ends, Known, endsOf, placeOf}
 use Rattle.meaning.specs.Row.{cell, eval}
 use Rattle.meaning.specs.Gadget.Interface.{Gadget}
 use Rattle.meaning.specs.Gadget.Digits.{valueAt}
-use Rattle.meaning.specs.Meaning.{placesFrom}
-use Rattle.meaning.proofs.Cells.{cellsAt, cellsAt-suc, head-equal, tail-equal}
+use Rattle.meaning.proofs.Cells.{cellsAt}
 use Rattle.meaning.proofs.Hold.{Hold}
 
 -- ---- ends, values and cells, one beside the other

@@ -1,25 +1,21 @@
 -- Every line that keeps its rules has the law of its kind: the one place where the kinds of lines are told apart.
-use mathlib.Core.Path.{_≡_, refl, sym, ap, _∙_, subst}
+use mathlib.Core.Path.{_≡_, refl, sym, subst}
 use mathlib.Core.Bool.{Bool, true, false, _&&_}
 use mathlib.Core.List.{List, [], _∷_}
 use mathlib.Core.Logic.{_⊎_, inl, inr, ⊎-elim}
-use Prim.Native.Nat.{ℕ, zero, suc, _+_, _≤_, _<_}
+use Prim.Native.Nat.{ℕ, zero, suc, _≤_, _<_}
 use native.Mathlib.Omega.{arith}
 use lib.Dec.{T, ltb, ltb→lt}
-use lib.ListN.{length, getD}
+use lib.ListN.{length}
 use lib.IntN.{ℤ, pos, negsuc, natAbs}
-use lib.Signed.{_≤ℤ_, leZ, nonNeg}
+use lib.Signed.{_≤ℤ_, nonNeg}
 use Rattle.algebra.proofs.Test.{left, right}
 use Rattle.algebra.proofs.Integer.Linear.{linear}
-use Rattle.algebra.proofs.Integer.Order.{natAbs-parts, negativePart-zero}
 use Rattle.meaning.specs.Number.{inRange, oddPrime}
 use Rattle.meaning.specs.Line.{Word, field, input, span, sum, relu, which, max, root, Line, numberAt, sizeAt, alternate, withoutFirst}
-use Rattle.meaning.specs.Line.{namesOf, coefficientsOf, shiftsOf, Digits, digitsAt, digitsOf}
+use Rattle.meaning.specs.Line.{namesOf, coefficientsOf, shiftsOf, digitsAt, digitsOf}
 use Rattle.meaning.specs.Known.{Known, fresh}
-use Rattle.meaning.specs.Gadget.Interface.{Gadget}
-use Rattle.meaning.specs.Gadget.Sum.{Term, termsOf}
-use Rattle.meaning.specs.Gadget.Relu.{reluLine}
-use Rattle.meaning.specs.Gadget.Which.{whichLine}
+use Rattle.meaning.specs.Gadget.Sum.{termsOf}
 use Rattle.meaning.specs.Meaning.{byWord, gadget, primeAfter, after}
 use Rattle.meaning.specs.Refusal.{all, isField, isPlaced, isOverPrime, isDigits, isRanged, isMade}
 use Rattle.meaning.proofs.Number.{OddPrime, odd-prime}

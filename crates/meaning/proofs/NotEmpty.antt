@@ -1,13 +1,13 @@
 -- The claims speak of something: there are read lists with a line of each kind whose true table exists, and the list of a field line
 -- alone has just the empty table.
-use mathlib.Core.Path.{_≡_, refl, sym, ap, _∙_, subst}
+use mathlib.Core.Path.{_≡_, refl, sym, ap, _∙_}
 use mathlib.Core.Bool.{Bool, false, _||_}
 use mathlib.Core.List.{List, [], _∷_, _++_}
 use mathlib.Core.Logic.{_↔_, ⊎-elim}
-use Prim.Native.Nat.{ℕ, _+_, _<_}
+use Prim.Native.Nat.{ℕ, _+_}
 use native.Mathlib.Omega.{arith}
-use lib.Dec.{T, eqb}
-use lib.ListN.{length, getD}
+use lib.Dec.{T}
+use lib.ListN.{length}
 use lib.IntN.{ℤ, pos}
 use Rattle.algebra.proofs.Test.{false-not}
 use Rattle.meaning.specs.Text.{sameBytes}
@@ -19,7 +19,7 @@ use Rattle.meaning.specs.Refusal.{all, isField, isPlaced, read, reading}
 use Rattle.meaning.specs.Row.{Row}
 use Rattle.meaning.specs.Work.{true-table, work}
 use Rattle.meaning.specs.Reply.{reply, rowsFrom, rowsOf, checkReply}
-use Rattle.meaning.specs.Claims.{WellFormed, knownAfter}
+use Rattle.meaning.specs.Claims.{knownAfter}
 use Rattle.meaning.specs.Examples.{listText}
 use Rattle.meaning.specs.Compute.{computing}
 use Rattle.meaning.proofs.Kept.{Keeps, keeps-all}

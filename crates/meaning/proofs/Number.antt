@@ -1,19 +1,17 @@
 -- The signed reading: over an odd prime p = 2M+1, the remainders below p and the whole numbers in -M..M are read as each other.
-use mathlib.Core.Path.{_≡_, refl, sym, ap, subst, _∙_}
-use mathlib.Core.Bool.{Bool, true, false, cond, not, _&&_}
+use mathlib.Core.Path.{_≡_, refl, subst}
+use mathlib.Core.Bool.{not}
 use mathlib.Core.List.{[], _∷_}
 use mathlib.Core.Logic.{_≢_, _↔_}
-use Prim.Native.Nat.{ℕ, zero, suc, _+_, _-_, _*_, _/_, _%_, _≤_, _<_}
+use Prim.Native.Nat.{ℕ, zero, suc, _-_, _*_, _%_, _≤_, _<_}
 use native.Mathlib.Omega.{arith}
 use native.Mathlib.Decide.{ℕ-discrete}
-use native.Mathlib.Nat.{div-add-mod', mod-lt}
-use lib.Dec.{T, eqb, leb, leb→le, eqb→eq, eqb-refl, T-not}
-use lib.IntN.{ℤ, pos, negsuc, negℤ, _+ℤ_, _-ℤ_, _*ℤ_}
-use lib.Signed.{_≤ℤ_, _<ℤ_, leZ}
+use lib.Dec.{T, eqb, leb, leb→le, T-not}
+use lib.IntN.{ℤ, pos, negsuc, _-ℤ_}
+use lib.Signed.{_≤ℤ_, leZ}
 use Rattle.algebra.specs.Congruence.{Congruent, remainder}
 use Rattle.algebra.specs.Prime.{Prime}
 use Rattle.algebra.proofs.Test.{both, left, right, cond-cases, leZ-iff, leZ-false}
-use Rattle.algebra.proofs.Integer.Order.{minus}
 use Rattle.algebra.proofs.Integer.Linear.{linear}
 use Rattle.algebra.proofs.Integer.Ring.{var, lit, _⊕_, _⊖_, _⊗_, ring}
 use Rattle.algebra.proofs.Congruence.{congruent-≡, congruent-sym, congruent-trans, near-equal}

@@ -1,10 +1,9 @@
 -- The larger and the smaller of two whole numbers, and the test of a range, as propositions of order.
 use mathlib.Core.Path.{_≡_, refl}
-use mathlib.Core.Bool.{Bool, true, false, cond, _&&_}
 use mathlib.Core.Logic.{_⊎_, inl, inr, _↔_}
 use lib.Dec.{T}
 use lib.IntN.{ℤ}
-use lib.Signed.{_≤ℤ_, _<ℤ_, leZ, ≤ℤ-refl}
+use lib.Signed.{_≤ℤ_, leZ, ≤ℤ-refl}
 use Rattle.algebra.proofs.Test.{both, left, right, cond-cases, leZ-iff, leZ-false}
 use Rattle.algebra.proofs.Integer.Linear.{linear}
 use Rattle.meaning.specs.Number.{between}

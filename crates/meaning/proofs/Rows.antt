@@ -6,7 +6,7 @@ use mathlib.Core.Path.{_≡_, refl, sym, ap, _∙_}
 use mathlib.Core.Logic.{_↔_, Iff·trans, _⊎_, inl, inr}
 use mathlib.Core.List.{List, [], _∷_}
 use mathlib.Core.Option.{Option, none, some, Option·none-ne-some, Option·some-ne-none, Option·some-injective}
-use lib.Dec.{T, ltb, eqb, eqb→eq}
+use lib.Dec.{T, eqb, eqb→eq}
 use lib.ListN.{length, getD, length-append}
 use Rattle.algebra.proofs.Test.{test-≡, eqb-iff, ltb-iff, cond-cases}
 use Rattle.meaning.specs.Line.{Line}

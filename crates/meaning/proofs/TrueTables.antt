@@ -1,17 +1,13 @@
 -- Demand 3: a table is accepted exactly when it is the true table of its own inputs, and the maker writes that table.
 use mathlib.Core.Path.{_≡_, refl, sym, ap, ap₂, _∙_, subst}
-use mathlib.Core.Bool.{true, cond}
 use mathlib.Core.List.{List, [], _∷_, map}
 use mathlib.Core.Logic.{_↔_}
-use mathlib.Core.Option.{Option, none, some}
-use Prim.Native.Nat.{ℕ, zero, suc, _+_, _≤_, _<_}
+use Prim.Native.Nat.{ℕ, zero, suc, _+_, _<_}
 use native.Mathlib.Omega.{arith}
 use native.Mathlib.Nat.{zero-add}
 use lib.Dec.{T, eqb}
-use lib.ListN.{length, getD, drop}
+use lib.ListN.{length, getD}
 use lib.IntN.{ℤ, pos}
-use lib.Signed.{_≤ℤ_}
-use Rattle.algebra.specs.Congruence.{remainder}
 use Rattle.algebra.specs.Digits.{Below}
 use Rattle.algebra.proofs.Test.{test-≡, eqb-iff}
 use Rattle.algebra.proofs.Integer.Linear.{linear}
@@ -20,19 +16,19 @@ use Rattle.meaning.specs.Line.{Line}
 use Rattle.meaning.specs.Known.{Ends, Known, fresh}
 use Rattle.meaning.specs.Meaning.{after}
 use Rattle.meaning.specs.Refusal.{onSome, onReading, read, reading}
-use Rattle.meaning.specs.Work.{Worked, false-at, true-table, workFrom, work}
+use Rattle.meaning.specs.Work.{Worked, true-table, work}
 use Rattle.meaning.specs.Reply.{reply, rowsOf, checkReply, Making, filled, made, makeReply}
-use Rattle.meaning.specs.Claims.{WellFormed, Holds, inputCellsFrom, signedAt, inputsOf, valuesOf, AcceptsTrueTables, Column, MakesTheOnly}
+use Rattle.meaning.specs.Claims.{WellFormed, signedAt, inputsOf, valuesOf, AcceptsTrueTables, Column, MakesTheOnly}
 use Rattle.meaning.proofs.Lists.{all-pass}
-use Rattle.meaning.proofs.Number.{OddPrime, range-test, signed-range, signed-remainder}
-use Rattle.meaning.proofs.Hold.{Hold, hold-each}
+use Rattle.meaning.proofs.Number.{OddPrime, range-test, signed-remainder}
+use Rattle.meaning.proofs.Hold.{hold-each}
 use Rattle.meaning.proofs.Law.{Within, InCells, Ranged, below-at}
 use Rattle.meaning.proofs.Kept.{Kept, keeps-all}
 use Rattle.meaning.proofs.Lines.{Sound, sound-after, sound-fresh}
 use Rattle.meaning.proofs.Reading.{read-kept}
 use Rattle.meaning.proofs.Rows.{accepted-iff}
 use Rattle.meaning.proofs.Induction.{rows-iff, cellsIn, IsTrue}
-use Rattle.meaning.proofs.Working.{AllInRange, Made, working-gives}
+use Rattle.meaning.proofs.Working.{Made, working-gives}
 
 -- ---- tables with all cells below p, told cell by cell and as a whole
 

@@ -1,14 +1,13 @@
 -- What working a list without a false statement gives: a table of the list's length with all cells below p, whose values lie between
 -- their known ends, and in whose cells the inputs and the values stand. By the law of a line alone.
 use mathlib.Core.Path.{_≡_, refl, sym, ap, ap₂, _∙_, subst}
-use mathlib.Core.Bool.{cond}
 use mathlib.Core.List.{List, [], _∷_, _++_, map}
-use Prim.Native.Nat.{ℕ, zero, suc, _+_, _-_, _≤_, _<_, min}
+use Prim.Native.Nat.{ℕ, zero, suc, _+_, _-_, _≤_, _<_}
 use native.Mathlib.Omega.{arith}
 use native.Mathlib.Nat.{add-zero}
 use lib.Dec.{T}
 use lib.ListN.{length, getD, take, drop, length-take, length-drop, length-append}
-use lib.Seq.{getD-take, getD-drop, drop-length}
+use lib.Seq.{getD-take, getD-drop}
 use lib.IntN.{ℤ, pos}
 use Rattle.algebra.specs.Congruence.{remainder}
 use Rattle.algebra.specs.Digits.{Below}
@@ -17,7 +16,7 @@ use Rattle.meaning.specs.Line.{Line}
 use Rattle.meaning.specs.Known.{Known}
 use Rattle.meaning.specs.Gadget.Interface.{Gadget}
 use Rattle.meaning.specs.Meaning.{gadget, after}
-use Rattle.meaning.specs.Work.{Worked, true-table, workFrom}
+use Rattle.meaning.specs.Work.{true-table, workFrom}
 use Rattle.meaning.specs.Claims.{inputCellsFrom, signedAt}
 use Rattle.meaning.proofs.Number.{OddPrime, signed-remainder}
 use Rattle.meaning.proofs.Cells.{cellsAt}

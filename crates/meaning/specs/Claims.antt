@@ -2,20 +2,20 @@
 -- Their proofs are terms of these types, in proofs/.
 use Prim.Native.Nat.{ℕ, _+_, _<_, _^_}
 use mathlib.Core.Path.{_≡_}
-use mathlib.Core.Bool.{Bool, true, false, not}
+use mathlib.Core.Bool.{Bool, true, not}
 use mathlib.Core.Logic.{_↔_, _⊎_}
 use mathlib.Core.List.{List, [], _∷_, _++_, map}
 use mathlib.Core.Option.{Option, none, some}
-use lib.Dec.{T, eqb}
+use lib.Dec.{T}
 use lib.ListN.{length, getD, take}
 use lib.IntN.{ℤ, pos}
 use Rattle.meaning.specs.Number.{signed, inRange}
 use Rattle.meaning.specs.Text.{linesOf, isEnded}
 use Rattle.meaning.specs.Line.{Line, lineOf}
 use Rattle.meaning.specs.Known.{Known, fresh}
-use Rattle.meaning.specs.Row.{Row, among, holds}
+use Rattle.meaning.specs.Row.{among, holds}
 use Rattle.meaning.specs.Meaning.{gadget, after}
-use Rattle.meaning.specs.Refusal.{textLimit, Rule, rule, rules, Reading, refused, read, reading}
+use Rattle.meaning.specs.Refusal.{textLimit, Rule, rule, rules, refused, read, reading}
 use Rattle.meaning.specs.Work.{false-at, true-table, work}
 use Rattle.meaning.specs.Reply.{Reply, reply, rowsOf, checkReply, makeReply}
 use Rattle.meaning.specs.Desk.{Desk, called, freshDesk, fullCount, isAccepted, deskCall, Call, deskAfter, deskReplies}

@@ -6,12 +6,11 @@ use Prim.Native.String.{String}
 use mathlib.Core.Bool.{Bool, true, false, _&&_}
 use mathlib.Core.List.{List, [], _∷_, _++_}
 use lib.Dec.{T, eqb}
-use lib.ListN.{length, replicate}
+use lib.ListN.{replicate}
 use lib.IntN.{ℤ, pos, negℤ}
 use lib.Signed.{leZ}
 use Rattle.meaning.specs.Text.{bytes, sameBytes, numberText}
 use Rattle.meaning.specs.Line.{Word, field, input, span, sum, relu, which, max, root, Line, spelling}
-use Rattle.meaning.specs.Known.{Known}
 use Rattle.meaning.specs.Refusal.{onReading, reading}
 use Rattle.meaning.specs.Reply.{Reply, reply, Answer, counts, refusal, readReply, checkReply, Making, makeReply}
 use Rattle.meaning.specs.Program.{refusalText, tableText, respond}

@@ -6,10 +6,8 @@ use mathlib.Core.List.{List, [], _∷_, _++_}
 use mathlib.Core.Option.{Option, none, some}
 use lib.Dec.{leb, eqb}
 use lib.ListN.{length, replicate}
-use lib.IntN.{ℤ}
 use Rattle.meaning.specs.Text.{bytes, sameBytes, linesOf, isEnded, number, decimalOf}
-use Rattle.meaning.specs.Line.{Line, numbersOf}
-use Rattle.meaning.specs.Known.{Known}
+use Rattle.meaning.specs.Line.{numbersOf}
 use Rattle.meaning.specs.Refusal.{textLimit, onSome, onReading, reading}
 use Rattle.meaning.specs.Reply.{Reply, reply, firstFail, Making, made}
 

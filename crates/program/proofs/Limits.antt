@@ -10,7 +10,7 @@ use Rattle.meaning.specs.Text.{onFirst, split, withoutLast, linesOf}
 use Rattle.meaning.specs.Line.{Line}
 use Rattle.meaning.specs.Known.{Known, fresh}
 use Rattle.meaning.specs.Meaning.{gadget, after}
-use Rattle.meaning.specs.Refusal.{valueLimit, cellLimit, read}
+use Rattle.meaning.specs.Refusal.{valueLimit, cellLimit}
 use Rattle.meaning.specs.Reply.{made}
 use Rattle.meaning.specs.Program.{joined}
 use Rattle.meaning.proofs.Kept.{Kept, Keeps, keeps-all}

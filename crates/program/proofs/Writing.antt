@@ -7,7 +7,6 @@ use native.Mathlib.Numerals.{add-one}
 use lib.ListN.{length, getD, take, drop, set, length-append, length-drop}
 use lib.Seq.{length-take-le, take-all, take-suc, drop-cons, set-at}
 use borrow.Rule.Slice.PartMut.{putMid}
-use Rattle.meaning.specs.Text.{bytes}
 use Rattle.table.proofs.CellsPart.{written-after}
 use Rattle.program.specs.Written.{Written}
 

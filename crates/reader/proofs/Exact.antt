@@ -8,7 +8,7 @@ use Rattle.meaning.specs.Known.{Known}
 use Rattle.meaning.specs.Refusal.{Reading, refused, read, onReading, reading}
 use Rattle.meaning.specs.Reply.{Answer, reply, counts, refusal, readReply}
 use Rattle.meaning.proofs.Reading.{reads-exactly}
-use Rattle.reader.specs.Read.{Survey, surveyOf, surveySeen, replyOf, Exact}
+use Rattle.reader.specs.Read.{surveyOf, surveySeen, replyOf, Exact}
 use Rattle.reader.specs.declared.state.Counts.{Counts}
 use Rattle.reader.specs.declared.read.Surveyed.{Surveyed}
 use Rattle.reader.specs.declared.read.Surveyed.the-variants.{Counted, NotRead}

@@ -17,7 +17,6 @@ use Rattle.reader.specs.State.{greatest}
 use Rattle.reader.specs.Step.{Step, stops, goes}
 use Rattle.reader.specs.declared.read.First.{First}
 use Rattle.reader.specs.declared.read.First.the-variants.{Prime, NotFirst}
-use Rattle.reader.specs.declared.state.Counts.{Counts}
 use Rattle.reader.specs.declared.read.Surveyed.{Surveyed}
 use Rattle.reader.specs.declared.read.Surveyed.the-variants.{Counted, NotRead}
 use Rattle.reader.specs.declared.read.Answer.{Answer}

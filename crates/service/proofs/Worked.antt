@@ -39,7 +39,6 @@ use Rattle.table.specs.declared.value.Worked.{Worked}
 use Rattle.table.specs.declared.value.Worked.the-variants.{Value, NoValue, False}
 use Rattle.service.specs.Walk.{Stands, ListRead}
 use Rattle.service.specs.Make.{withValue, isTrue, WorkAsked, WorkDone}
-use Rattle.service.specs.declared.working.Working.{Working}
 use Rattle.service.specs.declared.working.Working.the-variants.{AllTrue, FalseAt}
 use Rattle.service.proofs.Listed.{same-lines, same-last}
 use Rattle.service.proofs.Standing.{stands-first, nothing-left, known-last, line-kept}

@@ -3,11 +3,6 @@ use Rattle.program.proofs.Answering.{written-within, written-count}
 use borrow.Author.Needs.{needs}
 use Rattle.digit_table.proofs.main.Statement.{statement}
 use Rattle.digit_table.proofs.main.Tie as tie
-use Rattle.digit_table.proofs.main.Reads as reads
-use Rattle.digit_table.proofs.main.Lts as lts
-use Rattle.io.proofs.read_full.Reads as read-full-reads
-use Rattle.io.proofs.write_all.Reads as write-all-reads
-use Rattle.program.proofs.respond.Reads as respond-reads
 
 -- src/main.rt:11:44
 slice-aggregate-read-full : tie.Need-slice-aggregate-read-full

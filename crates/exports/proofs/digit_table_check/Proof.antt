@@ -3,9 +3,6 @@ use Rattle.service.specs.Reply.{replySeen}
 use borrow.Author.Needs.{needs}
 use Rattle.exports.proofs.digit_table_check.Statement.{statement}
 use Rattle.exports.proofs.digit_table_check.Tie as tie
-use Rattle.exports.proofs.digit_table_check.Reads as reads
-use Rattle.exports.proofs.digit_table_check.Lts as lts
-use Rattle.service.proofs.check.Reads as check-reads
 
 check-requires : tie.Need-check-requires
 check-requires c κs = search needs

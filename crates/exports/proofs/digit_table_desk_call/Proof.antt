@@ -4,9 +4,6 @@ use Rattle.desk.specs.Desk.{deskSeen, calledSeen}
 use borrow.Author.Needs.{needs}
 use Rattle.exports.proofs.digit_table_desk_call.Statement.{statement}
 use Rattle.exports.proofs.digit_table_desk_call.Tie as tie
-use Rattle.exports.proofs.digit_table_desk_call.Reads as reads
-use Rattle.exports.proofs.digit_table_desk_call.Lts as lts
-use Rattle.desk.proofs.Desk.call.Reads as call-reads
 
 call-requires : tie.Need-call-requires
 call-requires c κs = search needs

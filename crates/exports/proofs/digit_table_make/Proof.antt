@@ -5,9 +5,6 @@ use Rattle.service.specs.Reply.{replySeen}
 use borrow.Author.Needs.{needs}
 use Rattle.exports.proofs.digit_table_make.Statement.{statement}
 use Rattle.exports.proofs.digit_table_make.Tie as tie
-use Rattle.exports.proofs.digit_table_make.Reads as reads
-use Rattle.exports.proofs.digit_table_make.Lts as lts
-use Rattle.service.proofs.make.Reads as make-reads
 
 make-requires : tie.Need-make-requires
 make-requires c κs = search needs

@@ -6,9 +6,6 @@ use Rattle.exports.specs.Read.{numbersOf}
 use borrow.Author.Needs.{needs}
 use Rattle.exports.proofs.digit_table_read.Statement.{statement}
 use Rattle.exports.proofs.digit_table_read.Tie as tie
-use Rattle.exports.proofs.digit_table_read.Reads as reads
-use Rattle.exports.proofs.digit_table_read.Lts as lts
-use Rattle.reader.proofs.read.read.Reads as read-reads
 
 read-requires : tie.Need-read-requires
 read-requires c κs = search needs

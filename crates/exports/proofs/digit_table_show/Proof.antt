@@ -4,11 +4,6 @@ use Rattle.exports.proofs.Shown.{too-long-told, first-told}
 use borrow.Author.Needs.{needs}
 use Rattle.exports.proofs.digit_table_show.Statement.{statement}
 use Rattle.exports.proofs.digit_table_show.Tie as tie
-use Rattle.exports.proofs.digit_table_show.Reads as reads
-use Rattle.exports.proofs.digit_table_show.Lts as lts
-use Rattle.exports.proofs.first_of.Reads as first-of-reads
-use Rattle.exports.proofs.number_cells.Reads as number-cells-reads
-use Rattle.service.proofs.show.Reads as show-reads
 
 returns : tie.Need-returns
 returns c =

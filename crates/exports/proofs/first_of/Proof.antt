@@ -6,9 +6,6 @@ use denote.Ref.{now}
 use borrow.Author.Needs.{needs}
 use Rattle.exports.proofs.first_of.Statement.{statement}
 use Rattle.exports.proofs.first_of.Tie as tie
-use Rattle.exports.proofs.first_of.Reads as reads
-use Rattle.exports.proofs.first_of.Lts as lts
-use Rattle.exports.proofs.wide.Reads as wide-reads
 
 returns : tie.Need-returns
 returns c =

@@ -6,8 +6,6 @@ use borrow.Author.Needs.{needs}
 use Rattle.exports.proofs.Numbered.{Numbering, numbering-none, numbering-next, numbering-end}
 use Rattle.exports.proofs.number_cells.Statement.{statement}
 use Rattle.exports.proofs.number_cells.Tie as tie
-use Rattle.exports.proofs.number_cells.Reads as reads
-use Rattle.exports.proofs.number_cells.Lts as lts
 
 abbrev Inv-loop : tie.InvT-loop
 Inv-loop cells₀ i₀ cells i = Numbering cells₀ cells i

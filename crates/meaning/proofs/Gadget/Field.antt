@@ -1,6 +1,6 @@
 -- The law of a field line: nothing is made, and nothing is asked.
 use mathlib.Core.Path.{refl}
-use mathlib.Core.List.{[], _++_}
+use mathlib.Core.List.{[]}
 use Prim.Native.Nat.{ℕ}
 use native.Mathlib.Omega.{arith}
 use Rattle.meaning.specs.Known.{Known}

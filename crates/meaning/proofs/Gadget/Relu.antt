@@ -1,29 +1,27 @@
 -- The law of a relu line: the group tells v and its sign, and the last row f·v ≡ y makes y the greater of 0 and v.
-use mathlib.Core.Path.{_≡_, refl, sym, ap, _∙_}
-use mathlib.Core.Bool.{true}
-use mathlib.Core.List.{List, [], _∷_}
-use mathlib.Core.Logic.{⊎-elim, _↔_}
-use Prim.Native.Nat.{ℕ, zero, suc, _+_, _≤_, _<_}
+use mathlib.Core.Path.{_≡_, refl, sym, _∙_}
+use mathlib.Core.List.{[], _∷_}
+use mathlib.Core.Logic.{⊎-elim}
+use Prim.Native.Nat.{ℕ, zero, suc, _≤_, _<_}
 use native.Mathlib.Omega.{arith}
 use lib.Dec.{T}
 use lib.ListN.{length, getD}
 use lib.IntN.{ℤ, pos, _*ℤ_}
-use lib.Signed.{_≤ℤ_, _<ℤ_, ≤ℤ-refl}
-use Rattle.algebra.specs.Congruence.{Congruent, remainder}
+use lib.Signed.{_≤ℤ_, ≤ℤ-refl}
+use Rattle.algebra.specs.Congruence.{Congruent}
 use Rattle.algebra.proofs.Integer.Linear.{linear}
 use Rattle.algebra.proofs.Integer.Ring.{var, lit, _⊗_ as _⊠_, ring}
-use Rattle.algebra.proofs.Congruence.{congruent-≡, congruent-sym, congruent-trans, congruent-*, congruent-refl, residue-iff}
-use Rattle.meaning.specs.Number.{lowest, highest}
+use Rattle.algebra.proofs.Congruence.{congruent-≡, congruent-sym, congruent-trans, residue-iff}
+use Rattle.meaning.specs.Number.{highest}
 use Rattle.meaning.specs.Known.{Known, Ends, ends, endsOf, placeOf, larger}
-use Rattle.meaning.specs.Row.{Form, cell, _⊗_, eval, Row, _≅_, holds}
+use Rattle.meaning.specs.Row.{Form, cell, _⊗_, eval, Row, _≅_}
 use Rattle.meaning.specs.Gadget.Digits.{valueAt}
-use Rattle.meaning.specs.Gadget.Sign.{signShift}
 use Rattle.meaning.specs.Gadget.Relu.{reluLine}
 use Rattle.meaning.proofs.Number.{OddPrime, positive, lowest-zero, one-highest}
-use Rattle.meaning.proofs.Order.{larger-left, larger-right, larger-least, larger-keeps, larger-is-left, larger-is-right}
+use Rattle.meaning.proofs.Order.{larger-left, larger-least, larger-keeps, larger-is-left, larger-is-right}
 use Rattle.meaning.proofs.Hold.{row-holds}
-use Rattle.meaning.proofs.Law.{Within, InCells, Ranged, low-end, high-end, low-ranged, high-ranged, value-congruent, Law}
-use Rattle.meaning.proofs.Gadget.Sign.{Flag, Signs, sign-law}
+use Rattle.meaning.proofs.Law.{Ranged, low-end, high-end, high-ranged, value-congruent, Law}
+use Rattle.meaning.proofs.Gadget.Sign.{Flag, sign-law}
 
 -- f·v is the greater of 0 and v, whatever congruent number stands for v
 product-larger : (p : ℕ) (v x : ℤ) (f : ℕ) → Congruent p v x → Flag x f → Congruent p (pos f *ℤ v) (larger (pos 0) x)

@@ -1,22 +1,21 @@
 -- What the laws of relu and which share: a digit group over x with shift -B, then f and w. The group tells x and its digits; its top
 -- digit is b-1 exactly where x is not negative; and the three rows about t = d(k-1)-(b-1) leave one choice of f and w, p being prime.
-use mathlib.Core.Path.{_≡_, refl, sym, ap, ap₂, _∙_}
-use mathlib.Core.Bool.{Bool, true, false, cond}
+use mathlib.Core.Path.{_≡_, refl, sym, ap, _∙_}
+use mathlib.Core.Bool.{true, cond}
 use mathlib.Core.List.{List, [], _∷_, _++_}
-use mathlib.Core.Logic.{_⊎_, inl, inr, ⊎-elim, _↔_, _≢_}
+use mathlib.Core.Logic.{_⊎_, inl, inr, ⊎-elim, _↔_}
 use Prim.Native.Nat.{ℕ, zero, suc, _+_, _-_, _*_, _/_, _%_, _^_, _≤_, _<_}
 use native.Mathlib.Omega.{arith}
 use native.Mathlib.Nat.{mod-lt, mod-eq-of-lt, pow-succ', add-suc}
 use lib.Dec.{T, eqb}
 use lib.ListN.{length, getD, take, drop, length-append}
 use lib.Seq.{getD-take, getD-drop}
-use lib.IntN.{ℤ, pos, negsuc, negℤ, natAbs, _+ℤ_, _-ℤ_, _*ℤ_}
+use lib.IntN.{ℤ, pos, negsuc, natAbs, _+ℤ_, _-ℤ_, _*ℤ_}
 use lib.Signed.{_≤ℤ_, _<ℤ_}
 use Rattle.algebra.specs.Congruence.{Congruent, remainder, inverse}
-use Rattle.algebra.specs.Prime.{Prime}
-use Rattle.algebra.specs.Digits.{Below, digits}
+use Rattle.algebra.specs.Digits.{Below}
 use Rattle.algebra.proofs.Test.{cond-cases, eqb-iff, eqb-false, decide, test-≡, order}
-use Rattle.algebra.proofs.Integer.Order.{positivePart, negativePart, negativePart-zero, natAbs-parts, subℕ-parts, plus, minus, positivePart-negation, negativePart-negation, integer}
+use Rattle.algebra.proofs.Integer.Order.{positivePart, negativePart, negativePart-zero, natAbs-parts, subℕ-parts, minus, positivePart-negation, negativePart-negation}
 use Rattle.algebra.proofs.Integer.Linear.{linear}
 use Rattle.algebra.proofs.Integer.Ring.{var, lit, _⊕_ as _⊞_, _⊖_ as _⊟_, _⊗_ as _⊠_, ring}
 use Rattle.algebra.proofs.Congruence.{congruent-≡, congruent-refl, congruent-sym, congruent-trans, congruent-*, combination2, residue-unique}

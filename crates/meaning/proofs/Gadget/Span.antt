@@ -1,25 +1,22 @@
 -- The law of a span line: its group tells v and its digits, and v's ends may then be narrowed to what they share with L..L+c-1.
-use mathlib.Core.Path.{_≡_, refl, sym, ap, _∙_}
-use mathlib.Core.Bool.{cond}
-use mathlib.Core.List.{List, [], _∷_, _++_}
-use Prim.Native.Nat.{ℕ, zero, suc, _-_, _^_, _≤_, _<_}
+use mathlib.Core.Path.{refl}
+use mathlib.Core.List.{List, [], _∷_}
+use Prim.Native.Nat.{ℕ, zero, suc, _-_, _≤_, _<_}
 use native.Mathlib.Omega.{arith}
 use lib.Dec.{T}
 use lib.ListN.{length, getD, set}
-use lib.IntN.{ℤ, pos, natAbs, _+ℤ_, _-ℤ_}
-use lib.Signed.{_≤ℤ_, leZ}
-use Rattle.algebra.specs.Digits.{Below}
-use Rattle.algebra.proofs.Test.{both, left, right, cond-cases, leZ-iff}
-use Rattle.meaning.specs.Number.{between, lowest, highest}
-use Rattle.meaning.specs.Known.{Known, Ends, ends, endsOf, placeOf, larger, smaller, digitRule}
+use lib.IntN.{ℤ, pos}
+use lib.Signed.{_≤ℤ_}
+use Rattle.meaning.specs.Number.{lowest, highest}
+use Rattle.meaning.specs.Known.{Known, Ends, endsOf, placeOf}
 use Rattle.meaning.specs.Row.{cell}
-use Rattle.meaning.specs.Gadget.Digits.{valueAt, groupCells}
+use Rattle.meaning.specs.Gadget.Digits.{valueAt}
 use Rattle.meaning.specs.Gadget.Span.{spanTop, shared, spanLine}
 use Rattle.meaning.proofs.Number.{OddPrime, positive}
 use Rattle.algebra.proofs.Integer.Linear.{linear}
 use Rattle.meaning.proofs.Order.{between-iff, larger-left, larger-least, smaller-left, smaller-greatest}
 use Rattle.meaning.proofs.Group.{group-holds, rule-kept, rule-power, length-group, group-below}
-use Rattle.meaning.proofs.Law.{Within, Ranged, within-append, ranged-append, low-end, high-end, low-ranged, high-ranged, value-congruent, Before, Law}
+use Rattle.meaning.proofs.Law.{Within, Ranged, within-append, ranged-append, low-end, high-end, low-ranged, high-ranged, value-congruent, Law}
 
 -- narrowing the ends of one value
 set-within : (es : List Ends) (vs : List ℤ) (v : ℕ) (e : Ends) → Within es vs → e .E ≤ℤ getD vs v (pos 0) → getD vs v (pos 0) ≤ℤ e .F

@@ -1,23 +1,22 @@
 -- The law of a sum line: the sum over cells is congruent to the sum over whole numbers, which lies between the sum's known ends; as
 -- those lie in -M..M, the row determines the value's cell.
-use mathlib.Core.Path.{_≡_, refl, sym, ap, _∙_}
-use mathlib.Core.Bool.{Bool, true, _&&_}
+use mathlib.Core.Path.{refl}
+use mathlib.Core.Bool.{true}
 use mathlib.Core.List.{List, [], _∷_}
-use mathlib.Core.Logic.{_⊎_, inl, inr, ⊎-elim}
 use Prim.Native.Nat.{ℕ, zero, suc, _+_, _*_, _≤_, _<_}
 use native.Mathlib.Omega.{arith}
 use lib.Dec.{T}
 use lib.ListN.{length, getD}
-use lib.IntN.{ℤ, pos, negsuc, _+ℤ_, _-ℤ_, _*ℤ_}
-use lib.Signed.{_≤ℤ_, _<ℤ_, leZ, ≤ℤ-refl}
-use Rattle.algebra.specs.Congruence.{Congruent, remainder}
-use Rattle.algebra.proofs.Test.{left, right, order}
+use lib.IntN.{ℤ, pos, negsuc, _+ℤ_, _*ℤ_}
+use lib.Signed.{_≤ℤ_, ≤ℤ-refl}
+use Rattle.algebra.specs.Congruence.{Congruent}
+use Rattle.algebra.proofs.Test.{left, right}
 use Rattle.algebra.proofs.Integer.Order.{product-keeps, product-turns}
 use Rattle.algebra.proofs.Integer.Linear.{linear}
-use Rattle.algebra.proofs.Congruence.{congruent-≡, congruent-refl, congruent-sym, congruent-trans, congruent-+, congruent-*}
+use Rattle.algebra.proofs.Congruence.{congruent-refl, congruent-sym, congruent-trans, congruent-+, congruent-*}
 use Rattle.algebra.proofs.Congruence.{residue-iff}
 use Rattle.meaning.specs.Number.{lowest, highest, inRange}
-use Rattle.meaning.specs.Known.{Known, Ends, ends, endsOf, placeOf, larger, smaller}
+use Rattle.meaning.specs.Known.{Known, Ends, ends, endsOf, placeOf}
 use Rattle.meaning.specs.Row.{Form, cell, constant, _⊕_, _⊗_, eval, _≅_}
 use Rattle.meaning.specs.Gadget.Digits.{valueAt}
 use Rattle.meaning.specs.Gadget.Sum.{Term, scaled, added, sumEnds, endsInRange, sumFits, sumForm, sumValue, sumLine}
@@ -25,8 +24,8 @@ use Rattle.meaning.proofs.Number.{OddPrime, positive, range-low, range-
 use Rattle.meaning.proofs.Order.{larger-left, larger-right, smaller-left, smaller-right}
 use Rattle.meaning.proofs.Cells.{cellsAt-zero}
 use Rattle.meaning.proofs.Hold.{row-holds}
-use Rattle.meaning.proofs.Law.{Within, InCells, Ranged, low-end, high-end, value-congruent, below-at, Before, Law}
-use Rattle.meaning.proofs.Gadget.Made.{Makes, made-law}
+use Rattle.meaning.proofs.Law.{Within, InCells, Ranged, low-end, high-end, value-congruent, below-at, Law}
+use Rattle.meaning.proofs.Gadget.Made.{made-law}
 
 -- the values that the terms name are made
 abbrev pub Named : Known → List Term → Type 0

@@ -1,25 +1,23 @@
 -- The law of a which line: the group tells u-v and its sign, and the last row y ≡ 1-f makes y 0 where u ≥ v, else 1.
-use mathlib.Core.Path.{_≡_, refl, sym, ap, _∙_}
-use mathlib.Core.Bool.{cond}
-use mathlib.Core.List.{List, [], _∷_}
-use mathlib.Core.Logic.{⊎-elim, _↔_}
-use Prim.Native.Nat.{ℕ, zero, suc, _+_, _≤_, _<_}
+use mathlib.Core.Path.{_≡_, refl, sym, _∙_}
+use mathlib.Core.List.{List}
+use mathlib.Core.Logic.{⊎-elim}
+use Prim.Native.Nat.{ℕ, zero, suc, _≤_, _<_}
 use native.Mathlib.Omega.{arith}
 use lib.Dec.{T}
 use lib.ListN.{length, getD}
 use lib.IntN.{ℤ, pos, _-ℤ_}
-use lib.Signed.{_≤ℤ_, _<ℤ_, leZ, ≤ℤ-refl}
-use Rattle.algebra.specs.Congruence.{Congruent, remainder}
-use Rattle.algebra.proofs.Test.{cond-cases, leZ-iff, leZ-false, test-≡, false-leZ}
+use lib.Signed.{_≤ℤ_, leZ}
+use Rattle.algebra.proofs.Test.{cond-cases, leZ-iff, test-≡, false-leZ}
 use Rattle.algebra.proofs.Integer.Linear.{linear}
-use Rattle.algebra.proofs.Congruence.{congruent-≡, congruent-sym, congruent-trans, congruent--, residue-iff}
-use Rattle.meaning.specs.Known.{Known, Ends, ends, endsOf, placeOf, apart}
-use Rattle.meaning.specs.Row.{Form, cell, constant, _⊖_, eval, Row, _≅_, holds}
+use Rattle.algebra.proofs.Congruence.{congruent-≡, congruent-trans, congruent--, residue-iff}
+use Rattle.meaning.specs.Known.{Known, ends, endsOf, placeOf, apart}
+use Rattle.meaning.specs.Row.{Form, cell, constant, _⊖_, eval, Row, _≅_}
 use Rattle.meaning.specs.Gadget.Digits.{valueAt}
 use Rattle.meaning.specs.Gadget.Which.{whichValue, whichLine}
 use Rattle.meaning.proofs.Number.{OddPrime, positive, lowest-zero, one-highest}
 use Rattle.meaning.proofs.Hold.{row-holds}
-use Rattle.meaning.proofs.Law.{Within, InCells, Ranged, low-end, high-end, value-congruent, Law}
+use Rattle.meaning.proofs.Law.{Ranged, low-end, high-end, value-congruent, Law}
 use Rattle.meaning.proofs.Gadget.Sign.{Flag, Signs, sign-law}
 
 -- 1-f is the value

@@ -7,7 +7,7 @@ use mathlib.Core.List.{[], _∷_, _++_}
 use lib.Dec.{leb}
 use lib.IntN.{ℤ, pos, natAbs, _-ℤ_, _+ℤ_, _*ℤ_}
 use Rattle.meaning.specs.Number.{half, between, remainder}
-use Rattle.meaning.specs.Known.{Known, ends, endsOf, placeOf}
+use Rattle.meaning.specs.Known.{Known, ends, placeOf}
 use Rattle.meaning.specs.Row.{Form, cell, constant, _⊕_, _⊖_, _⊗_, _≅_, group}
 use Rattle.meaning.specs.Gadget.Interface.{Gadget}
 use Rattle.meaning.specs.Gadget.Digits.{valueAt, groupCells}

@@ -1,7 +1,7 @@
 -- What relu and which share (document 01, "Cells and rows of each line"): a digit group over x with shift -B, whose top digit
 -- is b-1 just where x is not negative; f says so in a cell, and w shows that t = d(k-1)-(b-1) is not 0 where f is 0.
 -- `inverse p t`, of algebra, is the remainder w below p with t·w ≡ 1.
-use Prim.Native.Nat.{ℕ, zero, suc, _+_, _-_, _^_, _/_, _%_}
+use Prim.Native.Nat.{ℕ, suc, _+_, _-_, _^_, _/_, _%_}
 use mathlib.Core.Bool.{Bool, cond}
 use mathlib.Core.List.{List, [], _∷_, _++_}
 use lib.Dec.{eqb}

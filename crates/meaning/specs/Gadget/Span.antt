@@ -1,7 +1,7 @@
 -- `span v b k L`: "L ≤ v ≤ L+c-1. Makes no value." Its cells and rows are "the group over v with shift L".
 use Prim.Native.Nat.{ℕ, _-_, _^_}
 use mathlib.Core.Bool.{true}
-use mathlib.Core.List.{List, []}
+use mathlib.Core.List.{[]}
 use lib.ListN.{set}
 use lib.IntN.{ℤ, pos, _+ℤ_}
 use lib.Signed.{leZ}

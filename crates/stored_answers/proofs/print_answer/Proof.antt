@@ -3,10 +3,6 @@ use Rattle.program.proofs.Answering.{written-within, written-count}
 use borrow.Author.Needs.{needs}
 use Rattle.stored_answers.proofs.print_answer.Statement.{statement}
 use Rattle.stored_answers.proofs.print_answer.Tie as tie
-use Rattle.stored_answers.proofs.print_answer.Reads as reads
-use Rattle.stored_answers.proofs.print_answer.Lts as lts
-use Rattle.io.proofs.write_all.Reads as write-all-reads
-use Rattle.program.proofs.respond.Reads as respond-reads
 
 -- src/main.rt:8:34
 slice-aggregate-respond : tie.Need-slice-aggregate-respond

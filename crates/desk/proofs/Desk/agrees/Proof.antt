@@ -2,8 +2,6 @@
 use Rattle.desk.proofs.Calling.{agree-exactly, disagree}
 use Rattle.desk.proofs.Desk.agrees.Statement.{statement}
 use Rattle.desk.proofs.Desk.agrees.Tie as tie
-use Rattle.desk.proofs.Desk.agrees.Reads as reads
-use Rattle.desk.proofs.Desk.agrees.Lts as lts
 
 -- src/lib.rt:75:5
 returns : tie.Need-returns

@@ -7,12 +7,6 @@ use Rattle.meaning.specs.Desk.{fullCount}
 use Rattle.desk.proofs.Calling.{tested-agrees, call-disagrees, call-full, call-counted, in-plain-words}
 use Rattle.desk.proofs.Desk.call.Statement.{statement}
 use Rattle.desk.proofs.Desk.call.Tie as tie
-use Rattle.desk.proofs.Desk.call.Reads as reads
-use Rattle.desk.proofs.Desk.call.Lts as lts
-use Rattle.desk.proofs.Desk.agrees.Reads as agrees-reads
-use Rattle.desk.proofs.Desk.raised.Reads as raised-reads
-use Rattle.desk.proofs.Desk.refusal.Reads as refusal-reads
-use Rattle.service.proofs.check.Reads as check-reads
 
 -- src/lib.rt:45:13
 agrees-requires : tie.Need-agrees-requires

@@ -4,8 +4,6 @@ use Rattle.meaning.specs.Desk.{freshDesk}
 use Rattle.desk.specs.Desk.{deskSeen}
 use Rattle.desk.proofs.Desk.fresh.Statement.{statement}
 use Rattle.desk.proofs.Desk.fresh.Tie as tie
-use Rattle.desk.proofs.Desk.fresh.Reads as reads
-use Rattle.desk.proofs.Desk.fresh.Lts as lts
 
 -- src/lib.rt:30:5
 returns : tie.Need-returns

@@ -5,8 +5,6 @@ use Rattle.desk.specs.Desk.{deskSeen}
 use Rattle.desk.proofs.Calling.{raise-accepted, raise-refused}
 use Rattle.desk.proofs.Desk.raised.Statement.{statement}
 use Rattle.desk.proofs.Desk.raised.Tie as tie
-use Rattle.desk.proofs.Desk.raised.Reads as reads
-use Rattle.desk.proofs.Desk.raised.Lts as lts
 
 -- src/lib.rt:86:21
 add-heard : tie.Need-add-heard

@@ -4,8 +4,6 @@ use Rattle.service.specs.Reply.{replySeen}
 use Rattle.desk.specs.Desk.{calledSeen}
 use Rattle.desk.proofs.Desk.refusal.Statement.{statement}
 use Rattle.desk.proofs.Desk.refusal.Tie as tie
-use Rattle.desk.proofs.Desk.refusal.Reads as reads
-use Rattle.desk.proofs.Desk.refusal.Lts as lts
 
 -- src/lib.rt:62:5
 returns : tie.Need-returns

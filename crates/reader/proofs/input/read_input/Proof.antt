@@ -8,9 +8,6 @@ use Rattle.reader.proofs.Inputs.{input-early, input-late, half-small, h
 use borrow.Author.Needs.{needs}
 use Rattle.reader.proofs.input.read_input.Statement.{statement}
 use Rattle.reader.proofs.input.read_input.Tie as tie
-use Rattle.reader.proofs.input.read_input.Reads as reads
-use Rattle.reader.proofs.input.read_input.Lts as lts
-use Rattle.reader.proofs.rule.early_broken.Reads as early-broken-reads
 
 -- src/input.rt:16:9
 early-broken-requires : tie.Need-early-broken-requires

@@ -14,11 +14,6 @@ use Rattle.reader.proofs.Firsts.{first-none, first-not-field, first-fit
 use borrow.Author.Needs.{needs}
 use Rattle.reader.proofs.read.first_line.Statement.{statement}
 use Rattle.reader.proofs.read.first_line.Tie as tie
-use Rattle.reader.proofs.read.first_line.Reads as reads
-use Rattle.reader.proofs.read.first_line.Lts as lts
-use Rattle.number.proofs.prime.is_odd_prime.Reads as is-odd-prime-reads
-use Rattle.reader.proofs.read.is_field.Reads as is-field-reads
-use Rattle.text.proofs.line_of.Reads as line-of-reads
 
 -- src/read.rt:54:33
 line-of-requires : tie.Need-line-of-requires

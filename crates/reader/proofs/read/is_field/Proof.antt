@@ -4,8 +4,6 @@ use Rattle.text.specs.Word.{wordOf}
 use borrow.Author.Needs.{needs}
 use Rattle.reader.proofs.read.is_field.Statement.{statement}
 use Rattle.reader.proofs.read.is_field.Tie as tie
-use Rattle.reader.proofs.read.is_field.Reads as reads
-use Rattle.reader.proofs.read.is_field.Lts as lts
 
 -- src/read.rt:37:24
 enum-told : tie.Need-enum-told

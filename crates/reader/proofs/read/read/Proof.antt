@@ -9,9 +9,6 @@ use Rattle.reader.proofs.Exact.{refused-replied, counts-replied, reads-
 use borrow.Author.Needs.{needs}
 use Rattle.reader.proofs.read.read.Statement.{statement}
 use Rattle.reader.proofs.read.read.Tie as tie
-use Rattle.reader.proofs.read.read.Reads as reads
-use Rattle.reader.proofs.read.read.Lts as lts
-use Rattle.reader.proofs.read.survey.Reads as survey-reads
 
 -- src/read.rt:86:9
 survey-requires : tie.Need-survey-requires

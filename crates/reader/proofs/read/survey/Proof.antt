@@ -1,5 +1,5 @@
 -- `reader::read::survey`: the text as a whole, line 0, then the lines after it.
-use mathlib.Core.Path.{_≡_, sym, _∙_}
+use mathlib.Core.Path.{sym, _∙_}
 use native.Mathlib.Omega.{arith}
 use denote.Ref.{now}
 use borrow.Author.Tests.{not-true, not-false}
@@ -8,12 +8,6 @@ use Rattle.reader.proofs.Whole.{survey-too-long, survey-not-ended, firs
 use borrow.Author.Needs.{needs}
 use Rattle.reader.proofs.read.survey.Statement.{statement}
 use Rattle.reader.proofs.read.survey.Tie as tie
-use Rattle.reader.proofs.read.survey.Reads as reads
-use Rattle.reader.proofs.read.survey.Lts as lts
-use Rattle.reader.proofs.read.first_line.Reads as first-line-reads
-use Rattle.reader.proofs.read.survey_from.Reads as survey-from-reads
-use Rattle.text.proofs.is_ended.Reads as is-ended-reads
-use Rattle.text.proofs.line_end.Reads as line-end-reads
 
 -- src/read.rt:79:9
 returns : tie.Need-returns

@@ -8,10 +8,6 @@ use Rattle.reader.specs.Read.{surveySeen, PrimeFound}
 use Rattle.reader.proofs.Walk.{Walked, walk-ready, walk-start, walk-end, walk-stopped, walk-next}
 use Rattle.reader.proofs.read.survey_from.Statement.{statement}
 use Rattle.reader.proofs.read.survey_from.Tie as tie
-use Rattle.reader.proofs.read.survey_from.Reads as reads
-use Rattle.reader.proofs.read.survey_from.Lts as lts
-use Rattle.reader.proofs.step.step_line.Reads as step-line-reads
-use Rattle.text.proofs.line_end.Reads as line-end-reads
 
 abbrev Inv-loop : tie.InvT-loop
 Inv-loop list start p numbers₀ lows₀ highs₀ places₀ counts₀ at₀ n₀ numbers lows highs places counts at n =

@@ -8,9 +8,6 @@ use Rattle.number.proofs.Bounded.{bounded-difference, difference-fits}
 use borrow.Author.Needs.{needs}
 use Rattle.reader.proofs.rule.apart.Statement.{statement}
 use Rattle.reader.proofs.rule.apart.Tie as tie
-use Rattle.reader.proofs.rule.apart.Reads as reads
-use Rattle.reader.proofs.rule.apart.Lts as lts
-use Rattle.number.proofs.whole.whole_difference.Reads as whole-difference-reads
 
 -- src/rule.rt:143:9
 whole-difference-requires : tie.Need-whole-difference-requires

@@ -3,8 +3,6 @@ use mathlib.Core.Path.{refl}
 use Rattle.reader.specs.Size.{counted}
 use Rattle.reader.proofs.size.counts_of.Statement.{statement}
 use Rattle.reader.proofs.size.counts_of.Tie as tie
-use Rattle.reader.proofs.size.counts_of.Reads as reads
-use Rattle.reader.proofs.size.counts_of.Lts as lts
 
 -- src/size.rt:36:1
 returns : tie.Need-returns

@@ -8,9 +8,6 @@ use Rattle.algebra.proofs.Integer.Linear.{linear}
 use borrow.Author.Needs.{needs}
 use Rattle.reader.proofs.size.digit_count.Statement.{statement}
 use Rattle.reader.proofs.size.digit_count.Tie as tie
-use Rattle.reader.proofs.size.digit_count.Reads as reads
-use Rattle.reader.proofs.size.digit_count.Lts as lts
-use Rattle.reader.proofs.size.natural.Reads as natural-reads
 
 fits : (c : tie.Start) → SFits w64 (c .args .k)
 fits c = search needs

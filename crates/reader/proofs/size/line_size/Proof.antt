@@ -9,10 +9,6 @@ use Rattle.reader.proofs.Sizes.{field-sizes, input-sizes, span-sizes, s
 use borrow.Author.Needs.{needs}
 use Rattle.reader.proofs.size.line_size.Statement.{statement}
 use Rattle.reader.proofs.size.line_size.Tie as tie
-use Rattle.reader.proofs.size.line_size.Reads as reads
-use Rattle.reader.proofs.size.line_size.Lts as lts
-use Rattle.reader.proofs.size.counts_of.Reads as counts-of-reads
-use Rattle.reader.proofs.size.digit_count.Reads as digit-count-reads
 
 -- src/size.rt:55:24
 enum-told : tie.Need-enum-told

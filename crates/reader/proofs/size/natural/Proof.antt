@@ -7,8 +7,6 @@ use Rattle.number.proofs.Word.{back, negative, not-negative}
 use borrow.Author.Needs.{needs}
 use Rattle.reader.proofs.size.natural.Statement.{statement}
 use Rattle.reader.proofs.size.natural.Tie as tie
-use Rattle.reader.proofs.size.natural.Reads as reads
-use Rattle.reader.proofs.size.natural.Lts as lts
 
 fits : (c : tie.Start) → SFits w64 (c .args .z)
 fits c = search needs

@@ -10,15 +10,6 @@ use Rattle.reader.proofs.Steps.{sum-count, fewer, at-word, field-later}
 use borrow.Author.Needs.{needs}
 use Rattle.reader.proofs.step.read_ends.Statement.{statement}
 use Rattle.reader.proofs.step.read_ends.Tie as tie
-use Rattle.reader.proofs.step.read_ends.Reads as reads
-use Rattle.reader.proofs.step.read_ends.Lts as lts
-use Rattle.reader.proofs.input.read_input.Reads as read-input-reads
-use Rattle.reader.proofs.max.read_max.Reads as read-max-reads
-use Rattle.reader.proofs.relu.read_relu.Reads as read-relu-reads
-use Rattle.reader.proofs.root.read_root.Reads as read-root-reads
-use Rattle.reader.proofs.span.read_span.Reads as read-span-reads
-use Rattle.reader.proofs.sum.read_sum.Reads as read-sum-reads
-use Rattle.reader.proofs.which.read_which.Reads as read-which-reads
 
 -- src/step.rt:48:24
 enum-told : tie.Need-enum-told

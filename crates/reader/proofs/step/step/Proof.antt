@@ -18,13 +18,6 @@ use Rattle.reader.proofs.Steps.{seen-state, not-span, told-by-word, gro
 use borrow.Author.Needs.{needs}
 use Rattle.reader.proofs.step.step.Statement.{statement}
 use Rattle.reader.proofs.step.step.Tie as tie
-use Rattle.reader.proofs.step.step.Reads as reads
-use Rattle.reader.proofs.step.step.Lts as lts
-use Rattle.reader.proofs.size.line_size.Reads as line-size-reads
-use Rattle.reader.proofs.size.natural.Reads as natural-reads
-use Rattle.reader.proofs.state.grow.Reads as grow-reads
-use Rattle.reader.proofs.state.narrow.Reads as narrow-reads
-use Rattle.reader.proofs.step.read_ends.Reads as read-ends-reads
 
 -- src/step.rt:77:9
 read-ends-requires : tie.Need-read-ends-requires

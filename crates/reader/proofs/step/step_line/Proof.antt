@@ -9,10 +9,6 @@ use Rattle.reader.proofs.Steps.{no-line-step, line-step}
 use borrow.Author.Needs.{needs}
 use Rattle.reader.proofs.step.step_line.Statement.{statement}
 use Rattle.reader.proofs.step.step_line.Tie as tie
-use Rattle.reader.proofs.step.step_line.Reads as reads
-use Rattle.reader.proofs.step.step_line.Lts as lts
-use Rattle.reader.proofs.step.step.Reads as step-reads
-use Rattle.text.proofs.line_of.Reads as line-of-reads
 
 -- src/step.rt:175:37
 line-of-requires : tie.Need-line-of-requires

@@ -8,9 +8,6 @@ use Rattle.number.proofs.Bounded.{sum-fits}
 use borrow.Author.Needs.{needs}
 use Rattle.reader.proofs.sum.plus.Statement.{statement}
 use Rattle.reader.proofs.sum.plus.Tie as tie
-use Rattle.reader.proofs.sum.plus.Reads as reads
-use Rattle.reader.proofs.sum.plus.Lts as lts
-use Rattle.number.proofs.whole.whole_sum.Reads as whole-sum-reads
 
 -- src/sum.rt:151:9
 whole-sum-requires : tie.Need-whole-sum-requires

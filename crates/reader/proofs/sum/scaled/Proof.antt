@@ -10,11 +10,6 @@ use Rattle.number.proofs.Bounded.{bounded-product, larger-bounded, smaller-boun
 use borrow.Author.Needs.{needs}
 use Rattle.reader.proofs.sum.scaled.Statement.{statement}
 use Rattle.reader.proofs.sum.scaled.Tie as tie
-use Rattle.reader.proofs.sum.scaled.Reads as reads
-use Rattle.reader.proofs.sum.scaled.Lts as lts
-use Rattle.number.proofs.whole.larger.Reads as larger-reads
-use Rattle.number.proofs.whole.smaller.Reads as smaller-reads
-use Rattle.number.proofs.whole.whole_product.Reads as whole-product-reads
 
 -- src/sum.rt:137:9
 whole-product-requires : tie.Need-whole-product-requires

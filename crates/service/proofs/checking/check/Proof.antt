@@ -7,10 +7,6 @@ use Rattle.service.proofs.Checked.{check-refused, check-read}
 use borrow.Author.Needs.{needs}
 use Rattle.service.proofs.checking.check.Statement.{statement}
 use Rattle.service.proofs.checking.check.Tie as tie
-use Rattle.service.proofs.checking.check.Reads as reads
-use Rattle.service.proofs.checking.check.Lts as lts
-use Rattle.reader.proofs.read.survey.Reads as survey-reads
-use Rattle.service.proofs.checking.check_table.Reads as check-table-reads
 
 -- src/checking.rt:30:9
 survey-requires : tie.Need-survey-requires

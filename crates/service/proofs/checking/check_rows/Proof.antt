@@ -12,13 +12,6 @@ use Rattle.service.proofs.Places.{placed-next}
 use Rattle.service.proofs.Checked.{Checking, checking-first, checking-end, checking-fails, checking-next, row-inside, row-fits, rows-asked}
 use Rattle.service.proofs.checking.check_rows.Statement.{statement}
 use Rattle.service.proofs.checking.check_rows.Tie as tie
-use Rattle.service.proofs.checking.check_rows.Reads as reads
-use Rattle.service.proofs.checking.check_rows.Lts as lts
-use Rattle.table.proofs.line_rows.line_rows.Reads as line-rows-reads
-use Rattle.service.proofs.walk.counts_after.Reads as counts-after-reads
-use Rattle.service.proofs.walk.take_place.Reads as take-place-reads
-use Rattle.text.proofs.line_end.Reads as line-end-reads
-use Rattle.text.proofs.line_of.Reads as line-of-reads
 
 abbrev Inv-loop : tie.InvT-loop
 Inv-loop list table p numbers₀ places₀ counts₀ at₀ numbers places counts at = Checking list table p numbers places counts at

@@ -7,10 +7,6 @@ use Rattle.service.proofs.Checked.{large-found, none-large, all-below, 
 use borrow.Author.Needs.{needs}
 use Rattle.service.proofs.checking.check_table.Statement.{statement}
 use Rattle.service.proofs.checking.check_table.Tie as tie
-use Rattle.service.proofs.checking.check_table.Reads as reads
-use Rattle.service.proofs.checking.check_table.Lts as lts
-use Rattle.service.proofs.checking.check_rows.Reads as check-rows-reads
-use Rattle.service.proofs.checking.first_large.Reads as first-large-reads
 
 -- src/checking.rt:46:9
 returns : tie.Need-returns

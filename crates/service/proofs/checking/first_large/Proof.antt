@@ -8,8 +8,6 @@ use Rattle.service.proofs.Scan.{Scanned, scanned-none, scan-end, scan-h
 use Rattle.service.proofs.Checked.{cell-large, cell-below}
 use Rattle.service.proofs.checking.first_large.Statement.{statement}
 use Rattle.service.proofs.checking.first_large.Tie as tie
-use Rattle.service.proofs.checking.first_large.Reads as reads
-use Rattle.service.proofs.checking.first_large.Lts as lts
 
 abbrev Inv-loop : tie.InvT-loop
 Inv-loop table p i₀ i = Scanned (isCell p) 0 table i

@@ -14,9 +14,6 @@ use Rattle.service.specs.Make.{inputsSeen}
 use Rattle.service.proofs.Scan.{Scanned, scanned-none, scan-end, scan-here, scan-next}
 use Rattle.service.proofs.making.first_outside.Statement.{statement}
 use Rattle.service.proofs.making.first_outside.Tie as tie
-use Rattle.service.proofs.making.first_outside.Reads as reads
-use Rattle.service.proofs.making.first_outside.Lts as lts
-use Rattle.number.proofs.whole.in_range.Reads as in-range-reads
 
 abbrev Inv-loop : tie.InvT-loop
 Inv-loop inputs p i₀ i = Scanned (inRange p) (pos 0) inputs i

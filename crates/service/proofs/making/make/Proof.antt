@@ -7,10 +7,6 @@ use Rattle.service.proofs.Made.{make-refused, make-read, told-apart}
 use borrow.Author.Needs.{needs}
 use Rattle.service.proofs.making.make.Statement.{statement}
 use Rattle.service.proofs.making.make.Tie as tie
-use Rattle.service.proofs.making.make.Reads as reads
-use Rattle.service.proofs.making.make.Lts as lts
-use Rattle.reader.proofs.read.survey.Reads as survey-reads
-use Rattle.service.proofs.making.make_table.Reads as make-table-reads
 
 -- src/making.rt:45:9
 survey-requires : tie.Need-survey-requires

@@ -7,10 +7,6 @@ use Rattle.service.proofs.Made.{outside-found, none-outside, column-of,
 use borrow.Author.Needs.{needs}
 use Rattle.service.proofs.making.make_table.Statement.{statement}
 use Rattle.service.proofs.making.make_table.Tie as tie
-use Rattle.service.proofs.making.make_table.Reads as reads
-use Rattle.service.proofs.making.make_table.Lts as lts
-use Rattle.service.proofs.making.first_outside.Reads as first-outside-reads
-use Rattle.service.proofs.making.make_true.Reads as make-true-reads
 
 -- src/making.rt:62:9
 returns : tie.Need-returns

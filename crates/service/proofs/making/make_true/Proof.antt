@@ -7,10 +7,6 @@ use Rattle.service.proofs.Made.{false-made, write-asked, true-made}
 use borrow.Author.Needs.{needs}
 use Rattle.service.proofs.making.make_true.Statement.{statement}
 use Rattle.service.proofs.making.make_true.Tie as tie
-use Rattle.service.proofs.making.make_true.Reads as reads
-use Rattle.service.proofs.making.make_true.Lts as lts
-use Rattle.service.proofs.working.work_lines.Reads as work-lines-reads
-use Rattle.service.proofs.writing.write_lines.Reads as write-lines-reads
 
 -- src/making.rt:104:43
 slice-aggregate-work-lines : tie.Need-slice-aggregate-work-lines

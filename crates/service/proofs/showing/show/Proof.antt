@@ -9,10 +9,6 @@ use Rattle.service.proofs.Shown.{shown-refused, shown-wrong-length, sho
 use borrow.Author.Needs.{needs}
 use Rattle.service.proofs.showing.show.Statement.{statement}
 use Rattle.service.proofs.showing.show.Tie as tie
-use Rattle.service.proofs.showing.show.Reads as reads
-use Rattle.service.proofs.showing.show.Lts as lts
-use Rattle.reader.proofs.read.survey.Reads as survey-reads
-use Rattle.service.proofs.showing.stretch_of.Reads as stretch-of-reads
 
 -- src/showing.rt:25:9
 survey-requires : tie.Need-survey-requires

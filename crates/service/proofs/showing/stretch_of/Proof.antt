@@ -10,11 +10,6 @@ use Rattle.service.proofs.Standing.{line-there, left-is, keeps, stands-
 use Rattle.service.proofs.Shown.{Showing, showing-first, showing-end, showing-line, showing-next}
 use Rattle.service.proofs.showing.stretch_of.Statement.{statement}
 use Rattle.service.proofs.showing.stretch_of.Tie as tie
-use Rattle.service.proofs.showing.stretch_of.Reads as reads
-use Rattle.service.proofs.showing.stretch_of.Lts as lts
-use Rattle.service.proofs.walk.counts_after.Reads as counts-after-reads
-use Rattle.text.proofs.line_end.Reads as line-end-reads
-use Rattle.text.proofs.line_of.Reads as line-of-reads
 
 abbrev Inv-loop : tie.InvT-loop
 Inv-loop list line numbers₀ counts₀ at₀ n₀ numbers counts at n = Showing list line numbers counts at n

@@ -4,9 +4,6 @@ use Rattle.service.proofs.Standing.{counted-after}
 use borrow.Author.Needs.{needs}
 use Rattle.service.proofs.walk.counts_after.Statement.{statement}
 use Rattle.service.proofs.walk.counts_after.Tie as tie
-use Rattle.service.proofs.walk.counts_after.Reads as reads
-use Rattle.service.proofs.walk.counts_after.Lts as lts
-use Rattle.reader.proofs.size.line_size.Reads as line-size-reads
 
 -- src/walk.rt:25:9
 line-size-requires : tie.Need-line-size-requires

@@ -3,8 +3,6 @@ use Rattle.service.proofs.Places.{place-taken, place-not-taken}
 use borrow.Author.Needs.{needs}
 use Rattle.service.proofs.walk.take_place.Statement.{statement}
 use Rattle.service.proofs.walk.take_place.Tie as tie
-use Rattle.service.proofs.walk.take_place.Reads as reads
-use Rattle.service.proofs.walk.take_place.Lts as lts
 
 -- src/walk.rt:41:9
 mul-places : tie.Need-mul-places

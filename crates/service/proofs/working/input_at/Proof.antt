@@ -6,8 +6,6 @@ use lib.ListN.{List·getD-eq-default}
 use borrow.Author.Needs.{needs}
 use Rattle.service.proofs.working.input_at.Statement.{statement}
 use Rattle.service.proofs.working.input_at.Tie as tie
-use Rattle.service.proofs.working.input_at.Reads as reads
-use Rattle.service.proofs.working.input_at.Lts as lts
 
 -- src/making.rt:122:28
 mul-result : tie.Need-mul-result

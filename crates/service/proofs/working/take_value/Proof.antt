@@ -9,8 +9,6 @@ use Rattle.table.specs.declared.value.Worked.{Worked}
 use borrow.Author.Needs.{needs}
 use Rattle.service.proofs.working.take_value.Statement.{statement}
 use Rattle.service.proofs.working.take_value.Tie as tie
-use Rattle.service.proofs.working.take_value.Reads as reads
-use Rattle.service.proofs.working.take_value.Lts as lts
 
 -- src/making.rt:131:23
 enum-known-worked : tie.Need-enum-known-worked

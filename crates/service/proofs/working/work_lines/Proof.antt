@@ -15,14 +15,6 @@ use Rattle.service.proofs.Standing.{line-there, left-is, keeps, kept-he
 use Rattle.service.proofs.Worked.{WorkingOn, working-first, working-end, working-false, working-next, value-inside, values-asked}
 use Rattle.service.proofs.working.work_lines.Statement.{statement}
 use Rattle.service.proofs.working.work_lines.Tie as tie
-use Rattle.service.proofs.working.work_lines.Reads as reads
-use Rattle.service.proofs.working.work_lines.Lts as lts
-use Rattle.service.proofs.working.input_at.Reads as input-at-reads
-use Rattle.service.proofs.working.take_value.Reads as take-value-reads
-use Rattle.service.proofs.walk.counts_after.Reads as counts-after-reads
-use Rattle.table.proofs.line_works.line_works.Reads as line-works-reads
-use Rattle.text.proofs.line_end.Reads as line-end-reads
-use Rattle.text.proofs.line_of.Reads as line-of-reads
 
 abbrev Inv-loop : tie.InvT-loop
 Inv-loop list inputs values₀ numbers₀ counts₀ at₀ n₀ values numbers counts at n = WorkingOn list inputs numbers values counts at n

@@ -10,12 +10,6 @@ use Rattle.service.proofs.Standing.{line-there, left-is, keeps, kept-he
 use Rattle.service.proofs.Written.{Writing, writing-first, table-long, writing-end, writing-next, first-inside, cells-asked, made-stand, next}
 use Rattle.service.proofs.writing.write_lines.Statement.{statement}
 use Rattle.service.proofs.writing.write_lines.Tie as tie
-use Rattle.service.proofs.writing.write_lines.Reads as reads
-use Rattle.service.proofs.writing.write_lines.Lts as lts
-use Rattle.service.proofs.walk.counts_after.Reads as counts-after-reads
-use Rattle.table.proofs.line_cells.line_cells.Reads as line-cells-reads
-use Rattle.text.proofs.line_end.Reads as line-end-reads
-use Rattle.text.proofs.line_of.Reads as line-of-reads
 
 abbrev Inv-loop : tie.InvT-loop
 Inv-loop list p values table₀ numbers₀ counts₀ at₀ table numbers counts at = Writing list p values table₀ table numbers counts at

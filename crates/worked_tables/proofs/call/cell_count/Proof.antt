@@ -9,9 +9,6 @@ use Rattle.io.specs.Counts.{Counts}
 use borrow.Author.Needs.{needs}
 use Rattle.worked_tables.proofs.call.cell_count.Statement.{statement}
 use Rattle.worked_tables.proofs.call.cell_count.Tie as tie
-use Rattle.worked_tables.proofs.call.cell_count.Reads as reads
-use Rattle.worked_tables.proofs.call.cell_count.Lts as lts
-use Rattle.reader.proofs.read.read.Reads as read-reads
 
 counted : (n : ℕ) (xs : List ℕ) → n ≤ length xs → Counts n xs
 counted n xs h = (h, sym (length-take-le n xs h))

@@ -4,8 +4,6 @@ use lib.ListN.{length}
 use borrow.Author.Needs.{needs}
 use Rattle.worked_tables.proofs.call.is_blank.Statement.{statement}
 use Rattle.worked_tables.proofs.call.is_blank.Tie as tie
-use Rattle.worked_tables.proofs.call.is_blank.Reads as reads
-use Rattle.worked_tables.proofs.call.is_blank.Lts as lts
 
 abbrev Inv-loop : tie.InvT-loop
 Inv-loop table i₀ i = Unit {0}

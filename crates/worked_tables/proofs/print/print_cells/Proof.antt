@@ -4,9 +4,6 @@ use lib.ListN.{length}
 use borrow.Author.Needs.{needs}
 use Rattle.worked_tables.proofs.print.print_cells.Statement.{statement}
 use Rattle.worked_tables.proofs.print.print_cells.Tie as tie
-use Rattle.worked_tables.proofs.print.print_cells.Reads as reads
-use Rattle.worked_tables.proofs.print.print_cells.Lts as lts
-use Rattle.worked_tables.proofs.print.print_cell.Reads as print-cell-reads
 
 abbrev Inv-loop : tie.InvT-loop
 Inv-loop table i₀ i = Unit {0}

@@ -4,9 +4,6 @@ use lib.ListN.{length}
 use borrow.Author.Needs.{needs}
 use Rattle.worked_tables.proofs.print.print_inputs.Statement.{statement}
 use Rattle.worked_tables.proofs.print.print_inputs.Tie as tie
-use Rattle.worked_tables.proofs.print.print_inputs.Reads as reads
-use Rattle.worked_tables.proofs.print.print_inputs.Lts as lts
-use Rattle.worked_tables.proofs.print.print_whole.Reads as print-whole-reads
 
 abbrev Inv-loop : tie.InvT-loop
 Inv-loop inputs i₀ i = Unit {0}

@@ -4,10 +4,6 @@ use lib.ListN.{length}
 use borrow.Author.Needs.{needs}
 use Rattle.worked_tables.proofs.print.print_list.Statement.{statement}
 use Rattle.worked_tables.proofs.print.print_list.Tie as tie
-use Rattle.worked_tables.proofs.print.print_list.Reads as reads
-use Rattle.worked_tables.proofs.print.print_list.Lts as lts
-use Rattle.worked_tables.proofs.print.print.Reads as print-reads
-use Rattle.worked_tables.proofs.print.print_byte.Reads as print-byte-reads
 
 abbrev Inv-loop : tie.InvT-loop
 Inv-loop list i₀ t4 i = Unit {0}

@@ -8,12 +8,6 @@ use borrow.Author.Needs.{needs}
 use Rattle.number.proofs.Word.{back}
 use Rattle.worked_tables.proofs.print.print_whole.Statement.{statement}
 use Rattle.worked_tables.proofs.print.print_whole.Tie as tie
-use Rattle.worked_tables.proofs.print.print_whole.Reads as reads
-use Rattle.worked_tables.proofs.print.print_whole.Lts as lts
-use Rattle.io.proofs.print_decimal.Reads as print-decimal-reads
-use Rattle.number.proofs.whole.magnitude.Reads as magnitude-reads
-use Rattle.worked_tables.proofs.print.print.Reads as print-reads
-use Rattle.worked_tables.proofs.print.print_count.Reads as print-count-reads
 
 fits : (c : tie.Start) → SFits w64 (c .args .n)
 fits c = search needs
