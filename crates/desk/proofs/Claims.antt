@@ -2,13 +2,13 @@
 use mathlib.Core.Path.{_≡_, refl, sym, ap, ap₂, _∙_}
 use mathlib.Core.List.{List, _∷_, map}
 use Rattle.meaning.specs.Reply.{Reply as MeantReply}
-use Rattle.meaning.specs.Desk.{freshDesk, fullCount, Call, deskCall, deskAfter, deskReplies}
+use Rattle.meaning.specs.Desk.{freshDesk, fullCount, Call, deskAfter, deskReplies}
 use Rattle.meaning.specs.Desk.{Desk as MeantDesk, Called as MeantCalled}
 use Rattle.meaning.proofs.Desk.{counts}
 use Rattle.service.specs.Reply.{replySeen}
 use Rattle.desk.specs.declared.Desk.{Desk}
 use Rattle.desk.specs.declared.Called.{Called}
-use Rattle.desk.specs.Desk.{Agrees, deskSeen, calledSeen}
+use Rattle.desk.specs.Desk.{Answers, Agrees, deskSeen, calledSeen}
 use Rattle.desk.specs.Run.{Run, no-call, then, callsOf, repliesOf, deskOf}
 use Rattle.desk.specs.Claims.{CodeCounts, CodeStaysFull, fullReply}
 use Rattle.desk.proofs.Calling.{call-full}
@@ -54,7 +54,7 @@ same-called c e q = ap code q
         }
 
 full-call : (d : Desk) (c : Call) (gave : Called) → Agrees d → d .heard ≡ fullCount
-    → calledSeen gave ≡ deskCall (deskSeen d) (c .list) (c .table) → gave ≡ record { desk = d; reply = fullReply c }
+    → Answers d (c .list) (c .table) gave → gave ≡ record { desk = d; reply = fullReply c }
 unfolding calledSeen replySeen fullReply
 full-call d c gave agrees full h =
     same-called gave (record { desk = d; reply = fullReply c }) (h ∙ call-full d (c .list) (c .table) agrees full)

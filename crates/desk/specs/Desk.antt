@@ -1,8 +1,9 @@
 -- How a desk of the code, and what a call gave, are read as those of the definitions; and what a call does to the counts, in plain words.
-use Prim.Native.Nat.{_+_}
+use Prim.Native.Nat.{ℕ, _+_}
 use mathlib.Core.Path.{_≡_}
+use mathlib.Core.List.{List}
 use mathlib.Core.Logic.{_⊎_, _≢_}
-use Rattle.meaning.specs.Desk.{counted, called}
+use Rattle.meaning.specs.Desk.{counted, called, deskCall}
 use Rattle.meaning.specs.Desk.{Desk as MeantDesk, Called as MeantCalled}
 use Rattle.service.specs.Reply.{replySeen}
 use Rattle.desk.specs.declared.Desk.{Desk}
@@ -13,6 +14,10 @@ deskSeen d = counted (d .heard) (d .accepted) (d .refused)
 
 unfoldable pub calledSeen : Called → MeantCalled
 calledSeen c = called (deskSeen (c .desk)) (replySeen (c .reply))
+
+-- what a call of this desk gave, with this list and table, is what document 01 says
+abbrev pub Answers : Desk → List ℕ → List ℕ → Called → Type 0
+Answers d list table gave = calledSeen gave ≡ deskCall (deskSeen d) list table
 
 -- the counts of a desk agree
 abbrev pub Agrees : Desk → Type 0

@@ -1,16 +1,15 @@
--- Runs of the code: calls of a desk, one after another, each with what it gave. All that is said of what a call gave is the equation
--- that `Desk::call` ensures, so every run of the program is one of these.
-use mathlib.Core.Path.{_≡_}
+-- Runs of the code: calls of a desk, one after another, each with what it gave. All that is said of what a call gave is
+-- `Answers`, which `Desk::call` ensures, so every run of the program is one of these.
 use mathlib.Core.List.{List, [], _∷_}
-use Rattle.meaning.specs.Desk.{Call, deskCall}
+use Rattle.meaning.specs.Desk.{Call}
 use Rattle.service.specs.declared.reply.Reply.{Reply}
 use Rattle.desk.specs.declared.Desk.{Desk}
 use Rattle.desk.specs.declared.Called.{Called}
-use Rattle.desk.specs.Desk.{deskSeen, calledSeen}
+use Rattle.desk.specs.Desk.{Answers}
 
 pub data Run : Desk → Type 0 where
   no-call : (d : Desk) → Run d
-  then : (d : Desk) (c : Call) (gave : Called) → calledSeen gave ≡ deskCall (deskSeen d) (c .list) (c .table) → Run (gave .desk) → Run d
+  then : (d : Desk) (c : Call) (gave : Called) → Answers d (c .list) (c .table) gave → Run (gave .desk) → Run d
 
 -- what was asked, in order
 unfoldable pub callsOf : {d : Desk} → Run d → List Call
