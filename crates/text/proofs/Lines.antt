@@ -11,21 +11,22 @@ use lib.Dec.{eqb}
 use lib.IntN.{ℤ}
 use lib.ListN.{length, take, drop, set, length-append}
 use lib.Seq.{length-take-le, take-suc-set}
-use Rattle.meaning.specs.Text.{fieldsOf, number}
+use Rattle.meaning.specs.Text.{fieldsOf}
 use Rattle.meaning.specs.Line.{field, input, span, sum, relu, which, max, root, words, wordAmong, isCount, consNumber, numbersOf, assemble, lineOfFields, lineOf}
 use Rattle.meaning.specs.Line.{Word as MeantWord, Line as MeantLine}
-use Rattle.text.specs.declared.Number.{Number}
-use Rattle.text.specs.declared.Number.the-variants.{Of, NoNumber}
+use Rattle.text.specs.declared.NumberAt.{NumberAt}
+use Rattle.text.specs.declared.NumberAt.the-variants.{Of, NoNumber}
 use Rattle.text.specs.declared.Word.{Word}
 use Rattle.text.specs.declared.Spelled.{Spelled}
 use Rattle.text.specs.declared.Spelled.the-variants.{Known, NoWord}
 use Rattle.text.specs.declared.Parsed.the-variants.{Line}
-use Rattle.text.specs.Number.{numberSeen}
+use Rattle.text.specs.Number.{NumberRead}
 use Rattle.text.specs.Word.{wordOf, wordSeen}
 use Rattle.text.specs.Place.{Found}
 use Rattle.text.specs.Parsed.{parsedSeen}
 use Rattle.text.proofs.Bytes.{and-false}
-use Rattle.text.proofs.Places.{partsAfter, parts-from, parts-none, parts-some, parts-next}
+use Rattle.text.proofs.Numbers.{number-is-none, number-is, number-ends}
+use Rattle.text.proofs.Places.{partsAfter, parts-from, parts-none, fields-some, fields-next}
 
 -- ---- what is left to read of a line
 
@@ -86,24 +87,23 @@ module _ (line : List ℕ) {end : ℕ} (found : Found 9 line 0 end) (r : Spelled
 
 -- ---- the numbers: a law for each turn of the loop and each way out
 
-module _ (line : List ℕ) (w : Word) {end next : ℕ} (h : end < length line) (found : Found 9 line (end + 1) next) {r : Number}
-    (seen : numberSeen r ≡ number (take (next - (end + 1)) (drop (end + 1) line))) where
+module _ (line : List ℕ) (w : Word) (end : ℕ) (h : end < length line) {r : NumberAt} (read : NumberRead line (end + 1) r) where
   pub line-no-number : (ns : List ℤ) → r ≡ NoNumber → lineAfter w ns (partsAfter 9 line end) ≡ none
-  unfolding lineAfter numbersOf consNumber afterNumbers assemble numberSeen
-  line-no-number ns q = rw (parts-next 9 line h found, sym seen ∙ ap numberSeen q)
+  unfolding lineAfter numbersOf consNumber afterNumbers assemble
+  line-no-number ns q = rw (fields-some line end h, number-is-none line (end + 1) read q)
 
-  pub line-number : (numbers : List ℤ) (count : ℕ) {n : ℤ} → r ≡ Of n → count < length numbers
+  pub line-number : (numbers : List ℤ) (count : ℕ) {n : ℤ} {next : ℕ} → r ≡ Of n next → count < length numbers
       → lineAfter w (take count numbers) (partsAfter 9 line end) ≡ lineAfter w (take (count + 1) (set numbers count n)) (partsAfter 9 line next)
-  unfolding lineAfter numbersOf numberSeen
-  line-number numbers count {n} q k =
+  unfolding lineAfter numbersOf
+  line-number numbers count {n} {next} q k =
       let more : take (count + 1) (set numbers count n) ≡ take count numbers ++ (n ∷ []) = rw add-one (take-suc-set numbers count n k) in
-      rw (parts-next 9 line h found, sym seen ∙ ap numberSeen q, more)
+      rw (fields-next line end h (number-ends line (end + 1) read q), number-is line (end + 1) read q, more)
       (ap (assemble (some (wordOf w))) (after-next (take count numbers) n (numbersOf (partsAfter 9 line next))))
 
 module _ (line : List ℕ) (w : Word) (numbers : List ℤ) (end count : ℕ) (room : length numbers ≡ 33) (most : count ≤ 33) where
   pub line-full : end < length line → 33 ≤ count → lineAfter w (take count numbers) (partsAfter 9 line end) ≡ none
   unfolding lineAfter numbersOf
-  line-full h full = rw (parts-some 9 line end h) (after-full (wordOf w) (take count numbers) _ _ (omega (arith, length-take-le count numbers (omega arith))))
+  line-full h full = rw (fields-some line end h) (after-full (wordOf w) (take count numbers) _ _ (omega (arith, length-take-le count numbers (omega arith))))
 
   module _ (h : length line ≤ end) {right : Bool} (q : right ≡ isCount (wordOf w) count) where
     counted : lineAfter w (take count numbers) (partsAfter 9 line end) ≡ cond right (some (record { word = wordOf w; numbers = take count numbers })) none

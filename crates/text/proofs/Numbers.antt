@@ -1,23 +1,48 @@
--- Laws of the number reader: one byte of its digits, its early refusals against the definition's one test at the end, and the sign.
+-- Laws of the number reader: one byte of its digits, its early refusals against the definition's one test at the end, the sign, and
+-- bytes that are read as one field though a tab may be among them.
 use mathlib.Core.Path.{_≡_, refl, sym, _∙_, ap}
 use mathlib.Core.Bool.{Bool, true, false, cond, _&&_}
 use mathlib.Core.List.{List, [], _∷_}
 use mathlib.Core.Option.{Option, none, some}
 use Prim.Native.Nat.{ℕ, zero, suc, _+_, _*_, _-_, _≤_, _<_}
 use native.Mathlib.Omega.{arith}
-use borrow.Author.Tests.{le-leb, lt-leb, eq-eqb, ne-eqb, leb-true}
-use lib.Dec.{leb, eqb}
+use borrow.Author.Tests.{le-leb, lt-leb, ne-eqb, leb-true, ltb-true, ltb-false, eqb-true, eqb-false}
+use lib.Dec.{leb, ltb, eqb}
 use lib.IntN.{ℤ, pos, negℤ, natAbs, _-ℤ_, +ℤ-idl}
-use lib.ListN.{length, getD, drop, drop-of-length-le}
+use lib.ListN.{length, getD, drop}
 use mir.Syntax.{w64}
 use mir.Val.{SFits, toZ, ofZ}
 use mir.ValLaws.{toZ-pos, toZ-ofZ}
 use Rattle.meaning.specs.Text.{sameBytes, isDigit, allDigits, decimal, isPlain, largest, sized, number}
 use Rattle.text.specs.declared.Number.the-variants.{Of, NoNumber}
+use Rattle.text.specs.declared.NumberAt.{NumberAt}
+use Rattle.text.specs.declared.NumberAt.the-variants.{Of as OfAt, NoNumber as NoNumberAt}
 use Rattle.text.specs.declared.Size.{Size}
 use Rattle.text.specs.declared.Size.the-variants.{Small, NoSize}
-use Rattle.text.specs.Number.{numberSeen, sizeSeen, plainSize}
-use Rattle.text.proofs.Bytes.{and-false, none-some, drop-more}
+use Rattle.text.specs.Number.{numberSeen, plainSize, SizeRead, NumberRead}
+use Rattle.text.specs.Place.{indexOf, Found, fieldAt}
+use Rattle.text.proofs.Bytes.{and-false, none-some}
+use Rattle.text.proofs.Places.{index-end, found-next, field-empty, field-byte, field-more, field-length, field-whole}
+
+-- ---- a digit
+
+module _ (x : ℕ) where
+  pub digit-below : x < 48 → isDigit x ≡ false
+  unfolding isDigit
+  digit-below low = simp (lt-leb 48 x low)
+
+  pub digit-from : 48 ≤ x → isDigit x ≡ leb x 57
+  unfolding isDigit
+  digit-from low = simp (le-leb 48 x low)
+
+  digit-at : (t u : Bool) → leb 48 x ≡ t → leb x 57 ≡ u → t && u ≡ true → (48 ≤ x) × (x ≤ 57)
+  digit-at true true p q both = (leb-true 48 x p, leb-true x 57 q)
+  digit-at true false p q both = let z : _≡_ {A = ℕ} 0 1 = cc in absurd (omega arith)
+  digit-at false u p q both = let z : _≡_ {A = ℕ} 0 1 = cc in absurd (omega arith)
+
+  pub digit-bounds : isDigit x ≡ true → (48 ≤ x) × (x ≤ 57)
+  unfolding isDigit
+  digit-bounds q = digit-at _ _ refl refl q
 
 -- ---- one byte of the digits left at a place
 
@@ -25,24 +50,19 @@ use Rattle.text.proofs.Bytes.{and-false, none-some, drop-more}
 unfoldable pub digitsAfter : ℕ → List ℕ → Option ℕ
 digitsAfter n xs = cond (allDigits xs && leb (decimal n xs) largest) (some (decimal n xs)) none
 
-module _ (field : List ℕ) (i n : ℕ) where
-  pub digits-end : length field ≤ i → n ≤ 2147483647 → digitsAfter n (drop i field) ≡ some n
+module _ (line : List ℕ) (i n : ℕ) where
+  pub digits-end : indexOf 9 (drop i line) ≡ 0 → n ≤ 2147483647 → digitsAfter n (fieldAt line i) ≡ some n
   unfolding digitsAfter allDigits decimal largest
-  digits-end h small = rw (drop-of-length-le field h) (simp (le-leb _ _ small))
+  digits-end q small = rw (field-empty line i q) (simp (le-leb _ _ small))
 
-  module _ (h : i < length field) where
-    pub digits-low : getD field i 0 < 48 → digitsAfter n (drop i field) ≡ none
-    unfolding digitsAfter allDigits isDigit
-    digits-low low = rw (drop-more field i h) (simp (lt-leb _ _ low))
+  module _ (h : i < length line) where
+    pub digits-not : isDigit (getD line i 0) ≡ false → (getD line i 0 ≡ 9 → ⊥) → digitsAfter n (fieldAt line i) ≡ none
+    unfolding digitsAfter allDigits
+    digits-not no-digit no-tab = rw (field-more line i h no-tab) (simp no-digit)
 
-    pub digits-high : 57 < getD field i 0 → digitsAfter n (drop i field) ≡ none
-    unfolding digitsAfter allDigits isDigit
-    digits-high high = rw (drop-more field i h) (simp (le-leb 48 (getD field i 0) (omega arith), lt-leb _ _ high))
-
-    pub digits-next : 48 ≤ getD field i 0 → getD field i 0 ≤ 57
-        → digitsAfter n (drop i field) ≡ digitsAfter (10 * n + (getD field i 0 - 48)) (drop (i + 1) field)
-    unfolding digitsAfter allDigits isDigit decimal
-    digits-next low high = rw (drop-more field i h) (simp (le-leb _ _ low, le-leb _ _ high))
+    pub digits-next : isDigit (getD line i 0) ≡ true → digitsAfter n (fieldAt line i) ≡ digitsAfter (10 * n + (getD line i 0 - 48)) (fieldAt line (i + 1))
+    unfolding digitsAfter allDigits decimal
+    digits-next digit = let bounds = digit-bounds (getD line i 0) digit in rw (field-more line i h (λ e. omega arith)) (simp digit)
 
 -- a number only grows with its digits: one that is too large already stays so
 decimal-grows : (n : ℕ) (xs : List ℕ) → n ≤ decimal n xs
@@ -56,28 +76,34 @@ digits-over n xs h = rw (lt-leb (decimal n xs) 2147483647 (omega (arith, decimal
 
 -- ---- a size: a law for each way in and out of `size_from`
 
-module _ (field : List ℕ) (at : ℕ) where
-  pub size-empty : length field ≤ at → plainSize (drop at field) ≡ none
+-- a size starts with a digit above 0: with no byte up to 48, and with no tab, which would leave no byte at all
+size-low-at : (is-tab is-zero : Bool) (x : ℕ) (xs : List ℕ) → eqb x 48 ≡ is-zero → x ≤ 48 → plainSize (cond is-tab [] (x ∷ xs)) ≡ none
+unfolding plainSize isPlain allDigits isDigit
+size-low-at true is-zero x xs q low = refl
+size-low-at false true x xs q low = rw q
+size-low-at false false x xs q low = rw q (simp (lt-leb 48 x (omega (arith, eqb-false x 48 q))))
+
+module _ (line : List ℕ) (at : ℕ) where
+  pub size-empty : length line ≤ at → plainSize (fieldAt line at) ≡ none
   unfolding plainSize isPlain
-  size-empty h = rw (drop-of-length-le field h)
+  size-empty h = rw (field-empty line at (index-end 9 line at h))
 
-  module _ (h : at < length field) where
-    pub size-zero : getD field at 0 ≡ 48 → plainSize (drop at field) ≡ none
-    unfolding plainSize isPlain
-    size-zero q = rw (drop-more field at h) (simp (eq-eqb _ _ q))
+  module _ (h : at < length line) where
+    pub size-low : getD line at 0 ≤ 48 → plainSize (fieldAt line at) ≡ none
+    size-low low = rw (field-byte line at h) (size-low-at (eqb (getD line at 0) 9) _ _ (fieldAt line (at + 1)) refl low)
 
-    pub size-digits : (getD field at 0 ≡ 48 → ⊥) → plainSize (drop at field) ≡ digitsAfter 0 (drop at field)
+    pub size-digits : 48 < getD line at 0 → plainSize (fieldAt line at) ≡ digitsAfter 0 (fieldAt line at)
     unfolding plainSize digitsAfter isPlain
-    size-digits q = rw (drop-more field at h) (simp (ne-eqb _ _ q))
+    size-digits high = rw (field-more line at h (λ e. omega arith)) (simp (ne-eqb (getD line at 0) 48 (λ e. omega arith)))
 
 small-at : (plain small : Bool) (m n : ℕ) → leb m 2147483647 ≡ small → cond (plain && small) (some m) none ≡ some n → n ≤ 2147483647
 small-at true true m n p q = let e : m ≡ n = cc in omega (arith, leb-true m 2147483647 p)
 small-at true false m n p q = absurd (none-some q)
 small-at false small m n p q = absurd (none-some q)
 
-size-small : (xs : List ℕ) (n : ℕ) → plainSize xs ≡ some n → n ≤ 2147483647
+plain-small : (xs : List ℕ) (n : ℕ) → plainSize xs ≡ some n → n ≤ 2147483647
 unfolding plainSize largest
-size-small xs n q = small-at (isPlain xs) (leb (decimal 0 xs) 2147483647) (decimal 0 xs) n refl q
+plain-small xs n q = small-at (isPlain xs) (leb (decimal 0 xs) 2147483647) (decimal 0 xs) n refl q
 
 -- ---- the sign, as the machine makes it
 
@@ -100,82 +126,177 @@ sized-none-at true n sign q = cc
 sized-none-at false n sign q = refl
 
 -- what `size_from` answered, as the definition asks it
-module _ (xs : List ℕ) {r : Size} (seen : sizeSeen r ≡ plainSize xs) where
-  size-is : {n : ℕ} → r ≡ Small n → plainSize xs ≡ some n
-  unfolding sizeSeen
-  size-is q = sym seen ∙ ap sizeSeen q
+module _ (line : List ℕ) (at : ℕ) {r : Size} (read : SizeRead line at r) where
+  size-is-none : r ≡ NoSize → plainSize (fieldAt line at) ≡ none
+  unfolding SizeRead
+  size-is-none q = rw q at read
 
-  size-is-none : r ≡ NoSize → plainSize xs ≡ none
-  unfolding sizeSeen
-  size-is-none q = sym seen ∙ ap sizeSeen q
-
-  sized-is : {n : ℕ} (sign : ℕ → ℤ) → r ≡ Small n → sized xs sign ≡ some (sign n)
+  sized-none : (sign : ℕ → ℤ) → r ≡ NoSize → sized (fieldAt line at) sign ≡ none
   unfolding sized plainSize
-  sized-is {n} sign q = sized-at (isPlain xs && leb (decimal 0 xs) largest) (decimal 0 xs) sign n (size-is q)
+  sized-none sign q =
+      let xs = fieldAt line at in sized-none-at (isPlain xs && leb (decimal 0 xs) largest) (decimal 0 xs) sign (size-is-none q)
 
-  sized-none : (sign : ℕ → ℤ) → r ≡ NoSize → sized xs sign ≡ none
-  unfolding sized plainSize
-  sized-none sign q = sized-none-at (isPlain xs && leb (decimal 0 xs) largest) (decimal 0 xs) sign (size-is-none q)
+  module _ {n place : ℕ} (q : r ≡ Small n place) where
+    size-is : plainSize (fieldAt line at) ≡ some n
+    unfolding SizeRead
+    size-is = (rw q at read) .0
 
-  pub size-fits : {n : ℕ} → r ≡ Small n → SFits w64 (pos n)
-  size-fits {n} q = sfits-pos n (size-small xs n (size-is q))
+    size-ends : Found 9 line at place
+    unfolding SizeRead
+    size-ends = (rw q at read) .1
 
-  pub size-fits-minus : {n : ℕ} → r ≡ Small n → SFits w64 (pos 0 -ℤ toZ w64 n)
-  size-fits-minus {n} q = let small = size-small xs n (size-is q) in rw (minus-is n small) (sfits-neg n small)
+    sized-is : (sign : ℕ → ℤ) → sized (fieldAt line at) sign ≡ some (sign n)
+    unfolding sized plainSize
+    sized-is sign = let xs = fieldAt line at in sized-at (isPlain xs && leb (decimal 0 xs) largest) (decimal 0 xs) sign n size-is
+
+    size-small : n ≤ 2147483647
+    size-small = plain-small (fieldAt line at) n size-is
+
+    pub size-fits : SFits w64 (pos n)
+    size-fits = sfits-pos n size-small
+
+    pub size-fits-minus : SFits w64 (pos 0 -ℤ toZ w64 n)
+    size-fits-minus = rw (minus-is n size-small) (sfits-neg n size-small)
 
 -- ---- the sign that the first byte says
 
-number-zero-is : (field : List ℕ) → sameBytes field (48 ∷ []) ≡ true → number field ≡ some (pos 0)
+number-zero-more : (xs : List ℕ) → (length xs ≡ 0 → ⊥) → number (48 ∷ xs) ≡ none
+unfolding number sameBytes sized isPlain
+number-zero-more [] more = absurd (more refl)
+number-zero-more (x ∷ xs) more = refl
+
+number-minus-is : (xs : List ℕ) → number (45 ∷ xs) ≡ sized xs (λ n. negℤ (pos n))
 unfolding number sameBytes
-number-zero-is [] same = cc
-number-zero-is (x ∷ xs) same = rw same
+number-minus-is xs = refl
 
-number-minus-is : (field : List ℕ) → sameBytes field (48 ∷ []) ≡ false → getD field 0 0 ≡ 45 → number field ≡ sized (drop 1 field) (λ n. negℤ (pos n))
+-- at a tab there is no byte, and no number either way
+number-plain-at : (is-tab : Bool) (x : ℕ) (xs : List ℕ) → (x ≡ 48 → ⊥) → (x ≡ 45 → ⊥)
+    → number (cond is-tab [] (x ∷ xs)) ≡ sized (cond is-tab [] (x ∷ xs)) pos
+unfolding number sameBytes sized isPlain
+number-plain-at true x xs no-zero no-minus = refl
+number-plain-at false x xs no-zero no-minus = simp (ne-eqb x 48 no-zero, ne-eqb x 45 no-minus)
+
+-- ---- a number: a law for each way out of `number_at`
+
+module _ (line : List ℕ) (at : ℕ) where
+  pub number-end : length line ≤ at → NumberRead line at NoNumberAt
+  unfolding NumberRead number
+  number-end h = rw (field-empty line at (index-end 9 line at h))
+
+  module _ (h : at < length line) where
+    module _ (zero-byte : getD line at 0 ≡ 48) {next : ℕ} (found : Found 9 line (at + 1) next) where
+      zero-more : fieldAt line at ≡ 48 ∷ fieldAt line (at + 1)
+      zero-more = field-more line at h (λ e. omega arith) ∙ rw zero-byte
+
+      pub zero-number : next ≡ at + 1 → NumberRead line at (OfAt (pos 0) (at + 1))
+      unfolding NumberRead number sameBytes
+      zero-number q =
+          (rw (zero-more, field-empty line (at + 1) (omega (arith, found .is))), found-next 9 line at h (λ e. omega arith) (rw q at found))
+
+      pub zero-none : (next ≡ at + 1 → ⊥) → NumberRead line at NoNumberAt
+      unfolding NumberRead
+      zero-none q =
+          rw zero-more (number-zero-more (fieldAt line (at + 1)) (λ e. q (omega (arith, found .low, field-length line (at + 1) found))))
+
+    module _ (minus : getD line at 0 ≡ 45) where
+      minus-sized : number (fieldAt line at) ≡ sized (fieldAt line (at + 1)) (λ n. negℤ (pos n))
+      minus-sized = rw (field-more line at h (λ e. omega arith), minus) (number-minus-is (fieldAt line (at + 1)))
+
+      module _ {r : Size} (read : SizeRead line (at + 1) r) where
+        pub minus-none : r ≡ NoSize → NumberRead line at NoNumberAt
+        unfolding NumberRead
+        minus-none q = minus-sized ∙ sized-none line (at + 1) read _ q
+
+        pub minus-number : {n place : ℕ} → r ≡ Small n place → NumberRead line at (OfAt (toZ w64 (ofZ w64 (pos 0 -ℤ toZ w64 n))) place)
+        unfolding NumberRead
+        minus-number {n} q =
+            let small = size-small line (at + 1) read q in (
+              rw (minus-is n small, toZ-ofZ w64 (negℤ (pos n)) (sfits-neg n small)) (minus-sized ∙ sized-is line (at + 1) read q _),
+              found-next 9 line at h (λ e. omega arith) (size-ends line (at + 1) read q),
+            )
+
+    module _ (no-zero : getD line at 0 ≡ 48 → ⊥) (no-minus : getD line at 0 ≡ 45 → ⊥) where
+      plain-sized : number (fieldAt line at) ≡ sized (fieldAt line at) pos
+      plain-sized = rw (field-byte line at h) (number-plain-at (eqb (getD line at 0) 9) _ (fieldAt line (at + 1)) no-zero no-minus)
+
+      module _ {r : Size} (read : SizeRead line at r) where
+        pub plain-none : r ≡ NoSize → NumberRead line at NoNumberAt
+        unfolding NumberRead
+        plain-none q = plain-sized ∙ sized-none line at read _ q
+
+        pub plain-number : {n place : ℕ} → r ≡ Small n place → NumberRead line at (OfAt (toZ w64 (ofZ w64 (pos n))) place)
+        unfolding NumberRead
+        plain-number {n} q =
+            (rw (toZ-ofZ w64 (pos n) (size-fits line at read q)) (plain-sized ∙ sized-is line at read q _), size-ends line at read q)
+
+-- what `number_at` answered
+module _ (line : List ℕ) (at : ℕ) {r : NumberAt} (read : NumberRead line at r) where
+  pub number-is-none : r ≡ NoNumberAt → number (fieldAt line at) ≡ none
+  unfolding NumberRead
+  number-is-none q = rw q at read
+
+  module _ {z : ℤ} {place : ℕ} (q : r ≡ OfAt z place) where
+    pub number-is : number (fieldAt line at) ≡ some z
+    unfolding NumberRead
+    number-is = (rw q at read) .0
+
+    pub number-ends : Found 9 line at place
+    unfolding NumberRead
+    number-ends = (rw q at read) .1
+
+-- ---- bytes with a tab among them are no number
+
+tab-digits-at : (is-tab : Bool) (x : ℕ) (xs : List ℕ) → eqb x 9 ≡ is-tab → (indexOf 9 xs < length xs → allDigits xs ≡ false)
+    → cond is-tab 0 (suc (indexOf 9 xs)) < suc (length xs) → isDigit x && allDigits xs ≡ false
+unfolding isDigit
+tab-digits-at true x xs q later h = rw (eqb-true x 9 q)
+tab-digits-at false x xs q later h = rw (later (omega arith)) (and-false (isDigit x))
+
+tab-digits : (xs : List ℕ) → indexOf 9 xs < length xs → allDigits xs ≡ false
+unfolding indexOf allDigits
+tab-digits [] h = let z : ⊥ = omega arith in absurd z
+tab-digits (x ∷ xs) h = tab-digits-at _ x xs refl (tab-digits xs) h
+
+tab-sized : (xs : List ℕ) (sign : ℕ → ℤ) → indexOf 9 xs < length xs → sized xs sign ≡ none
+unfolding sized isPlain
+tab-sized [] sign h = refl
+tab-sized (x ∷ xs) sign h = rw (tab-digits (x ∷ xs) h) (simp and-false)
+
+tab-number-at : (is-zero is-minus : Bool) (x : ℕ) (xs : List ℕ) → eqb x 48 ≡ is-zero → eqb x 45 ≡ is-minus → indexOf 9 (x ∷ xs) < length (x ∷ xs)
+    → number (x ∷ xs) ≡ none
+unfolding indexOf
+tab-number-at true is-minus x xs z m h =
+    let e = eqb-true x 48 z in let later = rw e at h in rw e (number-zero-more xs (λ none-left. omega arith))
+tab-number-at false true x xs z m h =
+    let e = eqb-true x 45 m in let later = rw e at h in rw e (number-minus-is xs ∙ tab-sized xs _ (omega arith))
+tab-number-at false false x xs z m h = number-plain-at false x xs (eqb-false x 48 z) (eqb-false x 45 m) ∙ tab-sized (x ∷ xs) pos h
+
+tab-number : (xs : List ℕ) → indexOf 9 xs < length xs → number xs ≡ none
 unfolding number
-number-minus-is [] same minus = let z : ⊥ = omega arith in absurd z
-number-minus-is (x ∷ xs) same minus = rw same (simp (eq-eqb x 45 minus))
+tab-number [] h = refl
+tab-number (x ∷ xs) h = tab-number-at _ _ x xs refl refl h
 
-number-plain-is : (field : List ℕ) → (length field ≡ 0 → ⊥) → sameBytes field (48 ∷ []) ≡ false → (getD field 0 0 ≡ 45 → ⊥)
-    → number field ≡ sized (drop 0 field) pos
-unfolding number
-number-plain-is [] some-byte same plain = absurd (some-byte refl)
-number-plain-is (x ∷ xs) some-byte same plain = rw same (simp (ne-eqb x 45 plain))
+-- ---- the number that all of some bytes spell: a law for each way out of `number_of`
 
--- ---- a number: a law for each way out of `number_of`
+module _ (field : List ℕ) {r : NumberAt} (read : NumberRead field 0 r) where
+  whole-none-at : (has-tab : Bool) → ltb (indexOf 9 field) (length field) ≡ has-tab → r ≡ NoNumberAt → number field ≡ none
+  whole-none-at true p q = tab-number field (ltb-true _ _ p)
+  whole-none-at false p q = ap number (sym (field-whole field (ltb-false _ _ p))) ∙ number-is-none field 0 read q
 
-pub number-empty : (field : List ℕ) → length field ≡ 0 → numberSeen NoNumber ≡ number field
-unfolding numberSeen number
-number-empty [] h = refl
-number-empty (x ∷ xs) h = let z : ⊥ = omega arith in absurd z
-
-module _ (field : List ℕ) {is-zero : Bool} (same : is-zero ≡ sameBytes field (48 ∷ [])) where
-  pub number-zero : is-zero ≡ true → numberSeen (Of (pos 0)) ≡ number field
+  pub whole-none : r ≡ NoNumberAt → numberSeen NoNumber ≡ number field
   unfolding numberSeen
-  number-zero holds = sym (number-zero-is field (sym same ∙ holds))
+  whole-none q = sym (whole-none-at _ refl q)
 
-  module _ (fails : is-zero ≡ false) {r : Size} where
-    module _ (minus : getD field 0 0 ≡ 45) (seen : sizeSeen r ≡ plainSize (drop 1 field)) where
-      pub minus-none : r ≡ NoSize → numberSeen NoNumber ≡ number field
-      unfolding numberSeen
-      minus-none q = sym (number-minus-is field (sym same ∙ fails) minus ∙ sized-none (drop 1 field) seen _ q)
+  module _ {z : ℤ} {end : ℕ} (q : r ≡ OfAt z end) where
+    pub whole-tab : end < length field → numberSeen NoNumber ≡ number field
+    unfolding numberSeen
+    whole-tab h = sym (tab-number field (omega (arith, number-ends field 0 read q .is)))
 
-      pub minus-number : {n : ℕ} → r ≡ Small n → numberSeen (Of (toZ w64 (ofZ w64 (pos 0 -ℤ toZ w64 n)))) ≡ number field
-      unfolding numberSeen
-      minus-number {n} q =
-          let small = size-small (drop 1 field) n (size-is (drop 1 field) seen q) in
-          rw (minus-is n small, toZ-ofZ w64 (negℤ (pos n)) (sfits-neg n small))
-          (sym (number-minus-is field (sym same ∙ fails) minus ∙ sized-is (drop 1 field) seen _ q))
-
-    module _ (some-byte : length field ≡ 0 → ⊥) (plain : getD field 0 0 ≡ 45 → ⊥) (seen : sizeSeen r ≡ plainSize (drop 0 field)) where
-      pub plain-none : r ≡ NoSize → numberSeen NoNumber ≡ number field
-      unfolding numberSeen
-      plain-none q = sym (number-plain-is field some-byte (sym same ∙ fails) plain ∙ sized-none (drop 0 field) seen _ q)
-
-      pub plain-number : {n : ℕ} → r ≡ Small n → numberSeen (Of (toZ w64 (ofZ w64 (pos n)))) ≡ number field
-      unfolding numberSeen
-      plain-number {n} q =
-          rw (toZ-ofZ w64 (pos n) (size-fits (drop 0 field) seen q))
-          (sym (number-plain-is field some-byte (sym same ∙ fails) plain ∙ sized-is (drop 0 field) seen _ q))
+    pub whole-number : length field ≤ end → SFits w64 z → numberSeen (Of (toZ w64 (ofZ w64 z))) ≡ number field
+    unfolding numberSeen
+    whole-number h fits =
+        let all : fieldAt field 0 ≡ field = field-whole field (omega (arith, number-ends field 0 read q .is)) in
+        rw (toZ-ofZ w64 z fits) (sym (ap number (sym all) ∙ number-is field 0 read q))
 
 -- ---- no number is larger than the limit
 

@@ -1,4 +1,4 @@
--- Laws of places: one byte of a search, the part that a search finds, and the lines that are left at a place.
+-- Laws of places: one byte of a search, the field at a place, the part that a search finds, and the lines that are left at a place.
 --
 -- A loop over the lines of a text keeps `at ≤ length text` and what it says of `linesFrom text at`; that the text is ended it knows from before
 -- the loop. In a turn `line-within` says that the line's end is a byte of the text, and `lines-next` takes the line off; after the
@@ -12,9 +12,9 @@ use native.Mathlib.Omega.{arith}
 use borrow.Author.Tests.{ltb-true, ltb-false, lt-ltb, le-ltb, eq-eqb, ne-eqb}
 use lib.Dec.{ltb, eqb, leb·suc-suc}
 use lib.ListN.{length, getD, take, drop, length-drop, drop-of-length-le}
-use lib.Seq.{drop-drop, getD-drop}
+use lib.Seq.{drop-drop, getD-drop, length-take-le, take-all}
 use Rattle.meaning.specs.Text.{onFirst, split, withoutLast, linesOf, isEnded}
-use Rattle.text.specs.Place.{indexOf, Found, linesFrom}
+use Rattle.text.specs.Place.{indexOf, Found, fieldAt, linesFrom}
 use Rattle.text.proofs.Bytes.{drop-more}
 
 -- ---- one byte of a search
@@ -31,6 +31,44 @@ module _ (separator : ℕ) (xs : List ℕ) (i : ℕ) where
   pub index-past : i < length xs → (getD xs i 0 ≡ separator → ⊥) → indexOf separator (drop i xs) ≡ suc (indexOf separator (drop (i + 1) xs))
   unfolding indexOf
   index-past h q = rw (drop-more xs i h) (simp (ne-eqb _ _ q))
+
+-- a search that starts one byte sooner finds the same place, where that byte is no separator
+pub found-next : (separator : ℕ) (xs : List ℕ) (at : ℕ) {place : ℕ} → at < length xs → (getD xs at 0 ≡ separator → ⊥)
+    → Found separator xs (at + 1) place → Found separator xs at place
+found-next separator xs at h q found =
+    record { low = omega (arith, found .low); high = found .high; is = omega (arith, found .is, index-past separator xs at h q) }
+
+-- ---- the field at a place
+
+field-byte-at : (is-tab : Bool) (x : ℕ) (xs : List ℕ) (n : ℕ) → take (cond is-tab 0 (suc n)) (x ∷ xs) ≡ cond is-tab [] (x ∷ take n xs)
+field-byte-at true x xs n = refl
+field-byte-at false x xs n = refl
+
+module _ (line : List ℕ) (at : ℕ) where
+  pub field-empty : indexOf 9 (drop at line) ≡ 0 → fieldAt line at ≡ []
+  unfolding fieldAt
+  field-empty q = rw q
+
+  -- its first byte: none, where that is a tab
+  pub field-byte : at < length line → fieldAt line at ≡ cond (eqb (getD line at 0) 9) [] (getD line at 0 ∷ fieldAt line (at + 1))
+  unfolding fieldAt indexOf
+  field-byte h = rw (drop-more line at h) (field-byte-at (eqb (getD line at 0) 9) (getD line at 0) (drop (at + 1) line) (indexOf 9 (drop (at + 1) line)))
+
+  pub field-more : at < length line → (getD line at 0 ≡ 9 → ⊥) → fieldAt line at ≡ getD line at 0 ∷ fieldAt line (at + 1)
+  field-more h q = field-byte h ∙ simp (ne-eqb _ _ q)
+
+  field-found : {place : ℕ} → Found 9 line at place → fieldAt line at ≡ take (place - at) (drop at line)
+  unfolding fieldAt
+  field-found {place} found = let n : indexOf 9 (drop at line) ≡ place - at = omega (arith, found .is) in rw n
+
+  pub field-length : {place : ℕ} → Found 9 line at place → length (fieldAt line at) ≡ place - at
+  field-length {place} found =
+      rw (field-found found) (length-take-le (place - at) (drop at line) (omega (arith, found .low, found .high, length-drop at line)))
+
+-- bytes without a tab are one field
+pub field-whole : (line : List ℕ) → length line ≤ indexOf 9 line → fieldAt line 0 ≡ line
+unfolding fieldAt
+field-whole line h = take-all (indexOf 9 line) line h
 
 -- ---- the part before the first separator, and those after it
 
@@ -75,13 +113,14 @@ module _ (separator : ℕ) (xs : List ℕ) where
   unfolding partsAfter
   parts-more place h = rw (add-one) (simp (lt-ltb place (length xs) h))
 
-  pub parts-some : (place : ℕ) → place < length xs
-      → let left = drop (place + 1) xs in partsAfter separator xs place ≡ take (indexOf separator left) left ∷ partsAfter separator left (indexOf separator left)
-  parts-some place h = parts-more place h ∙ split-index separator (drop (place + 1) xs)
+-- the fields after one that ends at a tab: the next, and those after it
+module _ (line : List ℕ) (place : ℕ) (h : place < length line) where
+  pub fields-some : let left = drop (place + 1) line in partsAfter 9 line place ≡ fieldAt line (place + 1) ∷ partsAfter 9 left (indexOf 9 left)
+  unfolding fieldAt
+  fields-some = parts-more 9 line place h ∙ split-index 9 (drop (place + 1) line)
 
-  pub parts-next : {place next : ℕ} → place < length xs → Found separator xs (place + 1) next
-      → partsAfter separator xs place ≡ take (next - (place + 1)) (drop (place + 1) xs) ∷ partsAfter separator xs next
-  parts-next {place} h found = parts-more place h ∙ parts-from found
+  pub fields-next : {next : ℕ} → Found 9 line (place + 1) next → partsAfter 9 line place ≡ fieldAt line (place + 1) ∷ partsAfter 9 line next
+  fields-next found = parts-more 9 line place h ∙ parts-from 9 line found ∙ rw (field-found line (place + 1) found)
 
 -- ---- an ended text
 

@@ -1,24 +1,34 @@
--- How the number reader's answers are read as values of the definitions.
+-- How the number readers' answers are read as values of the definitions.
+use mathlib.Core.Path.{_≡_}
 use Prim.Native.Nat.{ℕ}
 use mathlib.Core.Bool.{cond, _&&_}
 use mathlib.Core.List.{List}
 use mathlib.Core.Option.{Option, none, some}
 use lib.Dec.{leb}
 use lib.IntN.{ℤ}
-use Rattle.meaning.specs.Text.{decimal, isPlain, largest}
+use Rattle.meaning.specs.Text.{decimal, isPlain, largest, number}
 use Rattle.text.specs.declared.Number.{Number}
 use Rattle.text.specs.declared.Number.the-variants.{Of, NoNumber}
+use Rattle.text.specs.declared.NumberAt.{NumberAt}
+use Rattle.text.specs.declared.NumberAt.the-variants.{Of as OfAt, NoNumber as NoNumberAt}
 use Rattle.text.specs.declared.Size.{Size}
 use Rattle.text.specs.declared.Size.the-variants.{Small, NoSize}
+use Rattle.text.specs.Place.{Found, fieldAt}
 
 unfoldable pub numberSeen : Number → Option ℤ
 numberSeen (Of z) = some z
 numberSeen NoNumber = none
 
-unfoldable pub sizeSeen : Size → Option ℕ
-sizeSeen (Small n) = some n
-sizeSeen NoSize = none
+-- the answer is the number of the field at a place, and the place where that field ends
+unfoldable pub NumberRead : List ℕ → ℕ → NumberAt → Type 0
+NumberRead line at (OfAt z place) = (number (fieldAt line at) ≡ some z) × Found 9 line at place
+NumberRead line at NoNumberAt = number (fieldAt line at) ≡ none
 
 -- the size of the number above 0 that these bytes spell: what the definition of a number asks of the bytes after its sign
 unfoldable pub plainSize : List ℕ → Option ℕ
 plainSize xs = cond (isPlain xs && leb (decimal 0 xs) largest) (some (decimal 0 xs)) none
+
+-- the answer is the size that the field at a place spells, and the place where that field ends
+unfoldable pub SizeRead : List ℕ → ℕ → Size → Type 0
+SizeRead line at (Small n place) = (plainSize (fieldAt line at) ≡ some n) × Found 9 line at place
+SizeRead line at NoSize = plainSize (fieldAt line at) ≡ none

@@ -1,10 +1,10 @@
--- Places in a byte string: what a search for a separator finds, and the lines that are left at a place.
+-- Places in a byte string: what a search for a separator finds, the field that starts at a place, and the lines that are left at one.
 use mathlib.Core.Path.{_≡_}
 use Prim.Native.Nat.{ℕ, suc, _+_, _≤_}
 use mathlib.Core.Bool.{cond}
 use mathlib.Core.List.{List, [], _∷_}
 use lib.Dec.{eqb}
-use lib.ListN.{length, drop}
+use lib.ListN.{length, take, drop}
 use Rattle.meaning.specs.Text.{linesOf}
 
 -- how many bytes stand before the first that equals separator: all, where there is none
@@ -17,6 +17,10 @@ pub record Found (separator : ℕ) (xs : List ℕ) (at place : ℕ) : Type 0 whe
   pub low : at ≤ place
   pub high : place ≤ length xs
   pub is : place ≡ at + indexOf separator (drop at xs)
+
+-- the field that starts at `at`: the bytes up to the first tab, or to the end
+unfoldable pub fieldAt : List ℕ → ℕ → List ℕ
+fieldAt line at = let left = drop at line in take (indexOf 9 left) left
 
 -- the lines of the text from `at` on
 abbrev pub linesFrom : List ℕ → ℕ → List (List ℕ)

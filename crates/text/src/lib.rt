@@ -4,10 +4,10 @@
 // value is the definition's. Nothing is read past a slice's end and no sum overflows, however long the bytes are.
 ghost use mathlib.Core.Path.{_≡_};
 ghost use Prim.Native.Nat.{_≤_};
-ghost use lib.ListN.{length, drop};
-ghost use Rattle.meaning.specs.Text.{sameBytes, isEnded, number};
+ghost use lib.ListN.{length};
+ghost use Rattle.meaning.specs.Text.{sameBytes, isEnded, isDigit, number};
 ghost use Rattle.meaning.specs.Line.{words, wordAmong, isCount};
-ghost use Rattle.text.specs.Number.{plainSize, sizeSeen, numberSeen};
+ghost use Rattle.text.specs.Number.{numberSeen, SizeRead, NumberRead};
 ghost use Rattle.text.specs.Word.{wordOf, wordSeen};
 ghost use Rattle.text.specs.Place.{Found};
 ghost use Rattle.text.specs.Parsed.{LineRead};
@@ -35,9 +35,15 @@ pub enum Number {
     NoNumber,
 }
 
-// The size of a number above 0.
+// A number, and the place where its field ends.
+pub enum NumberAt {
+    Of(i64, usize),
+    NoNumber,
+}
+
+// The size of a number above 0, and the place where its field ends.
 enum Size {
-    Small(u64),
+    Small(u64, usize),
     NoSize,
 }
 
@@ -58,57 +64,89 @@ pub fn is_same(left: &[u8], right: &[u8]) -> bool
     true
 }
 
-// The number that the bytes from `at` on spell: digits without a leading zero. It leaves at the first byte that makes it too large,
-// so that the number stays small however many digits follow.
-fn size_from(field: &[u8], at: usize) -> Size
-    requires { ⌜ at ≤ length (now field) ⌝ }
-    ensures { λ r. ⌜ sizeSeen r ≡ plainSize (drop at (now (field .entry))) ⌝ }
+// Whether a byte is a digit.
+fn is_digit(byte: u8) -> bool
+    ensures { λ r. ⌜ r ≡ isDigit byte ⌝ }
 {
-    if field.len() <= at {
+    if byte < ZERO {
+        return false;
+    }
+    byte <= NINE
+}
+
+// The size that the field at `at` spells: digits without a leading zero. It leaves at the first byte that makes the number too large,
+// so that it stays small however many digits follow. Only a byte that is no digit is held to the tab that ends the field: each byte is
+// read once, and the end costs a digit nothing.
+fn size_from(line: &[u8], at: usize) -> Size
+    requires { ⌜ at ≤ length (now line) ⌝ }
+    ensures { λ r. ⌜ SizeRead (now (line .entry)) at r ⌝ }
+{
+    if line.len() <= at {
         return Size::NoSize;
     }
-    if field[at] == ZERO {
+    if line[at] <= ZERO {
         return Size::NoSize;
     }
     let mut n: u64 = 0;
     let mut i = at;
-    while i < field.len() {
-        let digit = field[i];
-        if digit < ZERO {
+    while i < line.len() {
+        let byte = line[i];
+        if !is_digit(byte) {
+            if byte == TAB {
+                return Size::Small(n, i);
+            }
             return Size::NoSize;
         }
-        if NINE < digit {
-            return Size::NoSize;
-        }
-        n = 10 * n + ((digit - ZERO) as u64);
+        n = 10 * n + ((byte - ZERO) as u64);
         if LARGEST < n {
             return Size::NoSize;
         }
         i += 1;
     }
-    Size::Small(n)
+    Size::Small(n, i)
 }
 
-// The number that a field spells.
+// The number that the field at `at` spells. A zero is one where its field ends just after it. Otherwise `from` is where the digits
+// start, and so tells the sign. One call reads them with either sign: with two this function is too large for the compiler to put it
+// into the loop of `line_of`, and each number pays for a call.
+pub fn number_at(line: &[u8], at: usize) -> NumberAt
+    requires { ⌜ at ≤ length (now line) ⌝ }
+    ensures { λ r. ⌜ NumberRead (now (line .entry)) at r ⌝ }
+{
+    if line.len() <= at {
+        return NumberAt::NoNumber;
+    }
+    let next = at + 1;
+    if line[at] == ZERO {
+        if field_end(line, next) == next {
+            return NumberAt::Of(0, next);
+        }
+        return NumberAt::NoNumber;
+    }
+    let mut from = at;
+    if line[at] == MINUS {
+        from = next;
+    }
+    let Size::Small(n, end) = size_from(line, from) else {
+        return NumberAt::NoNumber;
+    };
+    if from == at {
+        return NumberAt::Of(n as i64, end);
+    }
+    NumberAt::Of(-(n as i64), end)
+}
+
+// The number that all of these bytes spell. With a tab among them they are more than one field, and no number.
 pub fn number_of(field: &[u8]) -> Number
     ensures { λ r. ⌜ numberSeen r ≡ number (now (field .entry)) ⌝ }
 {
-    if field.len() == 0 {
-        return Number::NoNumber;
-    }
-    if is_same(field, b"0") {
-        return Number::Of(0);
-    }
-    if field[0] == MINUS {
-        let Size::Small(n) = size_from(field, 1) else {
-            return Number::NoNumber;
-        };
-        return Number::Of(-(n as i64));
-    }
-    let Size::Small(n) = size_from(field, 0) else {
+    let NumberAt::Of(n, end) = number_at(field, 0) else {
         return Number::NoNumber;
     };
-    Number::Of(n as i64)
+    if end < field.len() {
+        return Number::NoNumber;
+    }
+    Number::Of(n)
 }
 
 // ---- words
@@ -247,10 +285,10 @@ pub fn line_of(line: &[u8], numbers: &mut [i64]) -> Parsed
             return Parsed::NoLine;
         }
         let at = end + 1;
-        end = field_end(line, at);
-        let Number::Of(n) = number_of(&line[at..end]) else {
+        let NumberAt::Of(n, place) = number_at(line, at) else {
             return Parsed::NoLine;
         };
+        end = place;
         numbers[count] = n;
         count += 1;
     }

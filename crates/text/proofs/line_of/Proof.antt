@@ -7,8 +7,10 @@ use lib.ListN.{length, take}
 use Rattle.meaning.specs.Line.{lineOf}
 use Rattle.text.specs.Parsed.{parsedSeen, countSeen}
 use Rattle.text.proofs.Places.{partsAfter}
+use Rattle.text.proofs.Numbers.{number-ends}
 use Rattle.text.proofs.Lines.{lineAfter, line-no-word, line-word, line-full, line-no-number, line-number, line-is, line-wrong-count}
 use borrow.Author.Needs.{needs}
+use native.Mathlib.Omega.{arith}
 use Rattle.text.proofs.line_of.Statement.{statement}
 use Rattle.text.proofs.line_of.Tie as tie
 
@@ -75,20 +77,8 @@ returns-2 c =
 add-at : tie.Need-add-at Inv-loop μ-loop
 add-at c = search needs
 
-field-end-requires-2 : tie.Need-field-end-requires-2 Inv-loop μ-loop
-field-end-requires-2 c κs = search needs
-
-sub-number-of : tie.Need-sub-number-of Inv-loop μ-loop
-sub-number-of c = search needs
-
-part-number-of-start : tie.Need-part-number-of-start Inv-loop μ-loop
-part-number-of-start c = search needs
-
-part-number-of-end : tie.Need-part-number-of-end Inv-loop μ-loop
-part-number-of-end c = search needs
-
-number-of-requires : tie.Need-number-of-requires Inv-loop μ-loop
-number-of-requires c κs = search needs
+number-at-requires : tie.Need-number-at-requires Inv-loop μ-loop
+number-at-requires c κs = search needs
 
 enum-known-n : tie.Need-enum-known-n Inv-loop μ-loop
 enum-known-n c = search needs
@@ -102,13 +92,12 @@ same-length-2 c = search needs
 returns-3 : tie.Need-returns-3 Inv-loop μ-loop
 unfolding parsedSeen countSeen
 returns-3 c =
-    let at-number-of = c .before .before in
-    let at-field-end2 = at-number-of .before .before in
-    let at-test = at-field-end2 .before .before in
+    let at-number-at = c .before .before in
+    let at-test = at-number-at .before .before in
     let at-loop = at-test .before in
     let start = at-loop .before .before .before .before .before .before .before .before in
     record {
-      seen = sym (at-loop .loop .inv .3 ∙ line-no-number (start .args .line .now) _ (at-test .loop-test .taken) (at-field-end2 .field-end2 .ensures) (at-number-of .number-of .ensures) _ (c .enum-told2 .given .1));
+      seen = sym (at-loop .loop .inv .3 ∙ line-no-number (start .args .line .now) _ _ (at-test .loop-test .taken) (at-number-at .number-at .ensures) _ (c .enum-told2 .given .1));
       most = search needs;
       kept = search needs;
     }
@@ -123,20 +112,23 @@ add-count : tie.Need-add-count Inv-loop μ-loop
 add-count c = search needs
 
 loop-less : tie.Need-loop-less Inv-loop μ-loop
-loop-less c = search needs
+loop-less c =
+    let at-number-at = c .before .before .before in
+    let found = number-ends _ _ (at-number-at .number-at .ensures) (c .before .n .given .1) in
+    omega (arith, found .low, found .high)
 
 loop-again : tie.Need-loop-again Inv-loop μ-loop
 loop-again c =
-    let at-number-of = c .before .before .before in
-    let at-field-end2 = at-number-of .before .before in
-    let at-test = at-field-end2 .before .before in
+    let at-number-at = c .before .before .before in
+    let at-test = at-number-at .before .before in
     let at-loop = at-test .before in
-    let start = at-loop .before .before .before .before .before .before .before .before in (
-      search needs,
+    let start = at-loop .before .before .before .before .before .before .before .before in
+    let found = number-ends _ _ (at-number-at .number-at .ensures) (c .before .n .given .1) in (
+      found .high,
       search needs,
       search needs,
       rw (toZ-ofZ w64 (c .before .n .given .0 .0) (search needs))
-          (at-loop .loop .inv .3 ∙ line-number (start .args .line .now) _ (at-test .loop-test .taken) (at-field-end2 .field-end2 .ensures) (at-number-of .number-of .ensures) (at-loop .loop .numbers) (at-loop .loop .count) (c .before .n .given .1) (search needs)),
+          (at-loop .loop .inv .3 ∙ line-number (start .args .line .now) _ _ (at-test .loop-test .taken) (at-number-at .number-at .ensures) (at-loop .loop .numbers) (at-loop .loop .count) (c .before .n .given .1) (search needs)),
     )
 
 is-count-requires : tie.Need-is-count-requires Inv-loop μ-loop
@@ -190,11 +182,7 @@ line-of-spec =
     same-length
     returns-2
     add-at
-    field-end-requires-2
-    sub-number-of
-    part-number-of-start
-    part-number-of-end
-    number-of-requires
+    number-at-requires
     enum-known-n
     enum-told-2
     same-length-2
