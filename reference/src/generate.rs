@@ -13,6 +13,7 @@ mod directed_tables;
 mod lists;
 mod tables;
 
+pub use damage::random_bytes;
 pub use dice::Dice;
 pub use directed::{directed, Call, Directed};
 
