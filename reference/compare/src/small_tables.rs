@@ -1,0 +1,145 @@
+//! Every table of small lists: the service accepts a table exactly when it is the true table of its own inputs, and its reply is the
+//! reference's. The true tables are had without checking: by making the table of every column.
+
+use crate::{Reply, Service, Tally};
+use reference::exhaustive::{families, mixes, SmallList};
+use reference::generate::Dice;
+use std::collections::BTreeSet;
+
+/// Of each family, all lists with at most so many tables are tried.
+const FEW: u64 = 40_000;
+/// Of those with at most so many, some are tried: of each p and count of cells as many as have together so many tables, and one at least.
+const MANY: u64 = 6_000_000;
+const TOGETHER: u64 = 1_000_000;
+/// Mixes with more tables than this are left out.
+const MOST_MIXED: u64 = 100_000;
+/// Where a list has so few tables when each cell may be p as well, these are tried too.
+const MOST_BEYOND: u64 = 20_000;
+
+/// The tables of a list that are tried.
+#[derive(Clone, Copy, Debug, PartialEq, Eq)]
+enum Tables {
+    /// Every table whose cells are at most this.
+    UpTo(u32),
+    /// Root: any remainder for v, y and q, and each digit from 0 to b, which is one too many.
+    DigitsUpTo(u32),
+    /// Every table that differs from a true one in so many cells at most.
+    Near(usize),
+}
+
+/// A list, and which of its tables are tried.
+pub struct SmallJob {
+    pub small: SmallList,
+    tables: Tables,
+}
+
+/// Root's lists, the count of changed cells for each, and b where each digit group has one digit.
+const ROOTS: [(&str, usize, Option<u32>); 5] = [
+    ("field 17;in;root 0 3 1", 3, Some(3)),
+    ("field 19;in;root 0 3 1", 3, Some(3)),
+    ("field 31;in;root 0 4 1", 2, None),
+    ("field 31;in;root 0 2 2", 2, None),
+    ("field 17;in;sum 1;root 1 3 1;max 1 2 3 1;which 2 1 2 2;relu 0 2 3;span 0 3 1 -1", 2, None),
+];
+
+/// All lists, those with the most tables first, so that the cores are done at about the same time.
+pub fn small_jobs() -> Vec<SmallJob> {
+    let chosen = families().into_iter().flat_map(|family| chosen(family.lists(MANY)));
+    let lists = chosen.chain(mixes(MOST_MIXED));
+    let mut jobs: Vec<SmallJob> = lists.map(SmallJob::every_table).collect();
+    for (lines, changes, base) in ROOTS {
+        let small = || SmallList::written("root", lines).expect("a readable list");
+        jobs.push(SmallJob { small: small(), tables: Tables::Near(changes) });
+        jobs.extend(base.map(|b| SmallJob { small: small(), tables: Tables::DigitsUpTo(b) }));
+    }
+    jobs.sort_by_key(|job| std::cmp::Reverse(job.size()));
+    jobs
+}
+
+/// The lists of a family that are tried: all that have few tables, and of the others some by chance, the same in every run.
+fn chosen(mut lists: Vec<SmallList>) -> Vec<SmallList> {
+    let tables = |list: &SmallList| list.table_count(list.p()).unwrap_or(u64::MAX);
+    let mut dice = Dice::new(6, 0);
+    lists.sort_by_cached_key(|list| (list.p(), list.cells(), dice.draw()));
+    let (mut alike, mut together) = ((0, 0), 0);
+    lists.retain(|list| {
+        if alike != (list.p(), list.cells()) {
+            (alike, together) = ((list.p(), list.cells()), 0);
+        }
+        let count = tables(list);
+        let kept = count <= FEW || together == 0 || together + count <= TOGETHER;
+        together += if kept { count } else { 0 };
+        kept
+    });
+    lists
+}
+
+impl SmallJob {
+    fn every_table(small: SmallList) -> SmallJob {
+        let p = small.p();
+        let beyond = small.table_count(p + 1).is_some_and(|tables| tables <= MOST_BEYOND);
+        SmallJob { small, tables: Tables::UpTo(if beyond { p } else { p - 1 }) }
+    }
+
+    /// About how many tables there are to try.
+    fn size(&self) -> u64 {
+        match self.tables {
+            Tables::UpTo(highest) => self.small.table_count(highest + 1).unwrap_or(u64::MAX),
+            Tables::DigitsUpTo(_) | Tables::Near(_) => u64::MAX,
+        }
+    }
+
+    /// Tries the tables on a service.
+    pub fn compare<S: Service>(&self) -> Tally {
+        let mut trial = Trial {
+            small: &self.small,
+            true_tables: self.small.true_tables(),
+            tally: Tally::default(),
+        };
+        match self.tables {
+            Tables::Near(changes) => {
+                self.small.near_tables(changes, |table| trial.check::<S>(table))
+            }
+            Tables::UpTo(highest) => {
+                let highest = vec![highest; self.small.cells()];
+                self.small.every_table(&highest, |table| trial.check::<S>(table));
+            }
+            Tables::DigitsUpTo(base) => {
+                let mut highest = vec![base; self.small.cells()];
+                highest[..3].fill(self.small.p() - 1);
+                self.small.every_table(&highest, |table| trial.check::<S>(table));
+            }
+        }
+        trial.tally
+    }
+}
+
+/// The tables of one list, as they are tried.
+struct Trial<'a> {
+    small: &'a SmallList,
+    true_tables: BTreeSet<Vec<u32>>,
+    tally: Tally,
+}
+
+impl Trial<'_> {
+    /// One table: accepted exactly when true, and otherwise refused as by the reference.
+    fn check<S: Service>(&mut self, table: &[u32]) {
+        let reply: Reply = S::check(&self.small.list, table);
+        let right = self.small.check(table);
+        let is_true = self.true_tables.contains(table);
+        self.tally.cases += 1;
+        self.tally.count_reply("check", right.0);
+        if reply != right || (reply.0 == 0) != is_true {
+            self.tally.differ(
+                "every table: check",
+                &[
+                    ("list", &|| format!("\"{}\"", self.small.list.escape_ascii())),
+                    ("table", &|| format!("{table:?}")),
+                    ("a true table", &|| is_true.to_string()),
+                    ("proved", &|| format!("{reply:?}")),
+                    ("reference", &|| format!("{right:?}")),
+                ],
+            );
+        }
+    }
+}
