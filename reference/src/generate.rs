@@ -9,6 +9,8 @@ mod dice;
 mod directed;
 mod directed_limits;
 mod directed_lines;
+mod directed_numbers;
+mod directed_program;
 mod directed_tables;
 mod lists;
 mod tables;
