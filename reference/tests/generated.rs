@@ -39,8 +39,9 @@ fn directed_cases_reach_every_refusal() {
     println!("{} directed cases", directed().len());
     let reached: BTreeSet<u64> = directed().iter().map(|directed| directed.reply.0).collect();
     assert_eq!(reached, (0..=20).collect());
-    // Every row of each list with all lines is the first to fail in some case.
     let all = directed();
+    assert_eq!(all.iter().filter(|case| case.way == "the true table").count(), 11);
+    // Every row of each list with all lines is the first to fail in some case.
     let mut rows: BTreeMap<&[u8], BTreeSet<u64>> = BTreeMap::new();
     for case in all.iter().filter(|case| case.way.starts_with("row ")) {
         assert_eq!((case.call, case.reply.0), (Call::Check, 15));

@@ -14,6 +14,12 @@ pub struct Run {
     pub feeding: Feeding,
 }
 
+impl Run {
+    pub fn new(from: &str, stdin: Vec<u8>, feeding: Feeding) -> Run {
+        Run { from: from.to_string(), stdin, feeding }
+    }
+}
+
 /// Runs the program on all of these.
 pub fn program_runs(program: &Program, runs: &[Run]) -> Tally {
     let blocks: Vec<&[Run]> = runs.chunks(BLOCK).collect();
@@ -26,19 +32,17 @@ pub fn program_runs(program: &Program, runs: &[Run]) -> Tally {
     }))
 }
 
-/// The standard inputs of cases built on purpose, each once; those about the program also in pieces.
+/// The standard inputs of cases built on purpose, each once; those about the program in all ways of feeding.
 pub fn runs_on_purpose(cases: &[Directed]) -> Vec<Run> {
+    let (about, others): (Vec<&Directed>, Vec<&Directed>) =
+        cases.iter().partition(|directed| directed.call == Call::Program);
     let mut met = BTreeSet::new();
     let mut runs = Vec::new();
-    for Directed { way, call, case, .. } in cases {
-        if !met.insert(&case.stdin) {
-            continue;
-        }
-        let about_program = *call == Call::Program;
-        for feeding in
-            if about_program { every_feeding(&case.stdin) } else { vec![Feeding::AtOnce] }
-        {
-            runs.push(Run { from: way.clone(), stdin: case.stdin.clone(), feeding });
+    for Directed { way, call, case, .. } in about.into_iter().chain(others) {
+        if met.insert(&case.stdin) {
+            let all = every_feeding(&case.stdin);
+            let feedings = if *call == Call::Program { &all[..] } else { &[Feeding::AtOnce] };
+            runs.extend(feedings.iter().map(|&feeding| Run::new(way, case.stdin.clone(), feeding)));
         }
     }
     runs
@@ -56,38 +60,34 @@ fn every_feeding(stdin: &[u8]) -> Vec<Feeding> {
     ]
 }
 
-/// The empty input, inputs about 65,536 bytes and far beyond, and bytes by chance.
+/// The empty input, inputs about 65,536 bytes and far beyond in all ways of feeding, and bytes by chance.
 pub fn runs_of_limits() -> Vec<Run> {
-    let mut inputs = vec![("no byte".to_string(), Vec::new())];
+    let mut runs = vec![Run::new("no byte", Vec::new(), Feeding::AtOnce)];
     for length in [65_535, 65_536, 65_537, 65_538, 70_000, 1_000_000] {
-        inputs.push((format!("{length} bytes 10"), vec![b'\n'; length]));
-        inputs.push((format!("{length} bytes 120"), vec![b'x'; length]));
-        // The list and its inputs are right; only the count of bytes can be wrong.
-        let mut long = text("field 31;in;in;end");
-        long.resize(length, b'\n');
-        inputs.push((format!("a short list, then empty lines, {length} bytes"), long));
-        inputs.push((format!("inputs up to {length} bytes"), many_inputs(length)));
+        // The list is read; only the count of bytes or of inputs can be wrong.
+        let mut short = text("field 31;in;in;end");
+        short.resize(length, b'\n');
+        for (way, stdin) in [
+            ("bytes 10", vec![b'\n'; length]),
+            ("bytes 120", vec![b'x'; length]),
+            ("bytes of a short list and empty lines", short),
+            ("bytes of inputs", many_inputs(length)),
+        ] {
+            let run = |feeding| Run::new(&format!("{length} {way}"), stdin.clone(), feeding);
+            runs.extend(every_feeding(&stdin).into_iter().map(run));
+        }
     }
     for index in 0..300 {
-        let mut dice = Dice::new(300, index);
-        inputs.push((format!("random bytes {index}"), random_bytes(&mut dice)));
+        let bytes = random_bytes(&mut Dice::new(300, index));
+        runs.push(Run::new(&format!("random bytes {index}"), bytes, Feeding::AtOnce));
     }
     for index in 0..10 {
         let mut dice = Dice::new(301, index);
         let length = dice.range(60_000, 66_000);
         let bytes = (0..length).map(|_| dice.draw() as u8).collect();
-        inputs.push((format!("many random bytes {index}"), bytes));
+        runs.push(Run::new(&format!("many random bytes {index}"), bytes, Feeding::AtOnce));
     }
-    let feedings = |(from, stdin): (String, Vec<u8>)| {
-        let run = move |feeding| Run { from: from.clone(), stdin: stdin.clone(), feeding };
-        let feedings = if run(Feeding::AtOnce).stdin.len() < 60_000 {
-            vec![Feeding::AtOnce]
-        } else {
-            every_feeding(&run(Feeding::AtOnce).stdin)
-        };
-        feedings.into_iter().map(run).collect::<Vec<Run>>()
-    };
-    inputs.into_iter().flat_map(feedings).collect()
+    runs
 }
 
 /// A list of one input and then far too many inputs, up to so many bytes.
@@ -108,8 +108,7 @@ pub fn runs_by_chance(count: u64, seed: u64) -> Vec<Run> {
             1 => Feeding::Pieces(1 + (index % 97) as usize),
             _ => Feeding::AtOnce,
         };
-        let stdin = case(seed, index).stdin;
-        Run { from: format!("seed {seed}, index {index}"), stdin, feeding }
+        Run::new(&format!("seed {seed}, index {index}"), case(seed, index).stdin, feeding)
     };
     (0..count).map(run).collect()
 }

@@ -48,9 +48,9 @@ pub fn small_jobs() -> Vec<SmallJob> {
     let lists = chosen.chain(mixes(MOST_MIXED));
     let mut jobs: Vec<SmallJob> = lists.map(SmallJob::every_table).collect();
     for (lines, changes, base) in ROOTS {
-        let small = || SmallList::written("root", lines).expect("a readable list");
-        jobs.push(SmallJob { small: small(), tables: Tables::Near(changes) });
-        jobs.extend(base.map(|b| SmallJob { small: small(), tables: Tables::DigitsUpTo(b) }));
+        let ways = base.map(Tables::DigitsUpTo).into_iter().chain([Tables::Near(changes)]);
+        let job = |tables| Some(SmallJob { small: SmallList::written("root", lines)?, tables });
+        jobs.extend(ways.filter_map(job));
     }
     jobs.sort_by_key(|job| std::cmp::Reverse(job.size()));
     jobs

@@ -24,18 +24,18 @@ const GREAT_COLUMNS: [[i64; 2]; 6] = [
 ];
 
 /// The case of a list, a column and its true table.
-fn made(list: &str, inputs: &[i64]) -> (Case, Plan) {
+fn made(list: &str, inputs: &[i64]) -> Option<(Case, Plan)> {
     let mut case = Case::about(text(list));
-    let plan = Plan::read(&case.list).expect("a readable list");
+    let plan = Plan::read(&case.list).ok()?;
     case.inputs = inputs.to_vec();
-    case.table = tables::true_table(&plan, inputs).expect("true statements");
-    (case.restated(), plan)
+    case.table = tables::true_table(&plan, inputs)?;
+    Some((case.restated(), plan))
 }
 
 /// All made cases that the cases below start from.
 fn starts() -> Vec<(Case, Plan)> {
-    let great = GREAT_COLUMNS.iter().map(|inputs| made(GREAT, inputs));
-    COLUMNS.iter().map(|inputs| made(WHOLE, inputs)).chain(great).collect()
+    let great = GREAT_COLUMNS.iter().filter_map(|inputs| made(GREAT, inputs));
+    COLUMNS.iter().filter_map(|inputs| made(WHOLE, inputs)).chain(great).collect()
 }
 
 /// Refusals 13 and 14.
