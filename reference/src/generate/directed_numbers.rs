@@ -161,8 +161,9 @@ pub fn ends_of_inputs() -> Vec<Directed> {
                 let mut made =
                     Directed::make("cell that differs by p", &list, &[m, -m], (14, cell));
                 crate::make(&made.case.list, &[m, -m], &mut made.case.table);
-                let kept = &mut made.case.table[cell as usize];
-                *kept = kept.saturating_add(more);
+                if let Some(kept) = made.case.table.get_mut(cell as usize) {
+                    *kept = kept.saturating_add(more);
+                }
                 all.push(Directed { call: Call::Check, ..made });
             }
         }
