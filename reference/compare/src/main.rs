@@ -15,7 +15,7 @@ use std::process::ExitCode;
 
 const USAGE: &str = "usage: compare [COUNT | soak] [--seed N] [--program PATH]";
 /// How many of the cases by chance the program is run on.
-const RUNS_BY_CHANCE: u64 = 8_000;
+const RUNS_BY_CHANCE: u64 = 6_000;
 
 /// What the words of the command ask for.
 struct Asked {

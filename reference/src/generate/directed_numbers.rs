@@ -133,10 +133,13 @@ pub fn inverses() -> Vec<Directed> {
 /// Roots of every square below the greatest c and of the numbers next to it; and just outside.
 pub fn roots() -> Vec<Directed> {
     let mut all = Vec::new();
-    for (p, b, k) in [(GREATEST, 2, 15), (GREATEST, 32_768, 1), (GREATEST, 181, 2), (101, 7, 1)] {
+    // The last number is the first root: with the greatest c in other bases, the great ones alone.
+    let lists =
+        [(GREATEST, 2, 15, 0), (GREATEST, 32_768, 1, 175), (GREATEST, 181, 2, 175), (101, 7, 1, 0)];
+    for (p, b, k, first) in lists {
         let list = format!("field {p};in;root 0 {b} {k}");
         let c = i64::pow(b, k);
-        let squares = (0..182).map(|y| y * y).filter(|&square| square < c);
+        let squares = (first..182).map(|y| y * y).filter(|&square| square < c);
         for v in squares.flat_map(|square| [square - 1, square, square + 1]).chain([c - 1, c]) {
             let reply = if 0 <= v && v < c { (0, 0) } else { (18, 2) };
             all.push(Directed::make("next to a square", &list, &[v], reply));
