@@ -98,6 +98,7 @@ pub fn directed() -> Vec<Directed> {
         directed_numbers::primes(),
         directed_numbers::greatest_bases(),
         directed_numbers::inverses(),
+        directed_numbers::root_rule(),
         directed_numbers::roots(),
         directed_numbers::ends_of_inputs(),
         desks(),

@@ -130,6 +130,25 @@ pub fn inverses() -> Vec<Directed> {
     all
 }
 
+/// The root rule for every small prime: the greatest c, the next ones below and above. And for
+/// great primes of which c² is M+1, and such of which it is one more.
+pub fn root_rule() -> Vec<Directed> {
+    let mut pairs = Vec::new();
+    for p in (3..=300).filter(|&number| is_prime(number)) {
+        let c = ((p + 1) / 2).isqrt();
+        pairs.extend([(p, c - 1), (p, c), (p, c + 1)]);
+    }
+    for less in [1, 3] {
+        let great = (3..=32_768).rev().map(|c| (2 * c * c - less, c));
+        pairs.extend(great.filter(|&(p, _)| p <= GREATEST && is_prime(p)).take(4));
+    }
+    let root = |(p, c): (i64, i64)| {
+        let reply = if c >= 3 && 2 * c * c <= p + 1 { (0, 0) } else { (10, 2) };
+        Directed::list("root rule", text(&format!("field {p};in;root 0 {c} 1")), reply)
+    };
+    pairs.into_iter().filter(|&(_, c)| c >= 2).map(root).collect()
+}
+
 /// Roots of every square below the greatest c and of the numbers next to it; and just outside.
 pub fn roots() -> Vec<Directed> {
     let mut all = Vec::new();
