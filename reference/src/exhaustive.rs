@@ -1,38 +1,121 @@
-//! Every table of a small list is tried: accepted are exactly the true tables of its columns.
+//! Small lists, of which every table can be tried: a checker must accept exactly the true tables
+//! of their columns, which are had by making the table of every column.
+//!
+//! The tests try the reference's own checker on them; the comparison tries the proved one.
+
+mod families;
+#[cfg(test)]
+mod tests;
+
+pub use families::{families, mixes, Family};
 
 use crate::check::check;
-use crate::generate::{small_draft, text, Dice};
+use crate::generate::text;
 use crate::plan::Plan;
 use crate::work::make;
-use std::collections::HashSet;
+use std::collections::BTreeSet;
 
-/// Lists with more tables than this are left out: where there are few lists, and where many.
-const MANY: u64 = 6_000_000;
-const FEW: u64 = 400_000;
+/// A list that is read, with few enough cells to count through its tables.
+pub struct SmallList {
+    /// What the list is about: the word of its lines, or `mix`.
+    pub gadget: &'static str,
+    pub list: Vec<u8>,
+    plan: Plan,
+}
 
-/// The true tables of all columns in -M..M.
-fn true_tables(plan: &Plan) -> HashSet<Vec<u32>> {
-    let m = (plan.p - 1) / 2;
-    let mut column = vec![-m; plan.inputs];
-    let mut tables = HashSet::new();
-    loop {
-        let mut table = vec![0; plan.cells];
-        if make(plan, &column, &mut table).is_ok() {
-            tables.insert(table);
+impl SmallList {
+    /// The list in the paper's way of writing, where it is read.
+    pub fn written(gadget: &'static str, lines: &str) -> Option<SmallList> {
+        SmallList::read(gadget, text(lines))
+    }
+
+    /// The list, where it is read.
+    pub fn read(gadget: &'static str, list: Vec<u8>) -> Option<SmallList> {
+        let plan = Plan::read(&list).ok()?;
+        Some(SmallList { gadget, list, plan })
+    }
+
+    /// The prime of the list.
+    pub fn p(&self) -> u32 {
+        self.plan.p as u32
+    }
+
+    /// How many cells its tables have.
+    pub fn cells(&self) -> usize {
+        self.plan.cells
+    }
+
+    /// How many tables there are with so many remainders to each cell; None if they are far too
+    /// many.
+    pub fn table_count(&self, remainders: u32) -> Option<u64> {
+        u64::from(remainders).checked_pow(self.plan.cells as u32)
+    }
+
+    /// The reply of checking, as `crate::check` gives it for this list.
+    pub fn check(&self, table: &[u32]) -> (u64, u64) {
+        crate::reply(check(&self.plan, table))
+    }
+
+    /// The true tables of all columns in -M..M.
+    pub fn true_tables(&self) -> BTreeSet<Vec<u32>> {
+        let m = (self.plan.p - 1) / 2;
+        let mut column = vec![-m; self.plan.inputs];
+        let mut tables = BTreeSet::new();
+        loop {
+            let mut table = vec![0; self.plan.cells];
+            if make(&self.plan, &column, &mut table).is_ok() {
+                tables.insert(table);
+            }
+            if !step(&mut column, |_| (-m, m)) {
+                return tables;
+            }
         }
-        if !step(&mut column, -m, m) {
-            return tables;
+    }
+
+    /// Visits every table whose cells are at most these.
+    pub fn every_table(&self, highest: &[u32], mut visit: impl FnMut(&[u32])) {
+        let mut table = vec![0; self.plan.cells];
+        loop {
+            visit(&table);
+            if !step(&mut table, |cell| (0, highest[cell])) {
+                return;
+            }
+        }
+    }
+
+    /// Visits every table that differs from a true one in so many cells at most, all below p; for
+    /// each true one, each such table once.
+    pub fn near_tables(&self, changes: usize, mut visit: impl FnMut(&[u32])) {
+        for mut table in self.true_tables() {
+            change(&mut table, 0, changes, self.p(), &mut visit);
         }
     }
 }
 
-/// The next column or table in the order of counting; false after the last.
+/// Visits the table, and all that differ from it from this cell on in so many cells at most.
+fn change(table: &mut [u32], from: usize, changes: usize, p: u32, visit: &mut impl FnMut(&[u32])) {
+    visit(table);
+    if changes == 0 {
+        return;
+    }
+    for cell in from..table.len() {
+        let kept = table[cell];
+        for other in (0..p).filter(|&other| other != kept) {
+            table[cell] = other;
+            change(table, cell + 1, changes - 1, p, visit);
+        }
+        table[cell] = kept;
+    }
+}
+
+/// The next column or table in the order of counting, each place between its ends; false after
+/// the last.
 fn step<N: Copy + PartialOrd + std::ops::AddAssign + From<u8>>(
     row: &mut [N],
-    low: N,
-    high: N,
+    ends: impl Fn(usize) -> (N, N),
 ) -> bool {
-    for place in row {
+    for (index, place) in row.iter_mut().enumerate() {
+        let (low, high) = ends(index);
         if *place < high {
             *place += N::from(1);
             return true;
@@ -40,154 +123,4 @@ fn step<N: Copy + PartialOrd + std::ops::AddAssign + From<u8>>(
         *place = low;
     }
     false
-}
-
-/// How many tables a list has, all cells below p.
-fn table_count(plan: &Plan) -> Option<u64> {
-    (plan.p as u64).checked_pow(plan.cells as u32)
-}
-
-/// Tries every table of the list; hands back how many there are.
-fn try_every_table(list: &[u8]) -> u64 {
-    let plan = Plan::read(list).expect("a readable list");
-    let allowed = true_tables(&plan);
-    let mut table = vec![0u32; plan.cells];
-    let (mut tried, mut accepted) = (0, 0);
-    loop {
-        tried += 1;
-        if check(&plan, &table).is_ok() {
-            assert!(allowed.contains(&table), "{:?} {table:?}", String::from_utf8_lossy(list));
-            accepted += 1;
-        }
-        if !step(&mut table, 0, plan.p as u32 - 1) {
-            break;
-        }
-    }
-    // All accepted ones are true tables, each met once; so equal counts leave none out.
-    assert_eq!(accepted, allowed.len(), "{:?}", String::from_utf8_lossy(list));
-    tried
-}
-
-/// Tries every table of each of the lists that is read and has at most so many; counts these
-/// lists.
-fn try_lists(lists: Vec<String>, most: u64) -> usize {
-    let mut count = 0;
-    for list in lists {
-        let list = text(&list);
-        let Ok(plan) = Plan::read(&list) else { continue };
-        if table_count(&plan).is_some_and(|tables| tables <= most) {
-            try_every_table(&list);
-            count += 1;
-        }
-    }
-    count
-}
-
-/// All b and k whose power is at most the limit.
-fn digits(limit: i64) -> Vec<(i64, i64)> {
-    let mut all = Vec::new();
-    for b in 2..=limit {
-        let mut k = 1;
-        while b.pow(k as u32) <= limit {
-            all.push((b, k));
-            k += 1;
-        }
-    }
-    all
-}
-
-/// The lists of every p up to 13 and every b and k, of the shape that the function gives.
-fn shapes(shape: impl Fn(i64, i64, i64) -> Vec<String>) -> Vec<String> {
-    let mut all = Vec::new();
-    for p in [3, 5, 7, 11, 13] {
-        for (b, k) in digits(p + 1) {
-            let lines = shape((p - 1) / 2, b, k);
-            all.extend(lines.iter().map(|lines| format!("field {p};{lines}")));
-        }
-    }
-    all
-}
-
-#[test]
-fn spans() {
-    let lists = shapes(|m, b, k| (-m..=m).map(|low| format!("in;span 0 {b} {k} {low}")).collect());
-    assert!(try_lists(lists, MANY) > 100);
-}
-
-#[test]
-fn spans_twice() {
-    let twice = |m: i64, b, k| {
-        let second = (-m..=m).map(|low| format!("in;span 0 2 1 0;span 0 {b} {k} {low}"));
-        second.collect()
-    };
-    assert!(try_lists(shapes(twice), MANY) > 60);
-}
-
-#[test]
-fn sums() {
-    let factors = |m: i64, b, k| {
-        let all = (-m..=m).map(|c| format!("in;span 0 {b} {k} 0;sum {c} -2 0;sum 0 1 0 -1 1"));
-        all.collect()
-    };
-    assert!(try_lists(shapes(factors), MANY) > 20);
-}
-
-#[test]
-fn relus() {
-    let lists = shapes(|_, b, k| vec![format!("in;relu 0 {b} {k}")]);
-    assert!(try_lists(lists, MANY) > 20);
-    let spanned = shapes(|_, b, k| vec![format!("in;span 0 3 1 -1;relu 0 {b} {k}")]);
-    assert!(try_lists(spanned, MANY) > 15);
-}
-
-#[test]
-fn whiches() {
-    // One input against a constant, on either side.
-    let one = |m: i64, b, k| {
-        let sides = (-m..=m)
-            .flat_map(|c| ["0 1", "1 0"].map(|names| format!("in;sum {c};which {names} {b} {k}")));
-        sides.collect()
-    };
-    assert!(try_lists(shapes(one), FEW) > 20);
-    let zero = |_, b, k| vec![format!("in;sum 0;which 0 1 {b} {k}")];
-    assert!(try_lists(shapes(zero), MANY) > 15);
-    let two = |_, b, k| vec![format!("in;in;span 0 2 1 0;span 1 2 1 -1;which 0 1 {b} {k}")];
-    assert!(try_lists(shapes(two), MANY) > 2);
-}
-
-#[test]
-fn maxes() {
-    let one = |m: i64, b, k| {
-        let sides = (-m..=m)
-            .flat_map(|c| ["0 1", "1 0"].map(|names| format!("in;sum {c};max {names} {b} {k}")));
-        sides.collect()
-    };
-    assert!(try_lists(shapes(one), MANY) > 60);
-    let two = |_, b, k| vec![format!("in;in;span 0 2 1 0;span 1 2 1 -1;max 0 1 {b} {k}")];
-    assert!(try_lists(shapes(two), MANY) > 2);
-    let same = |_, b, k| vec![format!("in;span 0 2 1 0;max 0 0 {b} {k}")];
-    assert!(try_lists(shapes(same), MANY) > 8);
-}
-
-/// No root is read below p = 17; there its smallest list has seven cells.
-#[test]
-fn smallest_root() {
-    for p in [3, 5, 7, 11, 13] {
-        assert!(Plan::read(&text(&format!("field {p};in;root 0 3 1"))).is_err());
-    }
-    assert_eq!(try_every_table(&text("field 17;in;root 0 3 1")), 17u64.pow(7));
-}
-
-#[test]
-fn mixes_by_chance() {
-    let mut tried = 0;
-    for index in 0..2_000 {
-        let list = small_draft(&mut Dice::new(13, index), 13);
-        let plan = Plan::read(&list).expect("a draft is read");
-        if table_count(&plan).is_some_and(|tables| (100..=300_000).contains(&tables)) {
-            try_every_table(&list);
-            tried += 1;
-        }
-    }
-    assert!(tried > 300, "{tried}");
 }

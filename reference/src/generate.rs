@@ -10,6 +10,8 @@ mod dice;
 mod directed;
 mod directed_limits;
 mod directed_lines;
+mod directed_numbers;
+mod directed_program;
 mod directed_tables;
 mod lists;
 mod sources;
@@ -20,6 +22,7 @@ mod sources_root;
 mod sources_whole;
 mod tables;
 
+pub use damage::random_bytes;
 pub use dice::Dice;
 pub use directed::{directed, Call, Directed};
 pub use sources::sources;

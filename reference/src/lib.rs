@@ -7,8 +7,7 @@
 mod check;
 mod desk;
 mod ends;
-#[cfg(test)]
-mod exhaustive;
+pub mod exhaustive;
 pub mod generate;
 mod line;
 mod plan;

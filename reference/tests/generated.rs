@@ -39,13 +39,19 @@ fn directed_cases_reach_every_refusal() {
     println!("{} directed cases", directed().len());
     let reached: BTreeSet<u64> = directed().iter().map(|directed| directed.reply.0).collect();
     assert_eq!(reached, (0..=20).collect());
-    // Every row of the list with all lines is the first to fail in some case.
     let all = directed();
-    let rows = all.iter().filter(|directed| directed.call == Call::Check);
-    let rows: BTreeSet<u64> = rows.filter(|d| d.reply.0 == 15).map(|d| d.reply.1).collect();
-    let list = all.iter().find(|directed| directed.reply.0 == 15).map(|d| &d.case.list);
-    let counts = read(list.expect("some row fails")).expect("a readable list");
-    assert_eq!(rows, (0..counts.rows).collect());
+    assert_eq!(all.iter().filter(|case| case.way == "the true table").count(), 11);
+    // Every row of each list with all lines is the first to fail in some case.
+    let mut rows: BTreeMap<&[u8], BTreeSet<u64>> = BTreeMap::new();
+    for case in all.iter().filter(|case| case.way.starts_with("row ")) {
+        assert_eq!((case.call, case.reply.0), (Call::Check, 15));
+        rows.entry(&case.case.list).or_default().insert(case.reply.1);
+    }
+    assert_eq!(rows.len(), 2);
+    for (list, rows) in rows {
+        let counts = read(list).expect("a readable list");
+        assert_eq!(rows, (0..counts.rows).collect());
+    }
 }
 
 /// The replies of all calls on a case.

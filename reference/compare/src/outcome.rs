@@ -31,6 +31,23 @@ pub struct Outcome {
     pub unchanged: bool,
 }
 
+impl Outcome {
+    /// What is not the same in the other one, by the names of the calls.
+    pub fn differing(&self, other: &Outcome) -> Vec<&'static str> {
+        let made = |of: &Outcome| (of.make, of.made.clone(), of.check_of_made);
+        let same = [
+            ("read", self.read == other.read),
+            ("check", self.check == other.check),
+            ("make", made(self) == made(other)),
+            ("show", self.show == other.show),
+            ("desk", (self.desk, self.counts) == (other.desk, other.counts)),
+            ("answer", self.answers == other.answers),
+            ("what was lent to be read", self.unchanged == other.unchanged),
+        ];
+        same.iter().filter(|(_, same)| !same).map(|(call, _)| *call).collect()
+    }
+}
+
 /// Runs every call on a case; `lines` are the lines to show, and `rooms` the lengths of the outputs to answer in.
 pub fn outcome<S: Service>(case: &Case, lines: &[usize], rooms: &[usize]) -> Outcome {
     let (list, inputs, stdin) = (case.list.clone(), case.inputs.clone(), case.stdin.clone());

@@ -1,7 +1,10 @@
-//! Cases built on purpose, each with its reply: the collection, and those about whole texts,
-//! the desk and the program.
+//! Cases built on purpose, each with its reply: the collection, and those about whole texts and
+//! the desk.
 
-use super::{directed_limits, directed_lines, directed_tables, program_text, text, Case};
+use super::{
+    directed_limits, directed_lines, directed_numbers, directed_program, directed_tables,
+    program_text, text, Case,
+};
 use crate::plan::MOST_BYTES;
 use crate::{Counts, Desk, Refusal};
 
@@ -92,14 +95,21 @@ pub fn directed() -> Vec<Directed> {
         directed_tables::rows(),
         directed_tables::columns(),
         directed_tables::statements(),
+        directed_numbers::primes(),
+        directed_numbers::greatest_bases(),
+        directed_numbers::inverses(),
+        directed_numbers::root_rule(),
+        directed_numbers::roots(),
+        directed_numbers::ends_of_inputs(),
         desks(),
-        programs(),
+        directed_program::programs(),
+        directed_program::worked(),
     ]
     .concat()
 }
 
 /// A readable list of exactly 65,536 bytes: spans of 32 bytes each and five inputs.
-fn longest() -> Vec<u8> {
+pub fn longest() -> Vec<u8> {
     let mut list = text("field 2147483647;in;in;in;in;in");
     while list.len() < MOST_BYTES {
         list.extend(text("span 0 2147483647 1 -1073741823"));
@@ -125,6 +135,23 @@ fn whole_texts() -> Vec<Directed> {
         Directed::list("no list, last byte 10 missing", b"x\ny".to_vec(), (2, 0)),
         Directed::list("field line alone", text("field 31"), (0, 0)),
         Directed::list("byte 10 alone", b"\n".to_vec(), (3, 0)),
+        Directed::list(
+            "a long word",
+            vec![b'i'; 60_000].into_iter().chain(*b"\n").collect(),
+            (3, 0),
+        ),
+        Directed::list(
+            "many digits",
+            text(&format!("field 31;sum {}", "1".repeat(60_000))),
+            (3, 1),
+        ),
+        Directed::list("many zeros", text(&format!("field {}31", "0".repeat(60_000))), (3, 0)),
+        Directed::list("many tabs", text(&format!("field 31;in{}", " ".repeat(60_000))), (3, 1)),
+        Directed::list(
+            "many pairs",
+            text(&format!("field 31;in;sum 0{}", " 0 0".repeat(16_000))),
+            (3, 2),
+        ),
     ]
 }
 
@@ -157,64 +184,4 @@ fn desks() -> Vec<Directed> {
         all.push(Directed::new(way, Call::Desk, case, if fits { (2, 0) } else { reply }));
     }
     all
-}
-
-/// The input lines after a list of one input, and the program's reply.
-const INPUT_LINES: [(&str, (u64, u64)); 15] = [
-    ("-3", (0, 0)),
-    ("", (3, 4)),
-    ("-0", (3, 4)),
-    ("03", (3, 4)),
-    ("+3", (3, 4)),
-    ("3 4", (3, 4)),
-    ("2147483648", (3, 4)),
-    ("end", (3, 4)),
-    ("3;x", (3, 5)),
-    ("99;x", (3, 5)),
-    ("3;4", (16, 0)),
-    ("16", (17, 0)),
-    ("-16", (17, 0)),
-    ("2147483647", (17, 0)),
-    ("8", (18, 2)),
-];
-
-/// The program's own refusals and their order.
-fn programs() -> Vec<Directed> {
-    let start = "field 31;in;relu 0 2 4;end";
-    let line = |&(input, reply): &(&str, (u64, u64))| {
-        program(input, text(&format!("{start};{input}")), reply)
-    };
-    let mut all: Vec<Directed> = INPUT_LINES.iter().map(line).collect();
-    let long = [longest(), b"x".to_vec()].concat();
-    all.extend([
-        program("no input", text(start), (16, 0)),
-        program("field line alone", text("field 31;end"), (0, 0)),
-        program("empty input", Vec::new(), (2, 0)),
-        program("end alone", text("end"), (2, 0)),
-        program("end missing", text("field 31;in;3"), (2, 0)),
-        program("end without byte 10", b"field\t31\nend".to_vec(), (2, 0)),
-        program("input without byte 10", b"field\t31\nin\nend\n3".to_vec(), (2, 0)),
-        program("end with a tab", text("field 31;in;end ;3"), (2, 0)),
-        program("end twice", text("field 31;end;end"), (3, 2)),
-        program("refused list before a wrong input", text("field 31;in;on;end;x"), (3, 2)),
-        program("over 65,536 bytes in all", long, (1, 0)),
-        program("65,536 bytes in all", program_of_most_bytes("1073741823"), (0, 0)),
-        program("65,537 bytes in all", program_of_most_bytes("-1073741823"), (1, 0)),
-        program("65,536 bytes without end", longest(), (2, 0)),
-        program("a list and end of 65,540 bytes", [longest(), text("end")].concat(), (1, 0)),
-    ]);
-    all
-}
-
-/// What the program reads for a long list, five inputs, and this one of ten digits as the first:
-/// 65,536 bytes, or one more where it has a sign.
-fn program_of_most_bytes(first: &str) -> Vec<u8> {
-    let list = longest();
-    let inputs = text(&format!("end;{first};1073741823;0;0;0"));
-    [&list[..list.len() - 32], &inputs].concat()
-}
-
-fn program(way: &str, stdin: Vec<u8>, reply: (u64, u64)) -> Directed {
-    let case = Case { stdin, ..Case::about(text("field 31;in;relu 0 2 4")) };
-    Directed::new(&format!("program: {way}"), Call::Program, case, reply)
 }

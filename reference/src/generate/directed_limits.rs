@@ -3,6 +3,31 @@
 use super::directed::Directed;
 use super::text;
 
+/// Lines that would be value 257, and their refusal: the least number counts.
+const VALUES_ORDER: [(&str, u64); 7] = [
+    ("relu 256 2 4", 7),
+    ("max 0 1 31 31", 8),
+    ("sum 15 15 255", 8),
+    ("sum 16", 6),
+    ("relu 0 1 4", 6),
+    ("field 31", 4),
+    ("sum 0 1", 3),
+];
+
+/// Lines after 4,096 cells, and their refusal: the least number counts.
+const CELLS_ORDER: [(&str, u64); 10] = [
+    ("span 9 2 1 0", 7),
+    ("max 0 1 2 31", 9),
+    ("root 0 2 1", 9),
+    ("sum 1 1073741823 0", 9),
+    ("span 0 2 1 -2", 9),
+    ("span 0 1 1 0", 6),
+    ("sum 1073741824", 6),
+    ("root 2 2 32", 6),
+    ("field 31", 4),
+    ("span 0 2 1", 3),
+];
+
 /// Refusal 8: 256 values are read; value 257 is not, by whatever line.
 pub fn values() -> Vec<Directed> {
     // Two inputs from 0 to 7 and 254 sums: lines 0 to 258.
@@ -18,7 +43,7 @@ pub fn values() -> Vec<Directed> {
         let list = text(&format!("{start};{line}"));
         all.push(Directed::list(&format!("value 257: {line}"), list, (8, 259)));
     }
-    for (line, number) in [("relu 256 2 4", 7), ("max 0 1 31 31", 8), ("sum 15 15 255", 8)] {
+    for (line, number) in VALUES_ORDER {
         let list = text(&format!("{start};{line}"));
         all.push(Directed::list(&format!("order with 8: {line}"), list, (number, 259)));
     }
@@ -47,7 +72,7 @@ pub fn cells() -> Vec<Directed> {
         all.push(Directed::list(&format!("4,097 cells: {line}"), list, (9, place)));
     }
     let (full, place) = filled(4_096);
-    for (line, number) in [("span 9 2 1 0", 7), ("max 0 1 2 31", 9), ("root 0 2 1", 9)] {
+    for (line, number) in CELLS_ORDER {
         let list = text(&format!("{full};{line}"));
         all.push(Directed::list(&format!("order with 9: {line}"), list, (number, place)));
     }
@@ -92,7 +117,7 @@ const NARROW: &str = "field 31;in;in;span 0 2 3 0;span 1 2 3 0";
 /// One input from -15 to -14 and one from 14 to 15.
 const FAR: &str = "field 31;in;in;span 0 2 1 -15;span 1 2 1 14";
 
-const SPAN_AND_RELU: [LastLine; 13] = [
+const SPAN_AND_RELU: [LastLine; 19] = [
     ("span: c is p", FRESH, "span 0 31 1 -15", 0),
     ("span: c over p", FRESH, "span 0 32 1 -15", 10),
     ("span: c over p by power", FRESH, "span 0 2 5 -15", 10),
@@ -106,6 +131,12 @@ const SPAN_AND_RELU: [LastLine; 13] = [
     ("relu: F+B over p-1", FRESH, "relu 0 17 1", 10),
     ("relu: c is p", "field 31;sum 0", "relu 0 31 1", 0),
     ("relu: greatest b^(k-1)", FRESH, "relu 0 2 4", 0),
+    ("relu: F+B at p-1, greatest p", "field 2147483647;in", "relu 0 1073741824 1", 0),
+    ("relu: F+B over p-1, greatest p", "field 2147483647;in", "relu 0 1073741825 1", 10),
+    ("span: c is p, greatest p", "field 2147483647;in", "span 0 2147483647 1 -1073741823", 0),
+    ("span: L one more", "field 2147483647;in", "span 0 2147483647 1 -1073741822", 10),
+    ("span: c = 2^30", "field 2147483647;in", "span 0 2 30 0", 0),
+    ("span: c = 2^30, L one more", "field 2147483647;in", "span 0 2 30 1", 10),
 ];
 
 const WHICH_AND_MAX: [LastLine; 15] = [
@@ -138,6 +169,9 @@ const ROOT: [LastLine; 9] = [
     ("root: c² over 2^64", "field 2147483647;in", "root 0 2147483647 31", 10),
 ];
 
+/// The greatest p, an input, and as value 2 one that is 0 or 1.
+const GREAT: &str = "field 2147483647;in;sum 0;which 0 1 2 30";
+
 /// Refusals 11 and 12.
 pub fn sums_and_spans() -> Vec<Directed> {
     let ins = "field 31;in;in;sum 15;sum -15;sum 0";
@@ -164,6 +198,17 @@ pub fn sums_and_spans() -> Vec<Directed> {
         ("12 over a which", "field 31;in;sum 0;which 0 1 2 4", "span 2 2 1 2", 12),
         ("10 before 12", "field 31;in;span 0 2 2 0", "span 0 2 5 4", 10),
         ("12 after two spans", "field 31;in;span 0 2 2 0;span 0 2 2 3", "span 0 2 1 1", 12),
+        ("a coefficient of M", GREAT, "sum 0 1073741823 2", 0),
+        ("a coefficient of -M", GREAT, "sum 0 -1073741823 2", 0),
+        ("M and one more", GREAT, "sum 1 1073741823 2", 11),
+        ("M, one more by a term", GREAT, "sum 0 1073741823 2 1 2", 11),
+        ("-M, one less by a term", GREAT, "sum 0 -1073741823 2 -1 2", 11),
+        ("M and M again", GREAT, "sum 1073741823 1073741823 0", 11),
+        ("-M and -M again", GREAT, "sum -1073741823 -1073741823 0", 11),
+        ("M by sixteen terms", GREAT, &format!("sum 1073741807{}", " 1 2".repeat(16)), 0),
+        ("M+1 by sixteen terms", GREAT, &format!("sum 1073741808{}", " 1 2".repeat(16)), 11),
+        ("-M by sixteen terms", GREAT, &format!("sum -1073741807{}", " -1 2".repeat(16)), 0),
+        ("-M-1 by sixteen terms", GREAT, &format!("sum -1073741808{}", " -1 2".repeat(16)), 11),
     ];
     cases.map(|(way, start, line, number)| last_line(way, start, line, number)).to_vec()
 }

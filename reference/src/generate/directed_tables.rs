@@ -10,6 +10,18 @@ use crate::prime::inverse;
 const WHOLE: &str = "field 101;in;in;span 0 2 3 -3;span 1 3 2 -4;relu 0 3 3;which 0 1 2 5;\
                      max 0 1 5 2;sum 1 1 3 -2 0;root 2 2 2;relu 1 2 5";
 const COLUMNS: [[i64; 2]; 5] = [[3, -4], [-3, 4], [2, 2], [-1, 0], [0, -1]];
+/// The same lines with numbers of the greatest p's size.
+const GREAT: &str = "field 2147483647;in;in;span 0 20000 2 -300000000;span 1 700 3 -171500000;\
+                     relu 0 1000 3;which 0 1 27000 2;max 0 1 900 3;sum 1 1 3 -2 0;root 2 32768 1;\
+                     relu 1 31000 2";
+const GREAT_COLUMNS: [[i64; 2]; 6] = [
+    [27_000, 1],
+    [-300_000_000, 30_999],
+    [-299_999_999, -171_500_000],
+    [20_000, 20_000],
+    [-1, 0],
+    [0, -1],
+];
 
 /// The case of a list, a column and its true table.
 fn made(list: &str, inputs: &[i64]) -> Option<(Case, Plan)> {
@@ -22,7 +34,8 @@ fn made(list: &str, inputs: &[i64]) -> Option<(Case, Plan)> {
 
 /// All made cases that the cases below start from.
 fn starts() -> Vec<(Case, Plan)> {
-    COLUMNS.iter().filter_map(|inputs| made(WHOLE, inputs)).collect()
+    let great = GREAT_COLUMNS.iter().filter_map(|inputs| made(GREAT, inputs));
+    COLUMNS.iter().filter_map(|inputs| made(WHOLE, inputs)).chain(great).collect()
 }
 
 /// Refusals 13 and 14.
@@ -48,6 +61,13 @@ pub fn lengths_and_cells() -> Vec<Directed> {
         }
     }
     all.push(Directed::new("empty table", Call::Check, Case::about(text("field 31")), (0, 0)));
+    for (mut case, plan) in starts() {
+        // 14 comes before 15: every row may fail before the last cell.
+        case.table = vec![1; plan.cells];
+        case.table[plan.cells - 1] = plan.p as u32;
+        let last = plan.cells as u64 - 1;
+        all.push(Directed::new("cell off after wrong rows", Call::Check, case, (14, last)));
+    }
     let longer = Case { table: vec![0], ..Case::about(text("field 31")) };
     all.push(Directed::new("one cell too many", Call::Check, longer, (13, 0)));
     all
@@ -89,7 +109,7 @@ fn breaks(step: &Step, table: &[u32], p: i64) -> Vec<Break> {
         }
         Line::Max { digits, .. } => {
             let k = digits.count as usize;
-            // The values are few apart, so y + 40 is neither of them modulo 101.
+            // No two values here are 40 apart modulo p, so y + 40 is neither of them.
             let mut all = vec![(vec![(first, at(first) + 40)], 0)];
             all.extend(group_breaks(first + 1, 1, digits, table));
             all.extend(group_breaks(first + 1 + k, 2 + k, digits, table));

@@ -9,7 +9,7 @@ use crate::prime::{capped_power, is_odd_prime};
 use crate::work::{new_value, statement};
 
 /// The primes that are drawn most.
-const PRIMES: [i64; 9] = [3, 5, 7, 13, 17, 31, 101, 65_537, 2_147_483_647];
+const PRIMES: [i64; 10] = [3, 5, 7, 11, 13, 17, 31, 101, 65_537, 2_147_483_647];
 
 /// A list that has been read so far, as text and as plan.
 pub struct Draft {

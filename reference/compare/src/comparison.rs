@@ -1,0 +1,115 @@
+//! Case after case, both services: every reply, every lent cell, and a desk of each that hears all cases of a comparison.
+
+use crate::{outcome, Desk, Proved, Reference, Service, Tally};
+use reference::generate::{Case, Directed};
+
+/// Compares cases and counts what was seen.
+#[derive(Default)]
+pub struct Comparison {
+    pub tally: Tally,
+    /// A desk of each that hears every case.
+    desks: [Desk; 2],
+}
+
+impl Comparison {
+    /// Runs both services on a case and shows these lines of its table.
+    pub fn compare(&mut self, from: &str, case: &Case, lines: &[usize]) {
+        // One byte too few for the answer; just enough, or up to five more.
+        let length = reference::respond(&case.stdin).len();
+        let rooms = [length - 1, length + (self.tally.cases % 6) as usize];
+        let proved = outcome::<Proved>(case, lines, &rooms);
+        let reference = outcome::<Reference>(case, lines, &rooms);
+        if proved != reference {
+            let calls = proved.differing(&reference).join(", ");
+            let seen = [&format!("{proved:?}"), &format!("{reference:?}")];
+            self.differ(&format!("{from}: {calls}"), case, lines, seen);
+        }
+        self.hear(from, case);
+        self.tally.cases += 1;
+        self.tally.shown += reference.show.iter().filter(|part| part.is_some()).count() as u64;
+        let read = reference.read.map_or_else(|refusal| refusal.0, |_| 0);
+        self.tally.count_reply("read", read);
+        self.tally.count_reply("check", reference.check.0);
+        self.tally.count_reply("make", reference.make.0);
+        self.tally.count_reply("desk", reference.desk.0);
+        match answered(&case.stdin, &reference.answers[1].1[..length]) {
+            Answered::InputLine => self.tally.count_reply("answer to an input line", 3),
+            Answered::Number(number) => self.tally.count_reply("answer", number),
+        }
+    }
+
+    /// A case built on purpose: the two agree, and on the reply that the document gives.
+    pub fn compare_directed(&mut self, directed: &Directed, lines: &[usize]) {
+        let Directed { way, case, reply, .. } = directed;
+        self.compare(way, case, lines);
+        let actual = directed.actual();
+        if actual != *reply {
+            let from = format!("{way}: the reference replies {actual:?}, the document {reply:?}");
+            self.differ(&from, case, lines, [&String::new(), &String::new()]);
+        }
+    }
+
+    /// The two desks that hear every case.
+    fn hear(&mut self, from: &str, case: &Case) {
+        let [mut proved, mut reference] = self.desks;
+        let replies = [
+            Proved::desk(&mut proved, &case.list, &case.table),
+            Reference::desk(&mut reference, &case.list, &case.table),
+        ];
+        // From the same counts again, so that one difference is counted once.
+        self.desks = [reference; 2];
+        if replies[0] != replies[1] || proved != reference {
+            let seen = [
+                &format!("{:?} {proved:?}", replies[0]),
+                &format!("{:?} {reference:?}", replies[1]),
+            ];
+            self.differ(&format!("{from}: the desk that hears all"), case, &[], seen);
+        }
+    }
+
+    fn differ(&mut self, from: &str, case: &Case, lines: &[usize], seen: [&String; 2]) {
+        let lent: [(&str, &dyn Fn() -> String); 8] = [
+            ("list", &|| format!("\"{}\"", case.list.escape_ascii())),
+            ("inputs", &|| format!("{:?}", case.inputs)),
+            ("table", &|| format!("{:?}", case.table)),
+            ("lines", &|| format!("{lines:?}")),
+            ("desk", &|| format!("{:?}", case.desk)),
+            ("standard input", &|| format!("\"{}\"", case.stdin.escape_ascii())),
+            ("proved", &|| seen[0].clone()),
+            ("reference", &|| seen[1].clone()),
+        ];
+        self.tally.differ(from, &lent);
+    }
+}
+
+/// What an answer of the program says.
+#[derive(Clone, Copy, Debug, PartialEq, Eq)]
+pub enum Answered {
+    /// Refusal 3 at a line after `end`.
+    InputLine,
+    /// Any other refusal, or 0 for a table.
+    Number(u64),
+}
+
+/// What this answer to this standard input says.
+pub fn answered(stdin: &[u8], answer: &[u8]) -> Answered {
+    let Some(refused) = answer.strip_prefix(b"refused\t") else {
+        return Answered::Number(0);
+    };
+    let mut numbers = refused
+        .split(|byte| b"\t\n".contains(byte))
+        .map(|number| String::from_utf8_lossy(number).parse::<u64>().unwrap_or(u64::MAX));
+    let mut next = || numbers.next().unwrap_or(u64::MAX);
+    let (number, place) = (next(), next());
+    let end = stdin.split(|&byte| byte == b'\n').position(|line| line == b"end");
+    match end {
+        Some(end) if number == 3 && place > end as u64 => Answered::InputLine,
+        _ => Answered::Number(number),
+    }
+}
+
+/// The lines of a case's list, the one past its end, and lines far beyond.
+pub fn all_lines(case: &Case) -> Vec<usize> {
+    let count = case.list.iter().filter(|&&byte| byte == b'\n').count();
+    (0..=count).chain([1 << 32, usize::MAX]).collect()
+}
