@@ -3,7 +3,7 @@
 -- A loop over the lines of a text keeps `at ≤ length text` and what it says of `linesFrom text at`; that the text is ended it knows from before
 -- the loop. In a turn `line-within` says that the line's end is a byte of the text, and `lines-next` takes the line off; after the
 -- loop `lines-none` says that none is left.
-use mathlib.Core.Path.{_≡_, refl, sym, _∙_}
+use mathlib.Core.Path.{_≡_, refl, sym, subst, _∙_}
 use mathlib.Core.Bool.{Bool, true, false, cond}
 use mathlib.Core.List.{List, [], _∷_}
 use Prim.Native.Nat.{ℕ, suc, _+_, _-_, _≤_, _<_}
@@ -69,6 +69,41 @@ module _ (line : List ℕ) (at : ℕ) where
 pub field-whole : (line : List ℕ) → length line ≤ indexOf 9 line → fieldAt line 0 ≡ line
 unfolding fieldAt
 field-whole line h = take-all (indexOf 9 line) line h
+
+-- no separator stands from `at` to i, so that a search from `at` on finds what one from i on finds
+pub record Searched (separator : ℕ) (xs : List ℕ) (at i : ℕ) : Type 0 where
+  pub low : at ≤ i
+  pub high : i ≤ length xs
+  pub same : at + indexOf separator (drop at xs) ≡ i + indexOf separator (drop i xs)
+
+module _ {separator : ℕ} {xs : List ℕ} {at i : ℕ} (searched : Searched separator xs at i) where
+  pub search-past : i < length xs → (getD xs i 0 ≡ separator → ⊥) → {j : ℕ} → j ≡ i + 1 → Searched separator xs at j
+  search-past h q {j} next = subst (Searched separator xs at) (sym next) (record {
+    low = omega (arith, searched .low);
+    high = omega arith;
+    same = omega (arith, searched .same, index-past separator xs i h q);
+  })
+
+  pub search-here : i < length xs → getD xs i 0 ≡ separator → Found separator xs at i
+  search-here h q = record {
+    low = searched .low;
+    high = searched .high;
+    is = omega (arith, searched .same, index-here separator xs i h q);
+  }
+
+  pub search-end : length xs ≤ i → Found separator xs at i
+  search-end h = record {
+    low = searched .low;
+    high = searched .high;
+    is = omega (arith, searched .same, index-end separator xs i h);
+  }
+
+  pub search-on : {place : ℕ} → Found separator xs i place → Found separator xs at place
+  search-on found = record {
+    low = omega (arith, searched .low, found .low);
+    high = found .high;
+    is = omega (arith, searched .same, found .is);
+  }
 
 -- ---- the part before the first separator, and those after it
 

@@ -236,6 +236,31 @@ fn find(bytes: &[u8], byte: u8, at: usize) -> usize
     i
 }
 
+// The same, four bytes a turn. Lines are long, and each walk over a list looks for their ends: this takes about half the time. Fields are
+// short, and for them it would be slower.
+fn find_far(bytes: &[u8], byte: u8, at: usize) -> usize
+    requires { ⌜ at ≤ length (now bytes) ⌝ }
+    ensures { λ r. ⌜ Found byte (now (bytes .entry)) at r ⌝ }
+{
+    let mut i = at;
+    while 3 < bytes.len() - i {
+        if bytes[i] == byte {
+            return i;
+        }
+        if bytes[i + 1] == byte {
+            return i + 1;
+        }
+        if bytes[i + 2] == byte {
+            return i + 2;
+        }
+        if bytes[i + 3] == byte {
+            return i + 3;
+        }
+        i += 4;
+    }
+    find(bytes, byte, i)
+}
+
 // Where the field that starts at `at` ends.
 pub fn field_end(line: &[u8], at: usize) -> usize
     requires { ⌜ at ≤ length (now line) ⌝ }
@@ -249,7 +274,7 @@ pub fn line_end(text: &[u8], at: usize) -> usize
     requires { ⌜ at ≤ length (now text) ⌝ }
     ensures { λ r. ⌜ Found 10 (now (text .entry)) at r ⌝ }
 {
-    find(text, LINE_END, at)
+    find_far(text, LINE_END, at)
 }
 
 // Whether the last line of the text is ended, as each before it is. A text without bytes has no line, and is not ended.

@@ -1,23 +1,20 @@
--- No separator stands from `at` to `i`: the first from `at` on is the first from `i` on.
-use mathlib.Core.Path.{_≡_}
-use Prim.Native.Nat.{_≤_, _-_, _+_}
-use lib.ListN.{length, drop}
-use Rattle.text.specs.Place.{indexOf}
-use Rattle.text.proofs.Places.{index-here, index-past, index-end}
+-- No separator stands from `at` to `i`.
+use mathlib.Core.Path.{refl}
+use Prim.Native.Nat.{_-_}
+use lib.ListN.{length}
+use Rattle.text.proofs.Places.{Searched, search-past, search-here, search-end}
 use borrow.Author.Needs.{needs}
-use native.Mathlib.Omega.{arith}
 use Rattle.text.proofs.find.Statement.{statement}
 use Rattle.text.proofs.find.Tie as tie
 
 abbrev Inv-loop : tie.InvT-loop
-Inv-loop bytes byte at i₀ i =
-    (at ≤ i) × (i ≤ length bytes) × (at + indexOf byte (drop at bytes) ≡ i + indexOf byte (drop i bytes))
+Inv-loop bytes byte at i₀ i = Searched byte bytes at i
 
 abbrev μ-loop : tie.MeasureT-loop
 μ-loop bytes byte at i₀ i = length bytes - i
 
 loop-holds : tie.Need-loop-holds Inv-loop μ-loop
-loop-holds c = search needs
+loop-holds c = record { low = search needs; high = search needs; same = refl }
 
 shared-slice-read-if1 : tie.Need-shared-slice-read-if1 Inv-loop μ-loop
 shared-slice-read-if1 c = search needs
@@ -25,8 +22,7 @@ shared-slice-read-if1 c = search needs
 returns : tie.Need-returns Inv-loop μ-loop
 returns c =
     let at-test = c .before .before in
-    let start = at-test .before .before in
-    record { low = search needs; high = search needs; is = omega (arith, index-here (start .args .byte) (start .args .bytes .now) _ (at-test .loop-test .taken) (c .if1 .taken)) }
+    search-here (at-test .before .loop .inv) (at-test .loop-test .taken) (c .if1 .taken)
 
 add-i : tie.Need-add-i Inv-loop μ-loop
 add-i c = search needs
@@ -37,13 +33,10 @@ loop-less c = search needs
 loop-again : tie.Need-loop-again Inv-loop μ-loop
 loop-again c =
     let at-test = c .before .before in
-    let start = at-test .before .before in
-    (search needs, search needs, omega (arith, index-past (start .args .byte) (start .args .bytes .now) _ (at-test .loop-test .taken) (c .if1 .left)))
+    search-past (at-test .before .loop .inv) (at-test .loop-test .taken) (c .if1 .left) refl
 
 returns-2 : tie.Need-returns-2 Inv-loop μ-loop
-returns-2 c =
-    let start = c .before .before in
-    record { low = search needs; high = search needs; is = omega (arith, index-end (start .args .byte) (start .args .bytes .now) _ (c .loop-test .left)) }
+returns-2 c = search-end (c .before .loop .inv) (c .loop-test .left)
 
 pub find-spec : {M : Type 1} → statement M
 find-spec =
