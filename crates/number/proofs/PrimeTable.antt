@@ -110,11 +110,13 @@ prime-listed q P h =
 
 -- ---- the trial by the table and by the odd numbers above it
 
-pub prime-by-table : (n : ℕ) → 3 ≤ n → FirstDivisor n 54 → ((d : ℕ) → 257 ≤ d → d % 2 ≡ 1 → d * d ≤ n → n % d ≢ 0) → Prime n
+pub prime-by-table : (n : ℕ) → 3 ≤ n → FirstDivisor n 54 → ((d : ℕ) → 257 ≤ d → d % 2 ≡ 1 → d % 3 ≢ 0 → d * d ≤ n → n % d ≢ 0) → Prime n
 prime-by-table n l f t = prime-by-prime-roots n (omega arith) try
   where
     try : (q : ℕ) → Prime q → q * q ≤ n → n % q ≢ 0
     try q P s e = elim (decLt q 256) [
       | yes h ↦ let w = prime-listed q P h in f .earlier (w .0) (w .1) (rw (w .2) e)
-      | no h ↦ let o : q % 2 ≢ 0 = prime-no-remainder q P 2 (omega arith) (omega arith) in t q (omega arith) (omega arith) s e
+      | no h ↦
+          let o : q % 2 ≢ 0 = prime-no-remainder q P 2 (omega arith) (omega arith) in
+          t q (omega arith) (omega arith) (prime-no-remainder q P 3 (omega arith) (omega arith)) s e
     ]
