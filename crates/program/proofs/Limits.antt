@@ -1,12 +1,10 @@
--- The most that a list which is read has, and how many lines a text can have: what no sum overflows by.
+-- The most that a list which is read has, and how many lines its text can have: what no sum overflows by.
 use mathlib.Core.Path.{subst}
-use mathlib.Core.Bool.{Bool, true, false, cond}
 use mathlib.Core.List.{List, [], _∷_}
 use Prim.Native.Nat.{ℕ, suc, _+_, _-_, _≤_}
 use native.Mathlib.Omega.{arith}
-use lib.Dec.{eqb, leb→le}
+use lib.Dec.{leb→le}
 use lib.ListN.{length, length-append}
-use Rattle.meaning.specs.Text.{onFirst, split, withoutLast, linesOf}
 use Rattle.meaning.specs.Line.{Line}
 use Rattle.meaning.specs.Known.{Known, fresh}
 use Rattle.meaning.specs.Meaning.{gadget, after}
@@ -47,33 +45,9 @@ list-most {list} l =
     most-kept (l .lines) 0 fresh (l .last) (read-kept list (l .lines) (l .last) (l .is-read))
     (record { values-most = omega arith; inputs-most = omega arith; cells-most = omega arith })
 
--- ---- a text has no more lines than bytes
+-- ---- joined lines have no fewer bytes than there are lines
 
 pub joined-few : (ls : List (List ℕ)) → length ls ≤ length (joined ls)
 unfolding joined
 joined-few [] = omega arith
 joined-few (l ∷ ls) = omega (arith, joined-few ls, length-append l (10 ∷ joined ls))
-
-first-few : (x : ℕ) (parts : List (List ℕ)) (n : ℕ) → length parts ≤ suc n → length (onFirst x parts) ≤ suc (suc n)
-unfolding onFirst
-first-few x [] n h = omega arith
-first-few x (p ∷ ps) n h = omega arith
-
-split-few-at : (t : Bool) (x : ℕ) (rest : List (List ℕ)) (n : ℕ) → length rest ≤ suc n → length (cond t ([] ∷ rest) (onFirst x rest)) ≤ suc (suc n)
-split-few-at true x rest n h = omega arith
-split-few-at false x rest n h = first-few x rest n h
-
-split-few : (separator : ℕ) (xs : List ℕ) → length (split separator xs) ≤ suc (length xs)
-unfolding split
-split-few separator [] = omega arith
-split-few separator (x ∷ xs) = split-few-at (eqb x separator) x (split separator xs) (length xs) (split-few separator xs)
-
-without-few : (ls : List (List ℕ)) → length (withoutLast ls) ≤ length ls - 1
-unfolding withoutLast
-without-few [] = omega arith
-without-few (l ∷ []) = omega arith
-without-few (l ∷ (m ∷ ls)) = omega (arith, without-few (m ∷ ls))
-
-pub lines-few : (text : List ℕ) → length (linesOf text) ≤ length text
-unfolding linesOf
-lines-few text = omega (arith, without-few (split 10 text), split-few 10 text)

@@ -1,44 +1,19 @@
 -- Looking for the line `end`: what is known before each line, and what is found at the first that is it, or at the end.
 use mathlib.Core.Path.{_≡_, refl, sym, ap, _∙_}
-use mathlib.Core.Bool.{Bool, true, false, cond}
+use mathlib.Core.Bool.{Bool, true, false}
 use mathlib.Core.List.{List, [], _∷_, _++_, append-assoc, append-nil}
 use mathlib.Core.Option.{Option, none, some}
-use Prim.Native.Nat.{ℕ, suc, _+_, _-_, _≤_, _<_}
-use native.Mathlib.Decide.{ℕ-discrete}
+use Prim.Native.Nat.{ℕ, _+_, _-_, _≤_, _<_}
 use native.Mathlib.Omega.{arith}
 use native.Mathlib.Numerals.{add-one}
-use borrow.Author.Tests.{eqb-true}
-use lib.Dec.{eqb}
-use lib.ListN.{length, getD, take, drop, length-append, length-drop}
-use lib.Seq.{length-take-le, take-add, take-suc, getD-drop}
+use lib.ListN.{length, take, drop, length-append, length-drop}
+use lib.Seq.{length-take-le, take-add, take-suc}
 use Rattle.meaning.specs.Text.{bytes, sameBytes, linesOf, isEnded}
 use Rattle.meaning.specs.Program.{Parts, consPart, partsOf, joined}
-use Rattle.text.specs.Place.{indexOf, Found, linesFrom}
-use Rattle.text.proofs.Bytes.{same-lengths}
-use Rattle.text.proofs.Places.{lines-none, line-within, lines-next}
+use Rattle.text.specs.Place.{Found, linesFrom}
+use Rattle.text.proofs.Bytes.{same-long}
+use Rattle.text.proofs.Places.{found-byte, lines-none, line-within, lines-next}
 use Rattle.program.specs.Input.{EndsAt}
-
--- ---- the byte that ends a line
-
-index-at : (t : Bool) (separator x : ℕ) (xs : List ℕ) → eqb x separator ≡ t → (indexOf separator xs < length xs → getD xs (indexOf separator xs) 0 ≡ separator)
-    → cond t 0 (suc (indexOf separator xs)) < suc (length xs) → getD (x ∷ xs) (cond t 0 (suc (indexOf separator xs))) 0 ≡ separator
-index-at true separator x xs q later h = eqb-true x separator q
-index-at false separator x xs q later h = later (omega arith)
-
--- where a search ends inside, the separator stands
-index-byte : (separator : ℕ) (xs : List ℕ) → indexOf separator xs < length xs → getD xs (indexOf separator xs) 0 ≡ separator
-unfolding indexOf
-index-byte separator [] h = absurd (omega arith)
-index-byte separator (x ∷ xs) h = index-at (eqb x separator) separator x xs refl (index-byte separator xs) h
-
-found-byte : {separator : ℕ} {xs : List ℕ} {at place : ℕ} → Found separator xs at place → place < length xs → getD xs place 0 ≡ separator
-found-byte {separator} {xs} {at} {place} found h =
-    ap (λ (i : ℕ). getD xs i 0) (found .is) ∙ sym (getD-drop at xs (indexOf separator (drop at xs)) 0)
-    ∙ index-byte separator (drop at xs) (omega (arith, found .is, length-drop at xs))
-
-same-long : (xs ys : List ℕ) → sameBytes xs ys ≡ true → length xs ≡ length ys
-same-long xs ys is = elim (ℕ-discrete (length xs) (length ys))
-    [ yes e ↦ e | no n ↦ (let differs = same-lengths xs ys n in let z : _≡_ {A = ℕ} 0 1 = cc in absurd (omega arith)) ]
 
 -- ---- lines that are joined
 

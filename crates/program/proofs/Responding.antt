@@ -24,7 +24,8 @@ use Rattle.program.specs.declared.input.Ending.{Ending}
 use Rattle.program.specs.declared.input.Ending.the-variants.{At, Missing}
 use Rattle.program.specs.declared.input.Inputs.{Inputs}
 use Rattle.program.specs.declared.input.Inputs.the-variants.{Numbers, NoNumber}
-use Rattle.program.proofs.Limits.{list-most, joined-few, lines-few}
+use Rattle.text.proofs.Places.{lines-few}
+use Rattle.program.proofs.Limits.{list-most, joined-few}
 use Rattle.program.specs.Answered.{ListAsked, InputsAsked}
 
 -- ---- the answers

@@ -5,6 +5,7 @@ use mathlib.Core.Bool.{Bool, true, false, _&&_}
 use mathlib.Core.List.{List, [], _∷_}
 use mathlib.Core.Option.{none, some}
 use Prim.Native.Nat.{ℕ, suc, _+_, _≤_, _<_}
+use native.Mathlib.Decide.{ℕ-discrete}
 use native.Mathlib.Numerals.{add-one}
 use native.Mathlib.Omega.{arith}
 use borrow.Author.Tests.{eq-eqb, ne-eqb}
@@ -31,6 +32,10 @@ same-lengths [] [] h = absurd (h refl)
 same-lengths [] (y ∷ ys) h = refl
 same-lengths (x ∷ xs) [] h = refl
 same-lengths (x ∷ xs) (y ∷ ys) h = rw (same-lengths xs ys (λ e. h (ap suc e))) (and-false (eqb x y))
+
+pub same-long : (xs ys : List ℕ) → sameBytes xs ys ≡ true → length xs ≡ length ys
+same-long xs ys is = elim (ℕ-discrete (length xs) (length ys))
+    [ yes e ↦ e | no n ↦ (let differs = same-lengths xs ys n in let z : _≡_ {A = ℕ} 0 1 = cc in absurd (omega arith)) ]
 
 module _ (xs ys : List ℕ) (i : ℕ) where
   pub same-end : length xs ≤ i → length ys ≤ i → sameBytes (drop i xs) (drop i ys) ≡ true

@@ -3,13 +3,13 @@
 -- A loop over the lines of a text keeps `at ≤ length text` and what it says of `linesFrom text at`; that the text is ended it knows from before
 -- the loop. In a turn `line-within` says that the line's end is a byte of the text, and `lines-next` takes the line off; after the
 -- loop `lines-none` says that none is left.
-use mathlib.Core.Path.{_≡_, refl, sym, subst, _∙_}
+use mathlib.Core.Path.{_≡_, refl, sym, ap, subst, _∙_}
 use mathlib.Core.Bool.{Bool, true, false, cond}
 use mathlib.Core.List.{List, [], _∷_}
 use Prim.Native.Nat.{ℕ, suc, _+_, _-_, _≤_, _<_}
 use native.Mathlib.Numerals.{add-one}
 use native.Mathlib.Omega.{arith}
-use borrow.Author.Tests.{ltb-true, ltb-false, lt-ltb, le-ltb, eq-eqb, ne-eqb}
+use borrow.Author.Tests.{eqb-true, ltb-true, ltb-false, lt-ltb, le-ltb, eq-eqb, ne-eqb}
 use lib.Dec.{ltb, eqb, leb·suc-suc}
 use lib.ListN.{length, getD, take, drop, length-drop, drop-of-length-le}
 use lib.Seq.{drop-drop, getD-drop, length-take-le, take-all}
@@ -69,6 +69,22 @@ module _ (line : List ℕ) (at : ℕ) where
 pub field-whole : (line : List ℕ) → length line ≤ indexOf 9 line → fieldAt line 0 ≡ line
 unfolding fieldAt
 field-whole line h = take-all (indexOf 9 line) line h
+
+index-at : (t : Bool) (separator x : ℕ) (xs : List ℕ) → eqb x separator ≡ t → (indexOf separator xs < length xs → getD xs (indexOf separator xs) 0 ≡ separator)
+    → cond t 0 (suc (indexOf separator xs)) < suc (length xs) → getD (x ∷ xs) (cond t 0 (suc (indexOf separator xs))) 0 ≡ separator
+index-at true separator x xs q later h = eqb-true x separator q
+index-at false separator x xs q later h = later (omega arith)
+
+-- where a search ends inside, the separator stands
+index-byte : (separator : ℕ) (xs : List ℕ) → indexOf separator xs < length xs → getD xs (indexOf separator xs) 0 ≡ separator
+unfolding indexOf
+index-byte separator [] h = absurd (omega arith)
+index-byte separator (x ∷ xs) h = index-at (eqb x separator) separator x xs refl (index-byte separator xs) h
+
+pub found-byte : {separator : ℕ} {xs : List ℕ} {at place : ℕ} → Found separator xs at place → place < length xs → getD xs place 0 ≡ separator
+found-byte {separator} {xs} {at} {place} found h =
+    ap (λ (i : ℕ). getD xs i 0) (found .is) ∙ sym (getD-drop at xs (indexOf separator (drop at xs)) 0)
+    ∙ index-byte separator (drop at xs) (omega (arith, found .is, length-drop at xs))
 
 -- no separator stands from `at` to i, so that a search from `at` on finds what one from i on finds
 pub record Searched (separator : ℕ) (xs : List ℕ) (at i : ℕ) : Type 0 where
@@ -208,3 +224,29 @@ module _ (text : List ℕ) where
     unfolding linesOf withoutLast
     lines-next =
         rw (parts-from 10 text found, parts-more 10 text end line-within, split-index 10 (drop (end + 1) text))
+
+-- ---- a text has no more lines than bytes
+
+first-few : (x : ℕ) (parts : List (List ℕ)) (n : ℕ) → length parts ≤ suc n → length (onFirst x parts) ≤ suc (suc n)
+unfolding onFirst
+first-few x [] n h = omega arith
+first-few x (p ∷ ps) n h = omega arith
+
+split-few-at : (t : Bool) (x : ℕ) (rest : List (List ℕ)) (n : ℕ) → length rest ≤ suc n → length (cond t ([] ∷ rest) (onFirst x rest)) ≤ suc (suc n)
+split-few-at true x rest n h = omega arith
+split-few-at false x rest n h = first-few x rest n h
+
+split-few : (separator : ℕ) (xs : List ℕ) → length (split separator xs) ≤ suc (length xs)
+unfolding split
+split-few separator [] = omega arith
+split-few separator (x ∷ xs) = split-few-at (eqb x separator) x (split separator xs) (length xs) (split-few separator xs)
+
+without-few : (ls : List (List ℕ)) → length (withoutLast ls) ≤ length ls - 1
+unfolding withoutLast
+without-few [] = omega arith
+without-few (l ∷ []) = omega arith
+without-few (l ∷ (m ∷ ls)) = omega (arith, without-few (m ∷ ls))
+
+pub lines-few : (text : List ℕ) → length (linesOf text) ≤ length text
+unfolding linesOf
+lines-few text = omega (arith, without-few (split 10 text), split-few 10 text)
