@@ -25,7 +25,7 @@ mod tables;
 pub use damage::random_bytes;
 pub use dice::Dice;
 pub use directed::{directed, Call, Directed};
-pub use sources::sources;
+pub use sources::{sources, SOURCE};
 
 use crate::plan::Plan;
 use crate::Desk;

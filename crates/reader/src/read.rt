@@ -23,7 +23,7 @@ ghost use Rattle.reader.specs.State.{greatest};
 ghost use Rattle.reader.specs.Read.{only, surveyOf, surveySeen, PrimeFound, primeIn, firstOption, firstSeen, answerSeen, Exact};
 
 // p of line 0, or the number of its refusal.
-pub enum First {
+enum First {
     Prime(u32),
     NotFirst(u32),
 }
@@ -55,7 +55,7 @@ fn is_field(word: Word) -> bool
     }
 }
 
-pub fn first_line(line: &[u8], numbers: &mut [i64]) -> First
+fn first_line(line: &[u8], numbers: &mut [i64]) -> First
     requires { ⌜ length (now numbers) ≡ 33 ⌝ }
     ensures told { λ r. ⌜ firstSeen r ≡ firstOption (lineOf (now (line .entry))) ⌝ }
     ensures small { λ r. ⌜ primeIn r ≤ greatest ⌝ }

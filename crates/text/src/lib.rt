@@ -36,7 +36,7 @@ pub enum Number {
 }
 
 // A number, and the place where its field ends.
-pub enum NumberAt {
+enum NumberAt {
     Of(i64, usize),
     NoNumber,
 }
@@ -109,7 +109,7 @@ fn size_from(line: &[u8], at: usize) -> Size
 // The number that the field at `at` spells. A zero is one where its field ends just after it. Otherwise `from` is where the digits
 // start, and so tells the sign. One call reads them with either sign: with two this function is too large for the compiler to put it
 // into the loop of `line_of`, and each number pays for a call.
-pub fn number_at(line: &[u8], at: usize) -> NumberAt
+fn number_at(line: &[u8], at: usize) -> NumberAt
     requires { ⌜ at ≤ length (now line) ⌝ }
     ensures { λ r. ⌜ NumberRead (now (line .entry)) at r ⌝ }
 {
@@ -162,13 +162,13 @@ pub enum Word {
     Root,
 }
 
-pub enum Spelled {
+enum Spelled {
     Known(Word),
     NoWord,
 }
 
 // The word that a field spells.
-pub fn word_of(field: &[u8]) -> Spelled
+fn word_of(field: &[u8]) -> Spelled
     ensures { λ r. ⌜ wordSeen r ≡ wordAmong words (now (field .entry)) ⌝ }
 {
     if is_same(b"field", field) {
@@ -262,7 +262,7 @@ fn find_far(bytes: &[u8], byte: u8, at: usize) -> usize
 }
 
 // Where the field that starts at `at` ends.
-pub fn field_end(line: &[u8], at: usize) -> usize
+fn field_end(line: &[u8], at: usize) -> usize
     requires { ⌜ at ≤ length (now line) ⌝ }
     ensures { λ r. ⌜ Found 9 (now (line .entry)) at r ⌝ }
 {

@@ -1,7 +1,7 @@
 //! Case after case, both services: every reply, every lent cell, and a desk of each that hears all cases of a comparison.
 
 use crate::{outcome, Desk, Proved, Reference, Service, Tally};
-use reference::generate::{Case, Directed};
+use reference::generate::{Call, Case, Directed, SOURCE};
 
 /// Compares cases and counts what was seen.
 #[derive(Default)]
@@ -38,14 +38,23 @@ impl Comparison {
         }
     }
 
-    /// A case built on purpose: the two agree, and on the reply that the document gives.
+    /// A case built on purpose: the two agree, and on the reply that the document gives. Where a source has a true table, making from its
+    /// inputs writes that table.
     pub fn compare_directed(&mut self, directed: &Directed, lines: &[usize]) {
-        let Directed { way, case, reply, .. } = directed;
+        let Directed { way, call, case, reply } = directed;
         self.compare(way, case, lines);
         let actual = directed.actual();
         if actual != *reply {
-            let from = format!("{way}: the reference replies {actual:?}, the document {reply:?}");
-            self.differ(&from, case, lines, [&String::new(), &String::new()]);
+            let seen = [&format!("{actual:?}"), &format!("the document's reply: {reply:?}")];
+            self.differ(&format!("{way}: the document's reply"), case, lines, seen);
+        }
+        if case.kind == SOURCE && *call == Call::Check && *reply == (0, 0) {
+            let mut made = vec![u32::MAX; case.table.len()];
+            let making = Proved::make(&case.list, &case.inputs, &mut made);
+            if making != (0, 0) || made != case.table {
+                let seen = [&format!("{making:?} {made:?}"), &"the source's table".to_string()];
+                self.differ(&format!("{way}: the source's table"), case, lines, seen);
+            }
         }
     }
 

@@ -25,6 +25,9 @@ use super::{
     Case,
 };
 
+/// The kind of these cases.
+pub const SOURCE: &str = "source";
+
 /// All worked examples. A way is the place of the example, a colon, and what the case shows.
 ///
 /// An accepted check gives the whole true table of the case's inputs; making from them must write
@@ -58,7 +61,7 @@ impl Example {
     pub fn makes(self, inputs: &[i64], reply: (u64, u64)) -> Vec<Directed> {
         let way = self.way(&format!("made from {inputs:?}"));
         let mut made = Directed::make(&way, self.list, inputs, reply);
-        made.case.kind = "source";
+        made.case.kind = SOURCE;
         made.case.table.fill(u32::MAX);
         vec![made]
     }
@@ -88,6 +91,6 @@ impl Example {
         let list = text(self.list);
         let stdin = program_text(&list, inputs);
         let (inputs, table) = (inputs.to_vec(), table.to_vec());
-        Case { kind: "source", inputs, table, stdin, ..Case::about(list) }
+        Case { kind: SOURCE, inputs, table, stdin, ..Case::about(list) }
     }
 }
