@@ -236,8 +236,8 @@ fn find(bytes: &[u8], byte: u8, at: usize) -> usize
     i
 }
 
-// The same, four bytes a turn. Lines are long, and each walk over a list looks for their ends: this takes about half the time. Fields are
-// short, and for them it would be slower.
+// The same, four bytes a turn. Lines are long, and each walk over a list looks for their ends: this takes about three fifths of the time.
+// Fields are looked for byte by byte: with this for them too, reading as a whole was slower.
 fn find_far(bytes: &[u8], byte: u8, at: usize) -> usize
     requires { ⌜ at ≤ length (now bytes) ⌝ }
     ensures { λ r. ⌜ Found byte (now (bytes .entry)) at r ⌝ }
