@@ -21,7 +21,7 @@ impl Comparison {
         let reference = outcome::<Reference>(case, lines, &rooms);
         if proved != reference {
             let calls = proved.differing(&reference).join(", ");
-            let seen = [&format!("{proved:?}"), &format!("{reference:?}")];
+            let seen = both(format!("{proved:?}"), format!("{reference:?}"));
             self.differ(&format!("{from}: {calls}"), case, lines, seen);
         }
         self.hear(from, case);
@@ -45,14 +45,14 @@ impl Comparison {
         self.compare(way, case, lines);
         let actual = directed.actual();
         if actual != *reply {
-            let seen = [&format!("{actual:?}"), &format!("the document's reply: {reply:?}")];
+            let seen = [("reference", format!("{actual:?}")), ("document", format!("{reply:?}"))];
             self.differ(&format!("{way}: the document's reply"), case, lines, seen);
         }
         if case.kind == SOURCE && *call == Call::Check && *reply == (0, 0) {
             let mut made = vec![u32::MAX; case.table.len()];
             let making = Proved::make(&case.list, &case.inputs, &mut made);
             if making != (0, 0) || made != case.table {
-                let seen = [&format!("{making:?} {made:?}"), &"the source's table".to_string()];
+                let seen = [("proved", format!("{making:?} {made:?}")), ("source", "table".into())];
                 self.differ(&format!("{way}: the source's table"), case, lines, seen);
             }
         }
@@ -68,15 +68,16 @@ impl Comparison {
         // From the same counts again, so that one difference is counted once.
         self.desks = [reference; 2];
         if replies[0] != replies[1] || proved != reference {
-            let seen = [
-                &format!("{:?} {proved:?}", replies[0]),
-                &format!("{:?} {reference:?}", replies[1]),
-            ];
+            let seen = both(
+                format!("{:?} {proved:?}", replies[0]),
+                format!("{:?} {reference:?}", replies[1]),
+            );
             self.differ(&format!("{from}: the desk that hears all"), case, &[], seen);
         }
     }
 
-    fn differ(&mut self, from: &str, case: &Case, lines: &[usize], seen: [&String; 2]) {
+    /// Counts a difference: what was lent, and what either side says, each by its name.
+    fn differ(&mut self, from: &str, case: &Case, lines: &[usize], seen: [(&str, String); 2]) {
         let lent: [(&str, &dyn Fn() -> String); 8] = [
             ("list", &|| format!("\"{}\"", case.list.escape_ascii())),
             ("inputs", &|| format!("{:?}", case.inputs)),
@@ -84,11 +85,16 @@ impl Comparison {
             ("lines", &|| format!("{lines:?}")),
             ("desk", &|| format!("{:?}", case.desk)),
             ("standard input", &|| format!("\"{}\"", case.stdin.escape_ascii())),
-            ("proved", &|| seen[0].clone()),
-            ("reference", &|| seen[1].clone()),
+            (seen[0].0, &|| seen[0].1.clone()),
+            (seen[1].0, &|| seen[1].1.clone()),
         ];
         self.tally.differ(from, &lent);
     }
+}
+
+/// What the two services say.
+fn both(proved: String, reference: String) -> [(&'static str, String); 2] {
+    [("proved", proved), ("reference", reference)]
 }
 
 /// What an answer of the program says.
