@@ -11,7 +11,6 @@ use lib.IntN.{ℤ}
 use lib.ListN.{length, getD, take, drop}
 use Rattle.algebra.specs.Digits.{Below}
 use Rattle.algebra.proofs.Test.{ltb-iff}
-use Rattle.meaning.specs.Text.{isEnded}
 use Rattle.meaning.specs.Line.{Line}
 use Rattle.meaning.specs.Known.{Known, fresh}
 use Rattle.meaning.specs.Row.{Row, among, holds}
@@ -21,12 +20,6 @@ use Rattle.meaning.specs.Reply.{Reply, reply, firstFail, isCell, rowsFrom, rows
 use Rattle.meaning.proofs.Kept.{Keeps}
 use Rattle.meaning.proofs.Lists.{all-pass}
 use Rattle.text.specs.Word.{wordOf}
-use Rattle.text.specs.Place.{Found}
-use Rattle.text.specs.Parsed.{LineRead}
-use Rattle.text.specs.declared.Word.{Word}
-use Rattle.text.specs.declared.Parsed.{Parsed}
-use Rattle.text.specs.declared.Parsed.the-variants.{Line as Spelt}
-use Rattle.reader.specs.Told.{lineWith}
 use Rattle.reader.specs.declared.state.Counts.{Counts}
 use Rattle.reader.proofs.Steps.{few}
 use Rattle.table.specs.Rows.{rowsSeen, firstOf}
@@ -34,7 +27,8 @@ use Rattle.table.specs.declared.rows.Rows.{Rows}
 use Rattle.table.specs.declared.rows.Rows.the-variants.{AllHold, Fails}
 use Rattle.table.specs.LineRows.{RowsAsked}
 use Rattle.table.proofs.RowsFirst.{first-append}
-use Rattle.service.specs.Walk.{Stands, Placed, ListRead}
+use Rattle.service.specs.Walk.{Stands, Placed, ListRead, AtLine, Took, taken}
+use Rattle.service.specs.declared.walk.Taken.{Taken}
 use Rattle.service.specs.Check.{cellsSeen, TableAsked, rowsReply}
 use Rattle.service.specs.declared.checking.Cells.{Cells}
 use Rattle.service.specs.declared.checking.Cells.the-variants.{AllBelow, Large}
@@ -199,12 +193,14 @@ module _ {list table : List ℕ} {p : ℕ} {numbers : List ℤ} {places : List �
 
   -- ---- what the rows of a line are asked with
 
-  module _ (ended : isEnded list ≡ true) {end : ℕ} (inside : at < length list) (found : Found 10 list at end) {numbers′ : List ℤ} {r : Parsed}
-      (parsed : LineRead (take (end - at) (drop at list)) numbers numbers′ r) {word : Word} {count : ℕ} (is : r ≡ Spelt word count) where
-    pub room-here : c .cells + gadget (w .state) (lineWith (wordOf word) (take count numbers′)) .width ≤ length table
+  abbrev pub at-line : at < length list → AtLine list c at
+  at-line inside = record { listed = w .asked .listed; number = w .number; state = w .state; left = w .left; stands = w .stands; inside = inside }
+
+  module _ (inside : at < length list) {numbers′ : List ℤ} {t : Taken} (took : Took (at-line inside) numbers′ t) where
+    pub room-here : c .cells + gadget (w .state) (taken numbers′ t) .width ≤ length table
     room-here = omega (
       arith,
-      cells-inside (w .stands) ended inside found parsed (w .numbers-long) is,
+      cells-inside took,
       w .asked .long,
       w .stands .counted .cells-are,
     )
@@ -217,10 +213,10 @@ module _ {list table : List ℕ} {p : ℕ} {numbers : List ℤ} {places : List �
       room-here,
     )
 
-    abbrev pub rows-asked : RowsAsked p (wordOf word) numbers′ count table (c .cells) places
+    abbrev pub rows-asked : RowsAsked p (wordOf (t .word)) numbers′ (t .count) table (c .cells) places
     rows-asked = record {
-      kept = line-kept (w .stands) ended inside found parsed (w .numbers-long) is;
-      prime = λ plain. prime-here (w .stands) ended inside found parsed (w .numbers-long) is plain ∙ w .asked .prime;
+      kept = line-kept took;
+      prime = λ plain. prime-here took plain ∙ w .asked .prime;
       below = w .asked .below;
       cells-are = w .stands .counted .cells-are;
       room = room-here;

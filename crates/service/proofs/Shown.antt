@@ -1,7 +1,7 @@
 -- Showing a line: what holds before each line of the walk to it, and what the walk answers.
 use mathlib.Core.Path.{_≡_, refl, sym, ap, ap₂, _∙_}
 use mathlib.Core.List.{List, [], _∷_}
-use Prim.Native.Nat.{ℕ, suc, _+_, _-_, _≤_}
+use Prim.Native.Nat.{ℕ, suc, _+_, _-_, _≤_, _<_}
 use native.Mathlib.Omega.{arith}
 use borrow.Author.Tests.{eq-eqb, ne-eqb}
 use lib.ListN.{length, take, drop}
@@ -13,7 +13,7 @@ use Rattle.meaning.specs.Refusal.{refused, onReading, reading}
 use Rattle.meaning.specs.Reply.{stretch, shown}
 use Rattle.meaning.proofs.Induction.{cells-grow}
 use Rattle.reader.specs.declared.state.Counts.{Counts}
-use Rattle.service.specs.Walk.{Stands, ListRead}
+use Rattle.service.specs.Walk.{Stands, ListRead, AtLine}
 use Rattle.service.specs.Show.{IsStretch}
 use Rattle.service.specs.declared.showing.Stretch.{Stretch}
 use Rattle.service.proofs.Listed.{same-lines, same-last}
@@ -50,6 +50,9 @@ same-stretch list line l m r s = record {
 }
 
 module _ {list : List ℕ} {line : ℕ} {numbers : List ℤ} {c : Counts} {at n : ℕ} (w : Showing list line numbers c at n) where
+  abbrev pub at-line : at < length list → AtLine list c at
+  at-line inside = record { listed = w .listed; number = n; state = w .state; left = w .left; stands = w .stands; inside = inside }
+
   -- the line is not there
   pub showing-end : length list ≤ at → (m : ListRead list) → IsStretch list line m (record { from = 0; to = 0 })
   unfolding stretch

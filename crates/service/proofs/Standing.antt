@@ -10,7 +10,7 @@ use lib.Dec.{T, leb→le}
 use lib.IntN.{ℤ}
 use lib.ListN.{length, take, drop, length-append}
 use Rattle.meaning.specs.Text.{isEnded}
-use Rattle.meaning.specs.Line.{Line, lineOf}
+use Rattle.meaning.specs.Line.{Line, lineOf, isCount}
 use Rattle.meaning.specs.Line.{Word as Meant}
 use Rattle.meaning.specs.Known.{Known, fresh}
 use Rattle.meaning.specs.Meaning.{gadget, after}
@@ -34,7 +34,9 @@ use Rattle.reader.specs.Size.{Adds}
 use Rattle.reader.specs.declared.state.Counts.{Counts}
 use Rattle.reader.proofs.Steps.{few}
 use Rattle.table.specs.Line.{KeptLine}
-use Rattle.service.specs.Walk.{Counted, Few, Stands}
+use Rattle.service.specs.Walk.{Counted, Few, Stands, AtLine, Took, taken}
+use Rattle.service.specs.declared.walk.Taken.{Taken}
+use Rattle.service.proofs.Listed.{read-ended}
 
 none-some : {l : Line} → _≡_ {A = Option Line} none (some l) → ⊥
 none-some e = Option·none-ne-some _ e
@@ -113,54 +115,33 @@ module _ {list : List ℕ} {last s : Known} {left : List Line} {c : Counts} {at 
         (sym (ap (map lineOf) (lines-next list ended inside found)) ∙ stands .spells)
 
     -- the lines after it
-    pub rest : List Line
+    rest : List Line
     rest = next .1
 
     -- the bytes spell a line, as the list was read
-    pub line-there : r ≡ NoLine → ⊥
+    line-there : r ≡ NoLine → ⊥
     line-there is = none-some (sym (no-line-seen parsed is) ∙ next .3)
 
     module _ {word : Word} {count : ℕ} (is : r ≡ Spelt word count) where
       abbrev line : Line
       line = lineWith (wordOf word) (take count numbers)
 
-      pub left-is : left ≡ line ∷ rest
+      left-is : left ≡ line ∷ rest
       unfolding rest
       left-is = next .2 ∙ ap (λ (l : Line). l ∷ rest) (Option·some-injective _ _ (sym (next .3) ∙ line-seen parsed is))
 
-      pub kept-here : Kept n s (line ∷ rest) last
+      kept-here : Kept n s (line ∷ rest) last
       kept-here = subst (λ (ls : List Line). Kept n s ls last) left-is (stands .kept)
 
-      pub kept-after : Kept (suc n) (after s line) rest last
+      kept-after : Kept (suc n) (after s line) rest last
       kept-after = kept-here .1
 
-      -- the cells of the line are among those of the list
-      pub cells-inside : s .cells + gadget s line .width ≤ last .cells
-      unfolding after
-      cells-inside = cells-grow rest (suc n) (after s line) last kept-after
-
-      pub keeps : Keeps n s line
+      keeps : Keeps n s line
       keeps = keeps-all n s line (kept-here .0)
 
-      pub prime-here : isField (wordOf word) ≡ false → s .p ≡ last .p
-      prime-here plain = same-prime n s last left (later-line n (wordOf word) plain (keeps .placed)) (stands .kept)
-
-      pub numbers-small : Small count numbers
+      numbers-small : Small count numbers
       unfolding greatest
       numbers-small = line-small parsed is
-
-      abbrev pub line-kept : KeptLine (wordOf word) numbers count
-      line-kept = record {
-        line = n;
-        state = s;
-        sound = stands .sound;
-        keeps = keeps;
-        p-most = λ plain. subst (λ (q : ℕ). q ≤ greatest) (sym (prime-here plain)) (stands .p-most);
-        numbers-long = parsed .kept ∙ long;
-        counted = line-counted parsed is long;
-        few = line-most parsed is;
-        small = numbers-small;
-      }
 
       few-after : (d : Counts) → Counted (after s line) d → Few d
       unfolding after valueLimit cellLimit
@@ -175,7 +156,7 @@ module _ {list : List ℕ} {last s : Known} {left : List Line} {c : Counts} {at 
             rows-most = omega (arith, now-counted .rows-are, now-counted .cells-are, f .1, was .rows-are, was .cells-are, stands .few .rows-most);
           }
 
-      pub stands-next : (d : Counts) → Counted (after s line) d → Stands list last (after s line) rest d (end + 1) (n + 1)
+      stands-next : (d : Counts) → Counted (after s line) d → Stands list last (after s line) rest d (end + 1) (n + 1)
       unfolding rest
       stands-next d now-counted = record {
         inside = omega (arith, line-within list ended inside found);
@@ -187,3 +168,61 @@ module _ {list : List ℕ} {last s : Known} {left : List Line} {c : Counts} {at 
         counted = now-counted;
         few = few-after d now-counted;
       }
+
+-- ---- what `take_line` promises
+
+module _ {list : List ℕ} {c : Counts} {at : ℕ} (a : AtLine list c at) {end : ℕ} (found : Found 10 list at end) {before numbers : List ℤ} {r : Parsed}
+    (parsed : LineRead (take (end - at) (drop at list)) before numbers r) (long : length before ≡ 33) where
+  ended : isEnded list ≡ true
+  ended = read-ended list (a .listed .lines) (a .listed .last) (a .listed .is-read)
+
+  pub line-is-there : r ≡ NoLine → ⊥
+  line-is-there is = line-there (a .stands) ended (a .inside) found parsed long is
+
+  pub took : {word : Word} {count : ℕ} → r ≡ Spelt word count → (d : Counts)
+      → ((n k : ℕ) (s : Known) → isCount (wordOf word) k ≡ true → Keeps n s (lineWith (wordOf word) (take k numbers)) → Counted s c
+      → Counted (after s (lineWith (wordOf word) (take k numbers))) d)
+      → d .values ≤ c .values + 1
+      → Took a numbers (record { word = word; count = count; counts = d; next = end + 1 })
+  took is d told more = record {
+    rest = rest (a .stands) ended (a .inside) found parsed long;
+    left-is = left-is (a .stands) ended (a .inside) found parsed long is;
+    kept = kept-here (a .stands) ended (a .inside) found parsed long is;
+    next = stands-next (a .stands) ended (a .inside) found parsed long is d
+        (told _ _ _ (line-counted parsed is long) (keeps (a .stands) ended (a .inside) found parsed long is) (a .stands .counted));
+    one-more = more;
+    further = omega (arith, found .low);
+    long = parsed .kept ∙ long;
+    counted = line-counted parsed is long;
+    few = line-most parsed is;
+    small = numbers-small (a .stands) ended (a .inside) found parsed long is;
+  }
+
+-- ---- what a line that was taken tells
+
+module _ {list : List ℕ} {c : Counts} {at : ℕ} {a : AtLine list c at} {numbers : List ℤ} {t : Taken} (took : Took a numbers t) where
+  pub keeps-rules : Keeps (a .number) (a .state) (taken numbers t)
+  keeps-rules = keeps-all (a .number) (a .state) (taken numbers t) (took .kept .0)
+
+  pub prime-here : isField (wordOf (t .word)) ≡ false → a .state .p ≡ a .listed .last .p
+  prime-here plain =
+      same-prime (a .number) (a .state) (a .listed .last) (a .left) (later-line (a .number) (wordOf (t .word)) plain (keeps-rules .placed))
+      (a .stands .kept)
+
+  -- the cells of the line are among those of the list
+  pub cells-inside : a .state .cells + gadget (a .state) (taken numbers t) .width ≤ a .listed .last .cells
+  unfolding after
+  cells-inside = cells-grow (took .rest) (suc (a .number)) (after (a .state) (taken numbers t)) (a .listed .last) (took .kept .1)
+
+  abbrev pub line-kept : KeptLine (wordOf (t .word)) numbers (t .count)
+  line-kept = record {
+    line = a .number;
+    state = a .state;
+    sound = a .stands .sound;
+    keeps = keeps-rules;
+    p-most = λ plain. subst (λ (q : ℕ). q ≤ greatest) (sym (prime-here plain)) (a .stands .p-most);
+    numbers-long = took .long;
+    counted = took .counted;
+    few = took .few;
+    small = took .small;
+  }

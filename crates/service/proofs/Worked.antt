@@ -13,7 +13,6 @@ use lib.ListN.{length, getD, take, drop, length-append, length-set}
 use lib.Seq.{take-suc-set, getD-drop, drop-drop}
 use Rattle.algebra.proofs.Test.{≡-test}
 use Rattle.meaning.specs.Number.{inRange}
-use Rattle.meaning.specs.Text.{isEnded}
 use Rattle.meaning.specs.Line.{Line}
 use Rattle.meaning.specs.Known.{Known, fresh}
 use Rattle.meaning.specs.Gadget.Interface.{Gadget}
@@ -26,18 +25,14 @@ use Rattle.meaning.proofs.Law.{Within, Law}
 use Rattle.meaning.proofs.Induction.{first-law}
 use Rattle.meaning.proofs.Working.{inputs-grow}
 use Rattle.text.specs.Word.{wordOf}
-use Rattle.text.specs.Place.{Found}
-use Rattle.text.specs.Parsed.{LineRead}
-use Rattle.text.specs.declared.Word.{Word}
-use Rattle.text.specs.declared.Parsed.{Parsed}
-use Rattle.text.specs.declared.Parsed.the-variants.{Line as Spelt}
 use Rattle.reader.specs.declared.state.Counts.{Counts}
 use Rattle.reader.proofs.Steps.{few}
 use Rattle.table.specs.Cells.{workedSeen}
 use Rattle.table.specs.LineValues.{ValuesAsked}
 use Rattle.table.specs.declared.value.Worked.{Worked}
 use Rattle.table.specs.declared.value.Worked.the-variants.{Value, NoValue, False}
-use Rattle.service.specs.Walk.{Stands, ListRead}
+use Rattle.service.specs.Walk.{Stands, ListRead, AtLine, Took}
+use Rattle.service.specs.declared.walk.Taken.{Taken}
 use Rattle.service.specs.Make.{withValue, isTrue, WorkAsked, WorkDone}
 use Rattle.service.specs.declared.working.Working.the-variants.{AllTrue, FalseAt}
 use Rattle.service.proofs.Listed.{same-lines, same-last}
@@ -146,11 +141,13 @@ module _ {list : List ℕ} {inputs numbers values : List ℤ} {c : Counts} {at n
 
   -- ---- what a line is worked with
 
-  module _ (ended : isEnded list ≡ true) {end : ℕ} (inside : at < length list) (found : Found 10 list at end) {numbers′ : List ℤ} {r : Parsed}
-      (parsed : LineRead (take (end - at) (drop at list)) numbers numbers′ r) {word : Word} {count : ℕ} (is : r ≡ Spelt word count) where
-    abbrev pub values-asked : ValuesAsked (wordOf word) numbers′ count values
+  abbrev pub at-line : at < length list → AtLine list c at
+  at-line inside = record { listed = w .asked .listed; number = n; state = w .state; left = w .left; stands = w .stands; inside = inside }
+
+  module _ (inside : at < length list) {numbers′ : List ℤ} {t : Taken} (took : Took (at-line inside) numbers′ t) where
+    abbrev pub values-asked : ValuesAsked (wordOf (t .word)) numbers′ (t .count) values
     values-asked = record {
-      kept = line-kept (w .stands) ended inside found parsed (w .numbers-long) is;
+      kept = line-kept took;
       values-long = w .values-long;
       within = w .within;
     }

@@ -12,7 +12,6 @@ use lib.ListN.{length, getD, take, drop, length-append, length-take, length-drop
 use lib.Seq.{take-add, take-take, take-at, drop-at, getD-drop, drop-drop, length-take-le}
 use borrow.Rule.Slice.PartMut.{putMid}
 use Rattle.meaning.specs.Number.{inRange, remainder}
-use Rattle.meaning.specs.Text.{isEnded}
 use Rattle.meaning.specs.Line.{Word, field, input, span, sum, relu, which, max, root, Line}
 use Rattle.meaning.specs.Known.{Known, fresh}
 use Rattle.meaning.specs.Gadget.Interface.{Gadget}
@@ -31,17 +30,12 @@ use Rattle.meaning.proofs.Law.{Within, Law}
 use Rattle.meaning.proofs.Induction.{first-law, cells-grow, valuesIn, cellsIn, split-worked}
 use Rattle.meaning.proofs.Working.{inputs-grow}
 use Rattle.text.specs.Word.{wordOf}
-use Rattle.text.specs.Place.{Found}
-use Rattle.text.specs.Parsed.{LineRead}
-use Rattle.text.specs.declared.Word.{Word as Coded}
-use Rattle.text.specs.declared.Parsed.{Parsed}
-use Rattle.text.specs.declared.Parsed.the-variants.{Line as Spelt}
-use Rattle.reader.specs.Told.{lineWith}
 use Rattle.reader.specs.declared.state.Counts.{Counts}
 use Rattle.reader.proofs.Steps.{few}
 use Rattle.table.specs.LineValues.{CellsAsked}
 use Rattle.table.proofs.CellsPart.{written-after}
-use Rattle.service.specs.Walk.{Stands}
+use Rattle.service.specs.Walk.{Stands, AtLine, Took, taken}
+use Rattle.service.specs.declared.walk.Taken.{Taken}
 use Rattle.service.specs.Make.{WriteAsked}
 use Rattle.service.proofs.Listed.{same-lines, same-last}
 use Rattle.service.proofs.Standing.{stands-first, nothing-left, known-last, line-kept, prime-here, cells-inside}
@@ -216,34 +210,36 @@ module _ {list : List ℕ} {p : ℕ} {values : List ℤ} {before table : List �
   abbrev pub part : List ℕ
   part = take (length table - c .cells) (drop (c .cells) table)
 
-  module _ (ended : isEnded list ≡ true) {end : ℕ} (inside : at < length list) (found : Found 10 list at end) {numbers′ : List ℤ} {r : Parsed}
-      (parsed : LineRead (take (end - at) (drop at list)) numbers numbers′ r) {word : Coded} {count : ℕ} (is : r ≡ Spelt word count) where
+  abbrev pub at-line : at < length list → AtLine list c at
+  at-line inside = record { listed = w .asked .asked .listed; number = w .number; state = w .state; left = w .left; stands = w .stands; inside = inside }
+
+  module _ (inside : at < length list) {numbers′ : List ℤ} {t : Taken} (took : Took (at-line inside) numbers′ t) where
     pub first-inside : c .cells ≤ length table
     first-inside = omega (
       arith,
-      cells-inside (w .stands) ended inside found parsed (w .numbers-long) is,
+      cells-inside took,
       table-long,
       w .stands .counted .cells-are,
     )
 
-    pub room-here : gadget (w .state) (lineWith (wordOf word) (take count numbers′)) .width ≤ length part
+    pub room-here : gadget (w .state) (taken numbers′ t) .width ≤ length part
     room-here = omega (
       arith,
-      cells-inside (w .stands) ended inside found parsed (w .numbers-long) is,
+      cells-inside took,
       table-long,
       w .stands .counted .cells-are,
       length-take (length table - c .cells) (drop (c .cells) table),
       length-drop (c .cells) table,
     )
 
-    abbrev pub cells-asked : CellsAsked p (wordOf word) numbers′ count values (c .values) part
+    abbrev pub cells-asked : CellsAsked p (wordOf (t .word)) numbers′ (t .count) values (c .values) part
     cells-asked = record {
       asked = record {
-        kept = line-kept (w .stands) ended inside found parsed (w .numbers-long) is;
+        kept = line-kept took;
         values-long = w .asked .values-long;
         within = w .within;
       };
-      prime = λ plain. prime-here (w .stands) ended inside found parsed (w .numbers-long) is plain ∙ w .asked .prime;
+      prime = λ plain. prime-here took plain ∙ w .asked .prime;
       known-are = w .stands .counted .values-are;
       room = room-here;
     }

@@ -1,21 +1,26 @@
 -- Walking a list that was read once more, line by line: what the counts are of, and what holds before a line.
 use mathlib.Core.Path.{_≡_}
-use mathlib.Core.Bool.{cond}
-use mathlib.Core.List.{List, map}
+use mathlib.Core.Bool.{true, cond}
+use mathlib.Core.List.{List, _∷_, map}
 use mathlib.Core.Option.{some}
-use Prim.Native.Nat.{ℕ, _*_, _≤_}
+use Prim.Native.Nat.{ℕ, _+_, _*_, _≤_, _<_}
 use lib.Dec.{ltb}
+use lib.IntN.{ℤ}
 use lib.ListN.{length, take, set}
 use Rattle.algebra.specs.Digits.{Below}
-use Rattle.meaning.specs.Line.{Line, lineOf}
+use Rattle.meaning.specs.Line.{Line, lineOf, isCount}
 use Rattle.meaning.specs.Known.{Known}
+use Rattle.meaning.specs.Meaning.{after}
 use Rattle.meaning.specs.Refusal.{read, reading}
 use Rattle.meaning.proofs.Kept.{Kept}
 use Rattle.meaning.proofs.Number.{OddPrime}
 use Rattle.meaning.proofs.Lines.{Sound}
 use Rattle.text.specs.Place.{linesFrom}
-use Rattle.reader.specs.State.{greatest}
+use Rattle.text.specs.Word.{wordOf}
+use Rattle.reader.specs.State.{greatest, Small}
+use Rattle.reader.specs.Told.{lineWith}
 use Rattle.reader.specs.declared.state.Counts.{Counts}
+use Rattle.service.specs.declared.walk.Taken.{Taken}
 
 -- the counts are those of what is known
 pub record Counted (s : Known) (c : Counts) : Type 0 where
@@ -55,6 +60,34 @@ pub record Stands (list : List ℕ) (last s : Known) (left : List Line) (c : Cou
   pub p-most : last .p ≤ greatest
   pub counted : Counted s c
   pub few : Few c
+
+-- ---- a line
+
+-- a line is still to come at a place of a list that was read
+pub record AtLine (list : List ℕ) (c : Counts) (at : ℕ) : Type 0 where
+  pub listed : ListRead list
+  pub number : ℕ
+  pub state : Known
+  pub left : List Line
+  pub stands : Stands list (listed .last) state left c at number
+  pub inside : at < length list
+
+-- the line that was taken, as the definitions have it
+abbrev pub taken : List ℤ → Taken → Line
+taken numbers t = lineWith (wordOf (t .word)) (take (t .count) numbers)
+
+-- it is the first that is left; the counts after it and the place of the next line; and what is known of its numbers
+pub record Took {list : List ℕ} {c : Counts} {at : ℕ} (a : AtLine list c at) (numbers : List ℤ) (t : Taken) : Type 0 where
+  pub rest : List Line
+  pub left-is : a .left ≡ taken numbers t ∷ rest
+  pub kept : Kept (a .number) (a .state) (taken numbers t ∷ rest) (a .listed .last)
+  pub next : Stands list (a .listed .last) (after (a .state) (taken numbers t)) rest (t .counts) (t .next) (a .number + 1)
+  pub one-more : t .counts .values ≤ c .values + 1
+  pub further : at < t .next
+  pub long : length numbers ≡ 33
+  pub counted : isCount (wordOf (t .word)) (t .count) ≡ true
+  pub few : t .count ≤ 33
+  pub small : Small (t .count) numbers
 
 -- ---- the cells of the values
 

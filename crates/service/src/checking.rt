@@ -1,6 +1,6 @@
 // Checking a table, whoever wrote it: its length, its cells, then its rows in order. Nothing is written.
 use super::reply::Reply;
-use super::walk::counts_after;
+use super::walk::take_line;
 use super::walk::take_place;
 use number::Cell;
 use reader::read::Surveyed;
@@ -8,9 +8,6 @@ use reader::read::survey;
 use reader::state::Counts;
 use table::Rows;
 use table::line_rows::line_rows;
-use text::Parsed;
-use text::line_end;
-use text::line_of;
 ghost use mathlib.Core.Path.{_≡_};
 ghost use Rattle.meaning.specs.Reply.{isCell, firstFail, checked, checkReply};
 ghost use Rattle.service.specs.Reply.{replySeen};
@@ -86,14 +83,9 @@ fn check_rows(list: &[u8], table: &[u32], p: u32) -> Reply
     };
     let mut at: usize = 0;
     while at < list.len() {
-        let end = line_end(list, at);
-        // The list was read, so that each of its lines is one: what is answered for other bytes is never asked for.
-        let Parsed::Line(word, count) = line_of(&list[at..end], &mut numbers) else {
-            return Reply {
-                number: 3,
-                place: 0,
-            };
-        };
+        let line = take_line(list, at, counts, &mut numbers);
+        let word = line.word;
+        let count = line.count;
         let first = Cell(counts.cells);
         let rows = line_rows(word, &numbers, count, table, p, first, &places);
         if let Rows::Fails(row) = rows {
@@ -102,10 +94,10 @@ fn check_rows(list: &[u8], table: &[u32], p: u32) -> Reply
                 place: counts.rows + row,
             };
         }
-        let next = counts_after(counts, word, &numbers);
+        let next = line.counts;
         take_place(&mut places, counts, next);
         counts = next;
-        at = end + 1;
+        at = line.next;
     }
     Reply {
         number: 0,

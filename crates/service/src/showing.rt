@@ -1,11 +1,8 @@
 // Showing a line: the part of the lent table that holds its cells.
-use super::walk::counts_after;
+use super::walk::take_line;
 use reader::read::Surveyed;
 use reader::read::survey;
 use reader::state::Counts;
-use text::Parsed;
-use text::line_end;
-use text::line_of;
 ghost use mathlib.Core.Path.{_≡_};
 ghost use Rattle.meaning.specs.Reply.{shown};
 ghost use Rattle.service.specs.Walk.{ListRead};
@@ -53,12 +50,8 @@ fn stretch_of(list: &[u8], line: usize) -> Stretch
     let mut at: usize = 0;
     let mut n: usize = 0;
     while at < list.len() {
-        let end = line_end(list, at);
-        // The list was read, so that each of its lines is one: what is answered for other bytes is never asked for.
-        let Parsed::Line(word, _) = line_of(&list[at..end], &mut numbers) else {
-            return Stretch { from: 0, to: 0 };
-        };
-        let next = counts_after(counts, word, &numbers);
+        let taken = take_line(list, at, counts, &mut numbers);
+        let next = taken.counts;
         if n == line {
             return Stretch {
                 from: counts.cells,
@@ -66,7 +59,7 @@ fn stretch_of(list: &[u8], line: usize) -> Stretch
             };
         }
         counts = next;
-        at = end + 1;
+        at = taken.next;
         n += 1;
     }
     Stretch { from: 0, to: 0 }

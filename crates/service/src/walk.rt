@@ -1,7 +1,11 @@
-// Walking a list that was read once more: the counts after each line, and the cells of the values that the lines make.
+// Walking a list that was read once more: the line at a place, the counts after it, and the cells of the values that the lines make. Every
+// walk of the crate goes by `take_line`.
 use reader::size::line_size;
 use reader::state::Counts;
+use text::Parsed;
 use text::Word;
+use text::line_end;
+use text::line_of;
 ghost use mathlib.Core.Path.{_≡_};
 ghost use mathlib.Core.Bool.{true};
 ghost use Prim.Native.Nat.{ℕ, _+_, _≤_};
@@ -12,10 +16,42 @@ ghost use Rattle.meaning.specs.Meaning.{after};
 ghost use Rattle.meaning.proofs.Kept.{Keeps};
 ghost use Rattle.text.specs.Word.{wordOf};
 ghost use Rattle.reader.specs.Told.{lineWith};
-ghost use Rattle.service.specs.Walk.{Counted, Few, withPlace};
+ghost use Rattle.service.specs.Walk.{Counted, Few, AtLine, Took, withPlace};
+
+// A line of the list: its word, how many numbers it has, the counts after it, and where the next line starts.
+pub struct Taken {
+    pub word: Word,
+    pub count: usize,
+    pub counts: Counts,
+    pub next: usize,
+}
+
+// Takes the line at a place, whose numbers are written.
+pub fn take_line(list: &[u8], at: usize, counts: Counts, numbers: &mut [i64]) -> Taken
+    requires { ⌜ AtLine (now list) counts at × (length (now numbers) ≡ 33) ⌝ }
+    ensures { λ r. ⌜ ((a : AtLine (now (list .entry)) counts at) → Took a (now (numbers .exit)) r) ⌝ }
+{
+    let end = line_end(list, at);
+    // The list was read, so that each of its lines is one: what is answered for other bytes is never asked for.
+    let Parsed::Line(word, count) = line_of(&list[at..end], numbers) else {
+        return Taken {
+            word: Word::Field,
+            count: 0,
+            counts: counts,
+            next: at,
+        };
+    };
+    let after = counts_after(counts, word, numbers);
+    Taken {
+        word: word,
+        count: count,
+        counts: after,
+        next: end + 1,
+    }
+}
 
 // The counts after a line.
-pub fn counts_after(counts: Counts, word: Word, numbers: &[i64]) -> Counts
+fn counts_after(counts: Counts, word: Word, numbers: &[i64]) -> Counts
     requires { ⌜ Few counts × (length (now numbers) ≡ 33) ⌝ }
     ensures told { λ r. ⌜ ((n count : ℕ) (s : Known) → isCount (wordOf word) count ≡ true
         → Keeps n s (lineWith (wordOf word) (take count (now (numbers .entry)))) → Counted s counts

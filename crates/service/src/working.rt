@@ -1,11 +1,8 @@
 // Working a list for a column of inputs: the values of its lines, or the first line whose statement is false.
-use super::walk::counts_after;
+use super::walk::take_line;
 use reader::state::Counts;
 use table::Worked;
 use table::line_works::line_works;
-use text::Parsed;
-use text::line_end;
-use text::line_of;
 ghost use mathlib.Core.Path.{_≡_};
 ghost use Prim.Native.Nat.{_<_};
 ghost use lib.IntN.{ℤ, pos};
@@ -58,18 +55,16 @@ pub fn work_lines(list: &[u8], inputs: &[i64], values: &mut [i64]) -> Working
     let mut at: usize = 0;
     let mut n: usize = 0;
     while at < list.len() {
-        let end = line_end(list, at);
-        // The list was read, so that each of its lines is one: what is answered for other bytes is never asked for.
-        let Parsed::Line(word, count) = line_of(&list[at..end], &mut numbers) else {
-            return Working::FalseAt(n);
-        };
-        let next = input_at(inputs, counts.inputs);
-        let worked = line_works(word, &numbers, count, values, next);
+        let line = take_line(list, at, counts, &mut numbers);
+        let word = line.word;
+        let count = line.count;
+        let input = input_at(inputs, counts.inputs);
+        let worked = line_works(word, &numbers, count, values, input);
         if !take_value(values, counts.values, worked) {
             return Working::FalseAt(n);
         }
-        counts = counts_after(counts, word, &numbers);
-        at = end + 1;
+        counts = line.counts;
+        at = line.next;
         n += 1;
     }
     Working::AllTrue

@@ -1,10 +1,7 @@
 // Writing the table of a list whose lines are worked: each line's cells through the part of the lent table that starts at its first cell.
-use super::walk::counts_after;
+use super::walk::take_line;
 use reader::state::Counts;
 use table::line_cells::line_cells;
-use text::Parsed;
-use text::line_end;
-use text::line_of;
 ghost use mathlib.Core.Path.{_≡_};
 ghost use Rattle.service.specs.Make.{WriteAsked};
 
@@ -22,15 +19,13 @@ pub fn write_lines(list: &[u8], p: u32, values: &[i64], table: &mut [u32])
     };
     let mut at: usize = 0;
     while at < list.len() {
-        let end = line_end(list, at);
-        // The list was read, so that each of its lines is one: what is answered for other bytes is never asked for.
-        let Parsed::Line(word, count) = line_of(&list[at..end], &mut numbers) else {
-            return;
-        };
+        let line = take_line(list, at, counts, &mut numbers);
+        let word = line.word;
+        let count = line.count;
         let first = counts.cells;
         let known = counts.values;
         line_cells(word, &numbers, count, p, values, known, &mut table[first..]);
-        counts = counts_after(counts, word, &numbers);
-        at = end + 1;
+        counts = line.counts;
+        at = line.next;
     }
 }
