@@ -14,5 +14,4 @@ pub mod Digits
 pub mod Values
 pub mod Rules
 pub mod DigitLines
-pub mod SpanLine
 pub mod SumLine

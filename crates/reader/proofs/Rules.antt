@@ -4,7 +4,7 @@ use mathlib.Core.Path.{_≡_, refl, sym, ap}
 use mathlib.Core.Bool.{Bool, true, false, cond}
 use mathlib.Core.List.{List}
 use mathlib.Core.Option.{none, some}
-use Prim.Native.Nat.{ℕ, _+_}
+use Prim.Native.Nat.{ℕ, _+_, zero, suc}
 use native.Mathlib.Omega.{arith}
 use lib.Dec.{leb}
 use lib.ListN.{length}
@@ -28,7 +28,8 @@ use Rattle.meaning.specs.Refusal.{
   firstBroken,
 }
 use Rattle.reader.specs.Told.{Told, refuses, makes, lineWith}
-use Rattle.reader.specs.Rule.{earlyBroken}
+use Rattle.reader.specs.Rule.{earlyBroken, begunUnless}
+use Rattle.reader.specs.declared.rule.Begun.the-variants.{Stops}
 
 over-prime : (w : Word) (ns : List ℤ) → isField w ≡ false → isOverPrime w ns ≡ true
 unfolding isField isOverPrime
@@ -110,3 +111,8 @@ pub early-named : (named : Bool) (values new cells width : ℕ) {n : ℕ} → n 
 unfolding earlyBroken
 early-named true values new cells width e h = refl
 early-named false values new cells width e h = absurd (omega arith)
+
+pub begun-stops : (n b k : ℕ) → (n ≡ 0 → ⊥) → begunUnless n b k ≡ Stops n
+unfolding begunUnless
+begun-stops zero b k h = absurd (h refl)
+begun-stops (suc n) b k h = refl

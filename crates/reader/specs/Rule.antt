@@ -2,7 +2,7 @@
 use mathlib.Core.Path.{_≡_}
 use mathlib.Core.Bool.{Bool, cond, _&&_}
 use mathlib.Core.List.{List, [], _∷_}
-use Prim.Native.Nat.{ℕ, _+_, _-_, _*_, _≤_}
+use Prim.Native.Nat.{ℕ, zero, suc, _+_, _-_, _*_, _≤_}
 use lib.Dec.{leb}
 use lib.ListN.{getD}
 use lib.IntN.{ℤ, pos, natAbs, _-ℤ_}
@@ -12,20 +12,30 @@ use Rattle.meaning.specs.Known.{Ends as KnownEnds}
 use Rattle.meaning.specs.Number.{half}
 use Rattle.meaning.specs.Refusal.{isDigits, valueLimit, cellLimit}
 use Rattle.number.specs.Bounded.{Bounded}
-use Rattle.reader.specs.declared.rule.Digits.{Digits}
+use Rattle.reader.specs.declared.rule.Digits.{Digits as DigitsRead}
 use Rattle.reader.specs.declared.rule.Digits.the-variants.{Of, NoDigits}
+use Rattle.reader.specs.declared.rule.Begun.{Begun}
+use Rattle.reader.specs.declared.rule.Begun.the-variants.{Digits, Stops}
 use Rattle.reader.specs.declared.rule.Ends.{Ends}
 use Rattle.reader.specs.State.{greatest}
 use Rattle.reader.specs.Told.{Told, refuses, makes}
 
 -- a base and a digit count as the code has them, where rule 6 lets them through
-unfoldable pub digitsRead : (b k : ℤ) → Digits
+unfoldable pub digitsRead : (b k : ℤ) → DigitsRead
 digitsRead b k = cond (isDigits (record { b = b; k = k })) (Of (natAbs b) (natAbs k)) NoDigits
 
 -- the first that is broken of the rules 7 to 9, or 0
 unfoldable pub earlyBroken : (named : Bool) (values new cells width : ℕ) → ℕ
 earlyBroken named values new cells width =
     cond named (cond (leb (values + new) valueLimit) (cond (leb (cells + width) cellLimit) 0 9) 8) 7
+
+unfoldable pub begunUnless : (early b k : ℕ) → Begun
+begunUnless zero b k = Digits b k
+begunUnless (suc n) b k = Stops (suc n)
+
+-- what the rules 6 to 9 say of a line with a base and a digit count: `ranged` is what else rule 6 asks, `early` the first broken of the others
+unfoldable pub begun : (b k : ℤ) (ranged : Bool) (early : ℕ) → Begun
+begun b k ranged early = cond (isDigits (record { b = b; k = k }) && ranged) (begunUnless early (natAbs b) (natAbs k)) (Stops 6)
 
 -- ---- known ends
 

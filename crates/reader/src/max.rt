@@ -1,12 +1,11 @@
 // Reading a max line.
-use super::rule::Digits;
+use super::rule::Begun;
 use super::rule::Ends;
 use super::rule::Made;
 use super::rule::apart;
 use super::rule::are_made;
+use super::rule::begin_line;
 use super::rule::digit_rule;
-use super::rule::digits_at;
-use super::rule::early_broken;
 use super::rule::ends_named;
 use number::whole::Whole;
 use number::whole::larger;
@@ -35,20 +34,19 @@ pub fn read_max(
     ensures { λ r. ⌜ ((s : Known) → Seen s p values cells (now (lows .entry)) (now (highs .entry))
         → madeSeen r ≡ toldOf s (lineWith max (take 4 (now (numbers .entry))))) ⌝ }
 {
-    let Digits::Of(b, k) = digits_at(numbers, 2) else {
-        return Made::Breaks(6);
-    };
     let named = are_made(numbers, values);
-    let broken = early_broken(named, values, 1, cells, 2 * k as usize + 1);
-    if broken != 0 {
-        return Made::Breaks(broken);
+    let begun = begin_line(numbers, 2, true, named, values, 1, cells, 2, 1);
+    match begun {
+        Begun::Stops(n) => Made::Breaks(n),
+        Begun::Digits(b, k) => {
+            let u = ends_named(numbers, 0, values, lows, highs);
+            let v = ends_named(numbers, 1, values, lows, highs);
+            if !max_rule(p, b, k, u, v) {
+                return Made::Breaks(10);
+            }
+            greater(u, v)
+        }
     }
-    let u = ends_named(numbers, 0, values, lows, highs);
-    let v = ends_named(numbers, 1, values, lows, highs);
-    if !max_rule(p, b, k, u, v) {
-        return Made::Breaks(10);
-    }
-    greater(u, v)
 }
 
 // The digit rule over y - u and y - v with shift 0, for y the greater of u and v.

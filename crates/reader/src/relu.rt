@@ -1,9 +1,8 @@
 // Reading a relu line.
-use super::rule::Digits;
+use super::rule::Begun;
 use super::rule::Ends;
 use super::rule::Made;
-use super::rule::digits_at;
-use super::rule::early_broken;
+use super::rule::begin_line;
 use super::rule::ends_named;
 use super::rule::is_made;
 use super::rule::sign_rule;
@@ -31,19 +30,18 @@ pub fn read_relu(
     ensures { λ r. ⌜ ((s : Known) → Seen s p values cells (now (lows .entry)) (now (highs .entry))
         → madeSeen r ≡ toldOf s (lineWith relu (take 3 (now (numbers .entry))))) ⌝ }
 {
-    let Digits::Of(b, k) = digits_at(numbers, 1) else {
-        return Made::Breaks(6);
-    };
     let named = is_made(numbers, 0, values);
-    let broken = early_broken(named, values, 1, cells, k as usize + 3);
-    if broken != 0 {
-        return Made::Breaks(broken);
+    let begun = begin_line(numbers, 1, true, named, values, 1, cells, 1, 3);
+    match begun {
+        Begun::Stops(n) => Made::Breaks(n),
+        Begun::Digits(b, k) => {
+            let old = ends_named(numbers, 0, values, lows, highs);
+            if !sign_rule(p, b, k, old) {
+                return Made::Breaks(10);
+            }
+            above_zero(old)
+        }
     }
-    let old = ends_named(numbers, 0, values, lows, highs);
-    if !sign_rule(p, b, k, old) {
-        return Made::Breaks(10);
-    }
-    above_zero(old)
 }
 
 // The ends of the greater of 0 and the value.

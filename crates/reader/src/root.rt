@@ -1,8 +1,7 @@
 // Reading a root line.
-use super::rule::Digits;
+use super::rule::Begun;
 use super::rule::Made;
-use super::rule::digits_at;
-use super::rule::early_broken;
+use super::rule::begin_line;
 use super::rule::is_made;
 use number::power::Power;
 use number::power::capped_power;
@@ -27,15 +26,12 @@ pub fn read_root(
     ensures { λ r. ⌜ ((s : Known) → Seen s p values cells (now (lows .entry)) (now (highs .entry))
         → madeSeen r ≡ toldOf s (lineWith root (take 3 (now (numbers .entry))))) ⌝ }
 {
-    let Digits::Of(b, k) = digits_at(numbers, 1) else {
-        return Made::Breaks(6);
-    };
     let named = is_made(numbers, 0, values);
-    let broken = early_broken(named, values, 1, cells, 4 * k as usize + 2);
-    if broken != 0 {
-        return Made::Breaks(broken);
+    let begun = begin_line(numbers, 1, true, named, values, 1, cells, 4, 2);
+    match begun {
+        Begun::Stops(n) => Made::Breaks(n),
+        Begun::Digits(b, k) => root_ends(p, b, k),
     }
-    root_ends(p, b, k)
 }
 
 // The ends 0..c-1, where c >= 3 and c² <= M+1, M = (p-1)/2.

@@ -8,9 +8,9 @@ use number::whole::whole_difference;
 ghost use mathlib.Core.Path.{_≡_};
 ghost use mathlib.Core.Bool.{true, _&&_};
 ghost use mathlib.Core.List.{[], _∷_};
-ghost use Prim.Native.Nat.{_+_, _-_, _≤_, _<_};
+ghost use Prim.Native.Nat.{_+_, _-_, _*_, _≤_, _<_};
 ghost use lib.ListN.{length, getD};
-ghost use lib.IntN.{pos, _+ℤ_, _-ℤ_};
+ghost use lib.IntN.{pos, natAbs, _+ℤ_, _-ℤ_};
 ghost use lib.Signed.{leZ};
 ghost use Rattle.meaning.specs.Known.{digitRule};
 ghost use Rattle.meaning.specs.Number.{inRange};
@@ -18,7 +18,7 @@ ghost use Rattle.meaning.specs.Refusal.{isMade};
 ghost use Rattle.meaning.specs.Gadget.Sign.{signShift};
 ghost use Rattle.number.specs.Bounded.{Bounded};
 ghost use Rattle.reader.specs.Told.{madeSeen, makes};
-ghost use Rattle.reader.specs.Rule.{digitsRead, endsSeen, earlyBroken, Field, EndsRead, BoundedEnds, Apart};
+ghost use Rattle.reader.specs.Rule.{digitsRead, endsSeen, earlyBroken, begun, Field, EndsRead, BoundedEnds, Apart};
 
 // The ends of the value that a line makes, or the number of the first rule that it breaks.
 pub enum Made {
@@ -120,6 +120,44 @@ pub fn early_broken(named: bool, values: usize, new: usize, cells: usize, width:
         return 9;
     }
     0
+}
+
+// ---- rules 6 to 9 of a line with digits
+
+// The base and the digit count of a line that keeps these rules, or the first of them that it breaks.
+pub enum Begun {
+    Digits(u64, u32),
+    Stops(u32),
+}
+
+// The base stands at a place and the digit count k after it. `ranged` is what else rule 6 asks of the line, and `named` what rule 7 asks; the
+// line makes `new` values and has `each` · k + `more` cells.
+pub fn begin_line(
+    numbers: &[i64],
+    at: usize,
+    ranged: bool,
+    named: bool,
+    values: usize,
+    new: usize,
+    cells: usize,
+    each: usize,
+    more: usize,
+) -> Begun
+    requires { ⌜ (at + 1 < length (now numbers)) × (values ≤ 256) × (new ≤ 1) × (cells ≤ 4096) × (each ≤ 4) × (more ≤ 3) ⌝ }
+    ensures { λ r. ⌜ r ≡ begun (getD (now (numbers .entry)) at (pos 0)) (getD (now (numbers .entry)) (at + 1) (pos 0)) ranged
+        (earlyBroken named values new cells (each * natAbs (getD (now (numbers .entry)) (at + 1) (pos 0)) + more)) ⌝ }
+{
+    let Digits::Of(b, k) = digits_at(numbers, at) else {
+        return Begun::Stops(6);
+    };
+    if !ranged {
+        return Begun::Stops(6);
+    }
+    let broken = early_broken(named, values, new, cells, each * k as usize + more);
+    if broken != 0 {
+        return Begun::Stops(broken);
+    }
+    Begun::Digits(b, k)
 }
 
 // The known ends of the value that the number at a place names.

@@ -1,9 +1,8 @@
 // Reading a span line, which makes no value: the ends that it answers with are the new ends of v.
-use super::rule::Digits;
+use super::rule::Begun;
 use super::rule::Ends;
 use super::rule::Made;
-use super::rule::digits_at;
-use super::rule::early_broken;
+use super::rule::begin_line;
 use super::rule::ends_named;
 use super::rule::is_made;
 use super::rule::is_narrow;
@@ -38,20 +37,17 @@ pub fn read_span(
     ensures { λ r. ⌜ ((s : Known) → Seen s p values cells (now (lows .entry)) (now (highs .entry))
         → madeSeen r ≡ spanTold s (lineWith span (take 4 (now (numbers .entry))))) ⌝ }
 {
-    let Digits::Of(b, k) = digits_at(numbers, 1) else {
-        return Made::Breaks(6);
-    };
-    if !is_ranged(numbers, 3, p) {
-        return Made::Breaks(6);
-    }
+    let ranged = is_ranged(numbers, 3, p);
     let named = is_made(numbers, 0, values);
-    let broken = early_broken(named, values, 0, cells, k as usize);
-    if broken != 0 {
-        return Made::Breaks(broken);
+    let begun = begin_line(numbers, 1, ranged, named, values, 0, cells, 1, 0);
+    match begun {
+        Begun::Stops(n) => Made::Breaks(n),
+        Begun::Digits(b, k) => {
+            let old = ends_named(numbers, 0, values, lows, highs);
+            let shift = numbers[3];
+            span_ends(p, b, k, old, shift)
+        }
     }
-    let old = ends_named(numbers, 0, values, lows, highs);
-    let shift = numbers[3];
-    span_ends(p, b, k, old, shift)
 }
 
 // The new ends, where the digit rule is kept.

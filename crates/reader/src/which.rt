@@ -1,10 +1,9 @@
 // Reading a which line.
-use super::rule::Digits;
+use super::rule::Begun;
 use super::rule::Made;
 use super::rule::apart;
 use super::rule::are_made;
-use super::rule::digits_at;
-use super::rule::early_broken;
+use super::rule::begin_line;
 use super::rule::ends_named;
 use super::rule::sign_rule;
 ghost use mathlib.Core.Path.{_≡_};
@@ -27,18 +26,17 @@ pub fn read_which(
     ensures { λ r. ⌜ ((s : Known) → Seen s p values cells (now (lows .entry)) (now (highs .entry))
         → madeSeen r ≡ toldOf s (lineWith which (take 4 (now (numbers .entry))))) ⌝ }
 {
-    let Digits::Of(b, k) = digits_at(numbers, 2) else {
-        return Made::Breaks(6);
-    };
     let named = are_made(numbers, values);
-    let broken = early_broken(named, values, 1, cells, k as usize + 3);
-    if broken != 0 {
-        return Made::Breaks(broken);
+    let begun = begin_line(numbers, 2, true, named, values, 1, cells, 1, 3);
+    match begun {
+        Begun::Stops(n) => Made::Breaks(n),
+        Begun::Digits(b, k) => {
+            let u = ends_named(numbers, 0, values, lows, highs);
+            let v = ends_named(numbers, 1, values, lows, highs);
+            if !sign_rule(p, b, k, apart(u, v)) {
+                return Made::Breaks(10);
+            }
+            Made::EndsOf(0, 1)
+        }
     }
-    let u = ends_named(numbers, 0, values, lows, highs);
-    let v = ends_named(numbers, 1, values, lows, highs);
-    if !sign_rule(p, b, k, apart(u, v)) {
-        return Made::Breaks(10);
-    }
-    Made::EndsOf(0, 1)
 }

@@ -1,99 +1,58 @@
 -- Each way out is one law of `DigitLines`.
 use mathlib.Core.Path.{_≡_, sym, _∙_}
-use Prim.Native.Nat.{_+_, _*_}
+use mathlib.Core.Bool.{true}
 use native.Mathlib.Omega.{arith}
-use lib.IntN.{pos}
-use lib.ListN.{getD}
 use Rattle.reader.specs.Told.{madeSeen}
-use Rattle.reader.specs.declared.rule.Digits.the-variants.{Of}
-use Rattle.reader.specs.Rule.{digitsRead, earlyBroken}
-use Rattle.reader.proofs.Digits.{digits-read}
+use Rattle.reader.specs.declared.rule.Begun.the-variants.{Digits}
 use Rattle.reader.proofs.Values.{ready-field}
-use Rattle.reader.proofs.DigitLines.{oneName, root-shape, digits-6, digits-early, root-late}
+use Rattle.reader.proofs.DigitLines.{begunAt, oneName, root-shape, begins, digits-told, root-late}
 use borrow.Author.Needs.{needs}
 use Rattle.reader.proofs.root.read_root.Statement.{statement}
 use Rattle.reader.proofs.root.read_root.Tie as tie
 
-digits-at-requires : tie.Need-digits-at-requires
-digits-at-requires c κs = search needs
-
-enum-known-b : tie.Need-enum-known-b
-enum-known-b c = search needs
-
-enum-told : tie.Need-enum-told
-enum-told c = search needs
-
-returns : tie.Need-returns
-unfolding madeSeen
-returns c =
-    let start = c .before .before .before in
-    λ s seen. sym (digits-6 root-shape (start .pre .0) (start .args .numbers .now) seen
-    (sym (c .enum-told .given .1) ∙ c .before .before .digits-at .ensures))
-
--- the base and the digit count that were read
-read : (c : tie.After-known-told)
-    → let numbers = c .before .before .before .before .args .numbers .now in
-    Of (c .before .b .given .0 .0) (c .before .b .given .0 .1 .0) ≡ digitsRead (getD numbers 1 (pos 0)) (getD numbers 2 (pos 0))
-read c = sym (c .before .b .given .1) ∙ c .before .before .before .digits-at .ensures
+-- the line begins well
+told-begun : (c : tie.After-known-told2)
+    → let a = c .before .before .before .before .before .args in
+    Digits (c .before .begun2 .given .0 .0) (c .before .begun2 .given .0 .1 .0) ≡ begunAt (a .numbers .now) 1 true (oneName (a .values) (a .numbers .now)) (a .values) 1 (a .cells) 4 2
+told-begun c = rw (← c .before .before .before .before .is-made .ensures) (sym (c .before .begun2 .given .1) ∙ c .before .before .before .begin-line .ensures)
 
 is-made-requires : tie.Need-is-made-requires
 is-made-requires c κs = search needs
 
-cast-early-broken : tie.Need-cast-early-broken
-cast-early-broken c = search needs
+begin-line-requires : tie.Need-begin-line-requires
+begin-line-requires c κs = search needs
 
-mul-early-broken : tie.Need-mul-early-broken
-mul-early-broken c = search needs
+enum-known-begun : tie.Need-enum-known-begun
+enum-known-begun c = search needs
 
-add-early-broken : tie.Need-add-early-broken
-add-early-broken c = search needs
-
-early-broken-requires : tie.Need-early-broken-requires
-early-broken-requires c κs =
-    let start = c .before .before .before .before .before in
-    let r = digits-read _ _ (read (c .before)) in
-    (start .pre .0 .values-most, omega arith, start .pre .0 .cells-most, omega arith)
-
-early : (c : tie.After-early-broken)
-    → let start = c .before .before .before .before .before .before in
-    c .early-broken .result
-    ≡ earlyBroken (oneName (start .args .values) (start .args .numbers .now)) (start .args .values) 1 (start .args .cells)
-    (4 * c .before .before .before .b .given .0 .1 .0 + 2)
-early c = rw (← c .before .is-made .ensures) (c .early-broken .ensures)
-
-returns-2 : tie.Need-returns-2
-unfolding madeSeen
-returns-2 c =
-    let start = c .before .before .before .before .before .before .before in
-    λ s seen. sym (digits-early root-shape (start .pre .0) (start .args .numbers .now) seen (read (c .before .before .before))
-    (early (c .before)) (c .if1 .taken))
+enum-known-begun-2 : tie.Need-enum-known-begun-2
+enum-known-begun-2 c = search needs
 
 root-ends-requires : tie.Need-root-ends-requires
 root-ends-requires c κs =
-    let start = c .before .before .before .before .before .before .before in
-    let r = digits-read _ _ (read (c .before .before .before)) in
-    (ready-field (start .pre .0), omega arith)
+    let r = begins _ _ _ _ _ _ _ _ _ _ (told-begun c) .read in
+    (ready-field (c .before .before .before .before .before .pre .0), omega (arith, r .base-two))
 
-returns-3 : tie.Need-returns-3
-returns-3 c =
-    let start = c .before .before .before .before .before .before .before .before in
-    let at-if1 = c .before in
-    λ s seen. c .root-ends .ensures ∙ sym (root-late (start .pre .0) (start .args .numbers .now) seen
-    (read (at-if1 .before .before .before)) (early (at-if1 .before)) (at-if1 .if1 .left))
+returns : tie.Need-returns
+unfolding madeSeen
+returns c =
+    let start = c .before .before .before .before .before in
+    λ s seen. sym (digits-told (start .pre .0) (start .args .numbers .now) seen root-shape
+    (rw (← c .before .before .before .before .is-made .ensures) (sym (c .before .begun .given .1) ∙ c .before .before .before .begin-line .ensures)))
+
+returns-2 : tie.Need-returns-2
+returns-2 c =
+    let start = c .before .before .before .before .before .before in
+    λ s seen. c .root-ends .ensures ∙ sym (root-late (start .pre .0) (start .args .numbers .now) seen (told-begun (c .before)))
 
 pub read-root-spec : {M : Type 1} → statement M
 read-root-spec =
     tie.close
     (tie.spec
-    digits-at-requires
-    enum-known-b
-    enum-told
-    returns
     is-made-requires
-    cast-early-broken
-    mul-early-broken
-    add-early-broken
-    early-broken-requires
-    returns-2
+    begin-line-requires
+    enum-known-begun
+    enum-known-begun-2
     root-ends-requires
-    returns-3)
+    returns
+    returns-2)
