@@ -33,6 +33,7 @@ use Rattle.meaning.specs.Refusal.{valueLimit, cellLimit, all, onSome, isField, 
 use Rattle.reader.specs.Told.{lineWith}
 use Rattle.reader.specs.Step.{stops, goes}
 use Rattle.reader.specs.Read.{firstOption, only}
+use Rattle.reader.specs.State.{greatest}
 
 pub first-none : (line : List ℕ) → lineOf line ≡ none → stops 3 ≡ firstOption (lineOf line)
 unfolding firstOption
@@ -99,7 +100,7 @@ module _ (line : List ℕ) {before after : List ℤ} {r : Parsed} (read : LineRe
     abbrev z : ℤ
     z = getD after 0 (pos 0)
 
-    pub first-small : natAbs z ≤ 2147483647
+    pub first-small : natAbs z ≤ greatest
     first-small = line-small read q 0 (omega (arith, one))
 
     pub first-fits : SFits w64 z
@@ -117,7 +118,7 @@ module _ (line : List ℕ) {before after : List ℤ} {r : Parsed} (read : LineRe
       pub first-number : natAbs (toZ w64 (ofZ w64 z)) ≡ mag z
       first-number = rw (back first-fits) (ap natAbs first-is)
 
-      pub first-size : mag z ≤ 2147483647
+      pub first-size : mag z ≤ greatest
       first-size = omega (arith, first-small, ap natAbs first-is)
 
       pub first-composite : oddPrime (mag z) ≡ false → stops 5 ≡ firstOption (lineOf line)

@@ -48,7 +48,6 @@ module _ {p values cells : ℕ} {lows highs : List ℤ} (ready : Ready p values 
 
 module _ {p values cells : ℕ} {lows highs : List ℤ} (r : Ready p values cells lows highs) where
   pub half-small : (p - 1) / 2 < 2 ^ 63
-  unfolding greatest
   half-small = omega (arith, r .p-high)
 
   pub half-fits : SFits w64 (pos 0 -ℤ pos ((p - 1) / 2))

@@ -128,13 +128,13 @@ module _ (p : ℕ) (lows highs numbers : List ℤ) (es : Ends) (count i : ℕ) (
     sum-leaves broken = sum-at ∙ rw broken
 
 -- ends in the range are small
-range-small : (p : ℕ) (x : ℤ) → p ≤ greatest → inRange p x ≡ true → Bounded 2147483647 x
-unfolding inRange lowest highest half greatest
+range-small : (p : ℕ) (x : ℤ) → p ≤ greatest → inRange p x ≡ true → Bounded greatest x
+unfolding inRange lowest highest half
 range-small p x most within =
     let w = between-iff (lowest p) x (highest p) .0 (≡-test (between (lowest p) x (highest p)) within) in
     bounded-more (bounded-range x (w .0) (w .1)) (omega arith)
 
-pub range-sized : (p : ℕ) (e : ReadEnds) → p ≤ greatest → endsInRange p (endsSeen e) ≡ true → BoundedEnds 2147483647 e
+pub range-sized : (p : ℕ) (e : ReadEnds) → p ≤ greatest → endsInRange p (endsSeen e) ≡ true → BoundedEnds greatest e
 unfolding endsInRange endsSeen
 range-sized p e most within =
     let w = both-true (inRange p (e .low)) (inRange p (e .high)) within in

@@ -17,7 +17,7 @@ use Rattle.reader.specs.declared.rule.Digits.the-variants.{Of, NoDigits}
 use Rattle.reader.specs.declared.rule.Begun.{Begun}
 use Rattle.reader.specs.declared.rule.Begun.the-variants.{Digits, Stops}
 use Rattle.reader.specs.declared.rule.Ends.{Ends}
-use Rattle.reader.specs.State.{greatest}
+use Rattle.reader.specs.State.{greatest, greatestApart}
 use Rattle.reader.specs.Told.{Told, refuses, makes}
 
 -- a base and a digit count as the code has them, where rule 6 lets them through
@@ -54,13 +54,13 @@ pub record BoundedEnds (bound : ℕ) (e : Ends) : Type 0 where
 
 -- those of a difference of two values
 pub record Apart (u v r : Ends) : Type 0 where
-  pub sized : BoundedEnds 4294967294 r
+  pub sized : BoundedEnds greatestApart r
   pub low-is : r .low ≡ u .low -ℤ v .high
   pub high-is : r .high ≡ u .high -ℤ v .low
 
 -- and those of y - u, for y the greater of u and v
 pub record Above (u v r : Ends) : Type 0 where
-  pub sized : BoundedEnds 4294967294 r
+  pub sized : BoundedEnds greatestApart r
   pub low-is : r .low ≡ smaller (pos 0) (v .low -ℤ u .high)
   pub high-is : r .high ≡ larger (pos 0) (v .high -ℤ u .low)
 

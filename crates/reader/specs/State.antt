@@ -2,10 +2,11 @@
 -- for 256, of which the first ones count.
 use mathlib.Core.Path.{_≡_}
 use mathlib.Core.List.{List, [], _∷_}
-use Prim.Native.Nat.{ℕ, _≤_, _<_}
+use Prim.Native.Nat.{ℕ, _*_, _≤_, _<_}
 use lib.ListN.{length, getD, take}
 use lib.IntN.{ℤ, pos, natAbs}
 use Rattle.meaning.specs.Known.{Ends, ends, Known}
+use Rattle.text.specs.Number.{mostSize}
 use Rattle.reader.specs.declared.state.Counts.{Counts}
 
 unfoldable pub endsFrom : (lows highs : List ℤ) → List Ends
@@ -24,8 +25,16 @@ stateOf p c lows highs places = record {
 }
 
 -- the size of a number that was read, and so of every known end
-unfoldable pub greatest : ℕ
-greatest = 2147483647
+abbrev pub greatest : ℕ
+greatest = mostSize
+
+-- that of the difference of two such
+abbrev pub greatestApart : ℕ
+greatestApart = 2 * greatest
+
+-- and of their product
+abbrev pub greatestProduct : ℕ
+greatestProduct = greatest * greatest
 
 -- the first n numbers are of that size at most
 abbrev pub Small : ℕ → List ℤ → Type 0

@@ -11,6 +11,7 @@ use Rattle.meaning.specs.Gadget.Sum.{Term, scaled, added, endsInRange}
 use Rattle.reader.specs.declared.rule.Ends.{Ends}
 use Rattle.reader.specs.Told.{Told, refuses, makes}
 use Rattle.reader.specs.Rule.{BoundedEnds}
+use Rattle.reader.specs.State.{greatestProduct}
 
 unfoldable pub endsAt : (lows highs : List ℤ) → ℕ → KnownEnds
 endsAt lows highs v = ends (getD lows v (pos 0)) (getD highs v (pos 0))
@@ -24,7 +25,7 @@ sumTold p lows highs es (t ∷ ts) =
 
 -- the ends of a term, and with them added, as the code has them
 pub record Scaled (c : ℤ) (e r : Ends) : Type 0 where
-  pub sized : BoundedEnds 4611686014132420609 r
+  pub sized : BoundedEnds greatestProduct r
   pub low-is : r .low ≡ smaller (c *ℤ e .low) (c *ℤ e .high)
   pub high-is : r .high ≡ larger (c *ℤ e .low) (c *ℤ e .high)
 

@@ -18,7 +18,7 @@ ghost use lib.IntN.{pos};
 ghost use lib.ListN.{length, take};
 ghost use Rattle.meaning.specs.Line.{max};
 ghost use Rattle.meaning.specs.Known.{Known, ends, larger, above, digitRule};
-ghost use Rattle.reader.specs.State.{Small, Ready, Seen};
+ghost use Rattle.reader.specs.State.{Small, Ready, Seen, greatest};
 ghost use Rattle.reader.specs.Told.{toldOf, madeSeen, makes, lineWith};
 ghost use Rattle.reader.specs.Rule.{endsSeen, BoundedEnds, Above, Field};
 
@@ -51,7 +51,7 @@ pub fn read_max(
 
 // The digit rule over y - u and y - v with shift 0, for y the greater of u and v.
 fn max_rule(p: u32, b: u64, k: u32, u: Ends, v: Ends) -> bool
-    requires { ⌜ Field p × (1 ≤ b) × BoundedEnds 2147483647 u × BoundedEnds 2147483647 v ⌝ }
+    requires { ⌜ Field p × (1 ≤ b) × BoundedEnds greatest u × BoundedEnds greatest v ⌝ }
     ensures { λ r. ⌜ r
         ≡ digitRule p b k (above (endsSeen u) (endsSeen v)) (pos 0) && digitRule p b k (above (endsSeen v) (endsSeen u)) (pos 0) ⌝ }
 {
@@ -63,7 +63,7 @@ fn max_rule(p: u32, b: u64, k: u32, u: Ends, v: Ends) -> bool
 
 // The ends of y - u.
 fn above(u: Ends, v: Ends) -> Ends
-    requires { ⌜ BoundedEnds 2147483647 u × BoundedEnds 2147483647 v ⌝ }
+    requires { ⌜ BoundedEnds greatest u × BoundedEnds greatest v ⌝ }
     ensures { λ r. ⌜ Above u v r ⌝ }
 {
     let between = apart(v, u);

@@ -19,6 +19,7 @@ ghost use Rattle.meaning.specs.Gadget.Sign.{signShift};
 ghost use Rattle.number.specs.Bounded.{Bounded};
 ghost use Rattle.reader.specs.Told.{madeSeen, makes};
 ghost use Rattle.reader.specs.Rule.{digitsRead, endsSeen, earlyBroken, begun, Field, EndsRead, BoundedEnds, Apart};
+ghost use Rattle.reader.specs.State.{greatestApart, greatest};
 
 // The ends of the value that a line makes, or the number of the first rule that it breaks.
 pub enum Made {
@@ -175,7 +176,7 @@ pub fn ends_named(numbers: &[i64], at: usize, values: usize, lows: &[i64], highs
 
 // The ends of the difference of two values.
 pub fn apart(u: Ends, v: Ends) -> Ends
-    requires { ⌜ BoundedEnds 2147483647 u × BoundedEnds 2147483647 v ⌝ }
+    requires { ⌜ BoundedEnds greatest u × BoundedEnds greatest v ⌝ }
     ensures { λ r. ⌜ Apart u v r ⌝ }
 {
     let low = whole_difference(Whole(u.low), Whole(v.high));
@@ -190,7 +191,7 @@ pub fn apart(u: Ends, v: Ends) -> Ends
 
 // The digit rule.
 pub fn digit_rule(p: u32, b: u64, k: u32, e: Ends, shift: i64) -> bool
-    requires { ⌜ Field p × (1 ≤ b) × BoundedEnds 4294967294 e × Bounded 2147483647 shift ⌝ }
+    requires { ⌜ Field p × (1 ≤ b) × BoundedEnds greatestApart e × Bounded greatest shift ⌝ }
     ensures { λ r. ⌜ r ≡ digitRule p b k (endsSeen e) shift ⌝ }
 {
     let Power::Of(c) = capped_power(b, k, p as u64) else {
@@ -201,7 +202,7 @@ pub fn digit_rule(p: u32, b: u64, k: u32, e: Ends, shift: i64) -> bool
 
 // The digit rule with the shift -B, of relu and which: B = (b-1)·b^(k-1) = c - c/b.
 pub fn sign_rule(p: u32, b: u64, k: u32, e: Ends) -> bool
-    requires { ⌜ Field p × (1 ≤ b) × (1 ≤ k) × BoundedEnds 4294967294 e ⌝ }
+    requires { ⌜ Field p × (1 ≤ b) × (1 ≤ k) × BoundedEnds greatestApart e ⌝ }
     ensures { λ r. ⌜ r ≡ digitRule p b k (endsSeen e) (signShift b k) ⌝ }
 {
     let Power::Of(c) = capped_power(b, k, p as u64) else {
@@ -213,7 +214,7 @@ pub fn sign_rule(p: u32, b: u64, k: u32, e: Ends) -> bool
 
 // The digit rule where c = b^k is at most p: F - L and L + c - 1 - E are at most p - 1.
 pub fn is_narrow(p: u32, c: u64, e: Ends, shift: i64) -> bool
-    requires { ⌜ Field p × (1 ≤ c) × (c ≤ p) × BoundedEnds 4294967294 e × Bounded 2147483647 shift ⌝ }
+    requires { ⌜ Field p × (1 ≤ c) × (c ≤ p) × BoundedEnds greatestApart e × Bounded greatest shift ⌝ }
     ensures { λ r. ⌜ r ≡ leZ (e .high -ℤ shift) (pos (p - 1)) && leZ (shift +ℤ pos (c - 1) -ℤ e .low) (pos (p - 1)) ⌝ }
 {
     let last = (p - 1) as i64;

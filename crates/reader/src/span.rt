@@ -21,7 +21,7 @@ ghost use Rattle.meaning.specs.Line.{span};
 ghost use Rattle.meaning.specs.Known.{Known, ends, larger, smaller, digitRule};
 ghost use Rattle.meaning.specs.Gadget.Span.{shared};
 ghost use Rattle.number.specs.Bounded.{Bounded};
-ghost use Rattle.reader.specs.State.{Small, Ready, Seen};
+ghost use Rattle.reader.specs.State.{Small, Ready, Seen, greatestApart, greatest};
 ghost use Rattle.reader.specs.Told.{refuses, spanTold, madeSeen, lineWith};
 ghost use Rattle.reader.specs.Rule.{endsSeen, BoundedEnds, Field, sharedTold};
 
@@ -52,7 +52,7 @@ pub fn read_span(
 
 // The new ends, where the digit rule is kept.
 fn span_ends(p: u32, b: u64, k: u32, old: Ends, shift: i64) -> Made
-    requires { ⌜ Field p × (1 ≤ b) × BoundedEnds 4294967294 old × Bounded 2147483647 shift ⌝ }
+    requires { ⌜ Field p × (1 ≤ b) × BoundedEnds greatestApart old × Bounded greatest shift ⌝ }
     ensures { λ r. ⌜ madeSeen r
         ≡ cond (digitRule p b k (endsSeen old) shift) (sharedTold (shared b k shift (endsSeen old))) (refuses 10) ⌝ }
 {
@@ -68,7 +68,7 @@ fn span_ends(p: u32, b: u64, k: u32, old: Ends, shift: i64) -> Made
 
 // What the old ends and L..L+c-1 share, where they share a number.
 fn shared_ends(old: Ends, shift: i64, last: u64) -> Made
-    requires { ⌜ (last ≤ 2147483647) × Bounded 2147483647 shift ⌝ }
+    requires { ⌜ (last ≤ greatest) × Bounded greatest shift ⌝ }
     ensures { λ r. ⌜ madeSeen r ≡ sharedTold (ends (larger (old .low) shift) (smaller (old .high) (shift +ℤ pos last))) ⌝ }
 {
     let top = shift + last as i64;

@@ -24,7 +24,7 @@ ghost use Rattle.meaning.specs.Known.{Known, ends};
 ghost use Rattle.meaning.specs.Refusal.{all, isMade};
 ghost use Rattle.meaning.specs.Gadget.Sum.{termsOf, endsInRange};
 ghost use Rattle.number.specs.Bounded.{Bounded};
-ghost use Rattle.reader.specs.State.{Small, Ready, Seen};
+ghost use Rattle.reader.specs.State.{Small, Ready, Seen, greatestProduct, greatest};
 ghost use Rattle.reader.specs.Told.{toldOf, madeSeen, lineWith};
 ghost use Rattle.reader.specs.Rule.{endsSeen, BoundedEnds};
 ghost use Rattle.reader.specs.Sum.{sumTold, Scaled, Added};
@@ -131,7 +131,7 @@ fn constant(numbers: &[i64]) -> Ends
 
 // The ends of c times a value.
 fn scaled(c: i64, e: Ends) -> Ends
-    requires { ⌜ Bounded 2147483647 c × BoundedEnds 2147483647 e ⌝ }
+    requires { ⌜ Bounded greatest c × BoundedEnds greatest e ⌝ }
     ensures { λ r. ⌜ Scaled c e r ⌝ }
 {
     let one = whole_product(Whole(c), Whole(e.low));
@@ -145,7 +145,7 @@ fn scaled(c: i64, e: Ends) -> Ends
 }
 
 fn plus(a: Ends, b: Ends) -> Ends
-    requires { ⌜ BoundedEnds 2147483647 a × BoundedEnds 4611686014132420609 b ⌝ }
+    requires { ⌜ BoundedEnds greatest a × BoundedEnds greatestProduct b ⌝ }
     ensures { λ r. ⌜ Added a b r ⌝ }
 {
     let low = whole_sum(Whole(a.low), Whole(b.low));

@@ -140,7 +140,6 @@ module _ {list : List ℕ} {last s : Known} {left : List Line} {c : Counts} {at 
       keeps = keeps-all n s line (kept-here .0)
 
       numbers-small : Small count numbers
-      unfolding greatest
       numbers-small = line-small parsed is
 
       few-after : (d : Counts) → Counted (after s line) d → Few d

@@ -128,7 +128,7 @@ module _ {w : Word} {numbers : List ℤ} {count : ℕ} (l : KeptLine w numbers c
   prime-is e = l .sound .prime (after-field (l .line) w e (l .keeps .placed))
 
   pub half-most : isField w ≡ false → half (l .state .p) ≤ 2 ^ 30
-  unfolding half greatest
+  unfolding half
   half-most e = omega (arith, l .p-most e)
 
   -- ---- a name

@@ -52,7 +52,6 @@ module _ {w : Word} {numbers : List ℤ} {count : ℕ} (l : KeptLine w numbers c
     {b k : ℕ} (base : b ≡ size numbers i) (digits : k ≡ size numbers (suc i)) where
   -- as `power_of` asks it
   pub power-asked : (k ≤ 31) × (b ^ k ≤ 2 ^ 31)
-  unfolding greatest
   power-asked = let d = word-digits l i word in rw (base, digits) (d .count-most, omega (arith, d .power-most))
 
   pub group-read : {c : ℕ} → c ≡ b ^ k → GroupOf b k c

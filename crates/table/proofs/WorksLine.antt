@@ -44,7 +44,6 @@ use Rattle.table.proofs.WorksSumFits.{sum-small}
 -- ---- one value, and a digit group
 
 pub span-shift : {numbers : List ℤ} → KeptLine span numbers 4 → Bounded (2 ^ 31) (getD numbers 3 (pos 0))
-unfolding greatest
 span-shift l = record { size = omega (arith, l .small 3 (omega arith)) }
 
 module _ {numbers values : List ℤ} {v : ℤ} {b k : ℕ} (value : v ≡ named numbers 0 values) (base : b ≡ size numbers 1)

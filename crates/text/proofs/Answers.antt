@@ -18,17 +18,18 @@ use Rattle.text.specs.Word.{wordOf}
 use Rattle.text.specs.Parsed.{parsedSeen, countSeen, LineRead}
 use Rattle.text.proofs.Bytes.{none-some}
 use Rattle.text.proofs.Numbers.{number-small}
+use Rattle.text.specs.Number.{mostSize}
 
 -- ---- every line that the definition reads is good
 
 abbrev pub Small : List ℤ → Type 0
-Small ns = (i : ℕ) → natAbs (getD ns i (pos 0)) ≤ 2147483647
+Small ns = (i : ℕ) → natAbs (getD ns i (pos 0)) ≤ mostSize
 
 pub record GoodLine (l : MeantLine) : Type 0 where
   pub counted : isCount (l .word) (length (l .numbers)) ≡ true
   pub small : Small (l .numbers)
 
-cons-small : (first : Option ℤ) (rest : Option (List ℤ)) (ns : List ℤ) → ((z : ℤ) → first ≡ some z → natAbs z ≤ 2147483647)
+cons-small : (first : Option ℤ) (rest : Option (List ℤ)) (ns : List ℤ) → ((z : ℤ) → first ≡ some z → natAbs z ≤ mostSize)
     → ((ms : List ℤ) → rest ≡ some ms → Small ms) → consNumber first rest ≡ some ns → Small ns
 unfolding consNumber
 cons-small none rest ns small later q i = absurd (none-some q)
@@ -79,5 +80,5 @@ module _ {line : List ℕ} {before after : List ℤ} {r : Parsed} (read : LineRe
     pub line-counted : length before ≡ 33 → isCount (wordOf w) n ≡ true
     line-counted room = rw (length-take-le n after (omega (arith, read .kept, line-most))) at (good-line line line-seen .counted)
 
-    pub line-small : (i : ℕ) → i < n → natAbs (getD after i (pos 0)) ≤ 2147483647
+    pub line-small : (i : ℕ) → i < n → natAbs (getD after i (pos 0)) ≤ mostSize
     line-small i h = rw (getD-take n after i (pos 0) h) at (good-line line line-seen .small i)

@@ -11,6 +11,7 @@ use Rattle.number.proofs.Bounded.{larger-bounded, smaller-bounded}
 use borrow.Author.Needs.{needs}
 use Rattle.reader.proofs.max.above.Statement.{statement}
 use Rattle.reader.proofs.max.above.Tie as tie
+use Rattle.reader.specs.State.{greatestApart}
 
 apart-requires : tie.Need-apart-requires
 apart-requires c κs = search needs
@@ -30,7 +31,7 @@ returns c =
     let g : SFits w64 (at-larger .larger .result .0) = search needs in
     let low : SFits w64 (between .result .low) = search needs in
     let high : SFits w64 (between .result .high) = search needs in
-    let zero : Bounded 4294967294 (pos 0) = record { size = omega arith } in
+    let zero : Bounded greatestApart (pos 0) = record { size = omega arith } in
     let small : toZ w64 (ofZ w64 (at-smaller .smaller .result .0)) ≡ smaller (pos 0) (between .result .low) =
     back f ∙ (rw (back low) at (at-smaller .smaller .ensures)) in
     let large : toZ w64 (ofZ w64 (at-larger .larger .result .0)) ≡ larger (pos 0) (between .result .high) =

@@ -102,7 +102,7 @@ same-length-5 c = search needs
 
 -- src/read.rt:48:1
 returns-5 : tie.Need-returns-5
-unfolding firstSeen primeIn greatest
+unfolding firstSeen primeIn
 returns-5 c =
     let f = (sym (c .before .before .before .before .before .is-field .ensures) ∙ not-false _ (c .before .before .before .before .if1 .left)) in
     let number = first-number (now (c .before .before .before .before .before .before .before .before .before .before .before .before .before .args .line)) (c .before .before .before .before .before .before .before .before .before .before .line-of .ensures) (c .before .before .before .before .before .before .before .word .given .1) (c .before .before .before .before .before .before .before .before .before .before .before .before .before .pre) f (c .before .before .if2 .left) in (

@@ -53,11 +53,10 @@ cast-most : tie.Need-cast-most
 cast-most c = search needs
 
 mul-if2 : tie.Need-mul-if2
-unfolding greatest
 mul-if2 c =
     let x : ℕ = c .before .before .c .given .0 .0 in
-    let l : x ≤ 2147483647 = omega (arith, power (c .before) .within, c .before .before .before .before .before .pre .0 .most) in
-    let square : x * x ≤ 2147483647 * 2147483647 = mul-le-mul l l in
+    let l : x ≤ greatest = omega (arith, power (c .before) .within, c .before .before .before .before .before .pre .0 .most) in
+    let square : x * x ≤ greatest * greatest = mul-le-mul l l in
     record { fits = omega arith }
 
 returns-3 : tie.Need-returns-3
@@ -70,13 +69,12 @@ sub-t7 : tie.Need-sub-t7
 sub-t7 c = search needs
 
 cast-t12 : tie.Need-cast-t12
-unfolding greatest
 cast-t12 c =
     let r = power (c .before .before) in
     record { sfits = omega (arith, c .before .before .before .before .before .before .pre .0 .most) }
 
 returns-4 : tie.Need-returns-4
-unfolding madeSeen half greatest
+unfolding madeSeen half
 returns-4 c =
     let start = c .before .before .before .before .before .before in
     let x : ℕ = c .before .before .before .c .given .0 .0 in

@@ -15,12 +15,10 @@ use Rattle.reader.proofs.rule.is_narrow.Statement.{statement}
 use Rattle.reader.proofs.rule.is_narrow.Tie as tie
 
 last-is : (c : tie.Start) → toZ w64 (c .args .p - 1) ≡ pos (c .args .p - 1)
-unfolding greatest
 last-is c = small (c .args .p - 1) (omega arith)
 
 -- c - 1
-digits-last : (c : tie.Start) → Bounded 2147483647 (pos (c .args .c - 1))
-unfolding greatest
+digits-last : (c : tie.Start) → Bounded greatest (pos (c .args .c - 1))
 digits-last c = record { size = omega arith }
 
 sub-last : tie.Need-sub-last
@@ -57,7 +55,6 @@ cast-top : tie.Need-cast-top
 cast-top c = search needs
 
 add-top : tie.Need-add-top
-unfolding greatest
 add-top c =
     let start = c .before .before .before in
     rw (back (start .fits .shift), small (start .args .c - 1) (omega arith))
@@ -66,7 +63,6 @@ add-top c =
 top-is : (c : tie.Else1)
     → toZ w64 (ofZ w64 (toZ w64 (ofZ w64 (c .before .before .before .args .shift)) +ℤ toZ w64 (c .before .before .before .args .c - 1)))
     ≡ c .before .before .before .args .shift +ℤ pos (c .before .before .before .args .c - 1)
-unfolding greatest
 top-is c =
     let start = c .before .before .before in
     back (add-top c) ∙ rw (back (start .fits .shift), small (start .args .c - 1) (omega arith))

@@ -55,11 +55,10 @@ top-is c =
     let start = c .before .before .before .before in
     top-part (start .args .b) (start .args .k) (c .before .c .given .0 .0) (start .pre .1) (start .pre .2) (power c .power)
 
-top-small : (c : tie.After-known-told) → let a = c .before .before .before .before .args in topPart (a .b) (a .k) ≤ 2147483647
-unfolding greatest
+top-small : (c : tie.After-known-told) → let a = c .before .before .before .before .args in topPart (a .b) (a .k) ≤ greatest
 top-small c = let r = power c in omega (arith, top-is c, c .before .before .before .before .pre .0 .most)
 
-shift-small : (c : tie.After-known-told) → let a = c .before .before .before .before .args in Bounded 2147483647
+shift-small : (c : tie.After-known-told) → let a = c .before .before .before .before .args in Bounded greatest
     (negℤ (pos (topPart (a .b) (a .k))))
 shift-small c =
     let a = c .before .before .before .before .args in
@@ -72,7 +71,7 @@ sub-is-narrow : tie.Need-sub-is-narrow
 sub-is-narrow c =
     let a = c .before .before .before .before .args in
     rw (top-is c, small (topPart (a .b) (a .k)) (omega (arith, top-small c)), +ℤ-idl (negℤ (pos (topPart (a .b) (a .k)))))
-    (bounded-fits 2147483647 (shift-small c) tt)
+    (bounded-fits greatest (shift-small c) tt)
 
 shift-is : (c : tie.After-known-told)
     → let a = c .before .before .before .before .args in

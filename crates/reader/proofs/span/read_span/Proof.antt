@@ -51,7 +51,6 @@ shared-slice-copy-out-shift : tie.Need-shared-slice-copy-out-shift
 shared-slice-copy-out-shift c = search needs
 
 span-ends-requires : tie.Need-span-ends-requires
-unfolding greatest
 span-ends-requires c κs =
     let start = c .before .before .before .before .before .before .before .before in
     let g = well (c .before .before) in

@@ -14,13 +14,14 @@ use Rattle.reader.proofs.Tests.{less, not-less}
 use borrow.Author.Needs.{needs}
 use Rattle.reader.proofs.span.shared_ends.Statement.{statement}
 use Rattle.reader.proofs.span.shared_ends.Tie as tie
+use Rattle.reader.specs.State.{greatest}
 
 cast-top : tie.Need-cast-top
 cast-top c = search needs
 
 add-top : tie.Need-add-top
 add-top c =
-    let last : Bounded 2147483647 (pos (c .args .last)) = record { size = c .pre .0 } in
+    let last : Bounded greatest (pos (c .args .last)) = record { size = c .pre .0 } in
     rw (back (c .fits .shift), small (c .args .last) (omega (arith, c .pre .0)))
     (sum-fits (c .args .shift) (pos (c .args .last)) (c .pre .1) last tt)
 

@@ -61,7 +61,6 @@ sub-last : tie.Need-sub-last
 sub-last c = power (c .before .before) .positive
 
 shared-ends-requires : tie.Need-shared-ends-requires
-unfolding greatest
 shared-ends-requires c κs =
     let start = c .before .before .before .before .before .before in
     let r = power (c .before .before) in

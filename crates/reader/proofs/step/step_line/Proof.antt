@@ -35,7 +35,6 @@ returns c =
 
 -- src/step.rt:178:5
 step-requires : tie.Need-step-requires
-unfolding greatest
 step-requires c κs =
     let S = c .before .before .before .before .before .before .before .before .before .before .before .before in
     let read = c .before .before .before .before .before .before .before .before .line-of .ensures in

@@ -10,6 +10,7 @@ use Rattle.number.proofs.Bounded.{bounded-product, larger-bounded, smaller-boun
 use borrow.Author.Needs.{needs}
 use Rattle.reader.proofs.sum.scaled.Statement.{statement}
 use Rattle.reader.proofs.sum.scaled.Tie as tie
+use Rattle.reader.specs.State.{greatestProduct}
 
 -- src/sum.rt:137:9
 whole-product-requires : tie.Need-whole-product-requires
@@ -49,8 +50,8 @@ returns c =
     back small-fits ∙ (rw (one-is, other-is) at (c .before .before .before .smaller .ensures)) in
     let large : toZ w64 (ofZ w64 (c .before .before .larger .result .0)) ≡ larger one other =
     back large-fits ∙ (rw (one-is, other-is) at (c .before .before .larger .ensures)) in
-    let first : Bounded 4611686014132420609 one = bounded-product (S .pre .0) (S .pre .1 .low-sized) in
-    let second : Bounded 4611686014132420609 other = bounded-product (S .pre .0) (S .pre .1 .high-sized) in
+    let first : Bounded greatestProduct one = bounded-product (S .pre .0) (S .pre .1 .low-sized) in
+    let second : Bounded greatestProduct other = bounded-product (S .pre .0) (S .pre .1 .high-sized) in
     record {
       sized = record {
         low-sized = rw small (smaller-bounded first second);

@@ -72,7 +72,6 @@ shared-slice-copy-out-c : tie.Need-shared-slice-copy-out-c Inv-loop μ-loop
 shared-slice-copy-out-c c = search needs
 
 scaled-requires : tie.Need-scaled-requires Inv-loop μ-loop
-unfolding greatest
 scaled-requires c κs =
     let at-test = c .before .before in
     let start = at-test .before .before .before in

@@ -18,7 +18,6 @@ shared-slice-copy-out-number : tie.Need-shared-slice-copy-out-number
 shared-slice-copy-out-number c = search needs
 
 cast-result : tie.Need-cast-result
-unfolding greatest
 cast-result c =
     let start = c .before in
     let z = getD (start .args .numbers .now) (start .args .at) (pos 0) in
