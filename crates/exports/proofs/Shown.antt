@@ -69,7 +69,7 @@ shown-at list cells line = by (reading list) refl
 -- ---- no list has more cells than 4,096
 
 cells-within : (ls : List Line) (n : ℕ) (s last : Known) → Kept n s ls last → s .cells ≤ 4096 → last .cells ≤ 4096
-unfolding after cellLimit
+unfolding after
 cells-within [] n s last k h = omega (arith, ap (λ (q : Known). q .cells) k)
 cells-within (l ∷ ls) n s last k h =
     cells-within ls (suc n) (after s l) last (k .1) (leb→le (s .cells + gadget s l .width) 4096 (keeps-all n s l (k .0) .cells-fit))

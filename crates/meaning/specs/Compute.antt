@@ -33,7 +33,7 @@ computing-numbers = tt
 
 -- texts and lines
 unfoldable pub computing-lines : Unit {0}
-unfolding bytes sameBytes onFirst split withoutLast linesOf isEnded fieldsOf largest isDigit allDigits decimal isPlain sized number decimalBefore decimalOf numberText spelling words isCount wordAmong consNumber numbersOf assemble lineOfFields lineOf numberAt sizeAt alternate withoutFirst namesOf coefficientsOf shiftsOf digitsAt digitsOf
+unfolding bytes sameBytes onFirst split withoutLast linesOf isEnded fieldsOf isDigit allDigits decimal isPlain sized number decimalBefore decimalOf numberText spelling words isCount wordAmong consNumber numbersOf assemble lineOfFields lineOf numberAt sizeAt alternate withoutFirst namesOf coefficientsOf shiftsOf digitsAt digitsOf
 computing-lines = tt
 
 -- what is known, and rows
@@ -48,7 +48,7 @@ computing-gadgets = tt
 
 -- reading, working, the replies and the program
 unfoldable pub computing-replies : Unit {0}
-unfolding textLimit valueLimit cellLimit all onSome isField isPlaced isOverPrime isDigits isRanged isMade rulesWithin rules firstBroken onReading consLine readLine readFrom readingBy reading withCells workFrom work readReply firstFail rowsFrom rowsOf isCell checked checkReply filled made makeReply stretch shown tabbed refusalText cellsText tableText makingText consPart partsOf joined isSome orNone answerParts onParts respond
+unfolding all onSome isField isPlaced isOverPrime isDigits isRanged isMade rulesWithin rules firstBroken onReading consLine readLine readFrom readingBy reading withCells workFrom work readReply firstFail rowsFrom rowsOf isCell checked checkReply filled made makeReply stretch shown tabbed refusalText cellsText tableText makingText consPart partsOf joined isSome orNone answerParts onParts respond
 computing-replies = tt
 
 -- the rows of the worked tables

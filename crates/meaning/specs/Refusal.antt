@@ -34,14 +34,14 @@ use Rattle.meaning.specs.Meaning.{gadget, after}
 -- ---- limits
 
 -- "text over 65,536 bytes"
-unfoldable pub textLimit : ℕ
+abbrev pub textLimit : ℕ
 textLimit = 65536
 
 -- "A list has at most 256 values and 4,096 cells."
-unfoldable pub valueLimit : ℕ
+abbrev pub valueLimit : ℕ
 valueLimit = 256
 
-unfoldable pub cellLimit : ℕ
+abbrev pub cellLimit : ℕ
 cellLimit = 4096
 
 -- ---- what the rules ask

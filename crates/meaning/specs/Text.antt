@@ -52,7 +52,7 @@ fieldsOf line = split 9 line
 -- ---- numbers
 
 -- "its size is at most 2,147,483,647"
-unfoldable pub largest : ℕ
+abbrev pub largest : ℕ
 largest = 2147483647
 
 unfoldable pub isDigit : ℕ → Bool

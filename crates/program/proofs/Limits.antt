@@ -24,7 +24,7 @@ pub record Most (s : Known) : Type 0 where
   pub cells-most : s .cells ≤ 4096
 
 most-after : (n : ℕ) (s : Known) (l : Line) → Keeps n s l → Most s → Most (after s l)
-unfolding after valueLimit cellLimit
+unfolding after
 most-after n s l keeps m =
     let g = gadget s l in
     let f = few n s l keeps in

@@ -133,17 +133,17 @@ module _ (ls : List (List ℕ)) (stored : List ℤ) {x : Inputs} (told : InputsR
 
 module _ (input : List ℕ) where
   pub respond-long : 65536 < length input → refusalText (reply 1 0) ≡ respond input
-  unfolding respond textLimit
+  unfolding respond
   respond-long h = rw (lt-leb (length input) 65536 h)
 
   module _ (short : length input ≤ 65536) where
     pub respond-unended : isEnded input ≡ false → refusalText (reply 2 0) ≡ respond input
-    unfolding respond textLimit
+    unfolding respond
     respond-unended e = rw (le-leb (length input) 65536 short, e)
 
     module _ (ended : isEnded input ≡ true) where
       pub respond-parts : onParts (partsOf (linesOf input)) ≡ respond input
-      unfolding respond textLimit
+      unfolding respond
       respond-parts = rw (le-leb (length input) 65536 short, ended)
 
       module _ {x : Ending} (found : EndFound input x) where

@@ -18,7 +18,7 @@ use Rattle.algebra.proofs.Integer.Order.{positivePart, negativePart, natAbs-par
 use Rattle.number.proofs.Word.{back, parts-fit, negative, not-negative}
 use Rattle.meaning.proofs.Lines.{field-or-not}
 use Rattle.text.specs.Word.{wordOf}
-use Rattle.text.specs.Parsed.{LineRead}
+use Rattle.text.specs.Parsed.{LineRead, mostNumbers}
 use Rattle.text.specs.declared.Word.{Word}
 use Rattle.text.specs.declared.Parsed.{Parsed}
 use Rattle.text.specs.declared.Parsed.the-variants.{Line as Spelled}
@@ -49,7 +49,7 @@ module _ (line : List ℕ) (ns : List ℤ) (e : lineOf line ≡ some (lineWith f
   first-not-prime f = rw (e, f) refl
 
   pub first-prime : isOverPrime field ns ≡ true → goes (only (sizeAt ns 0)) ≡ firstOption (lineOf line)
-  unfolding firstOption rules rulesWithin firstBroken onSome isPlaced isField isRanged all digitsOf shiftsOf coefficientsOf namesOf gadget byWord fieldLine valueLimit cellLimit fresh after primeAfter placesFrom only
+  unfolding firstOption rules rulesWithin firstBroken onSome isPlaced isField isRanged all digitsOf shiftsOf coefficientsOf namesOf gadget byWord fieldLine fresh after primeAfter placesFrom only
   first-prime f = rw (e, f) refl
 
 -- ---- the number of line 0, as the code has it
@@ -82,7 +82,7 @@ below-zero (pos n) h k = absurd (omega arith)
 below-zero (negsuc n) h k = refl
 
 module _ (line : List ℕ) {before after : List ℤ} {r : Parsed} (read : LineRead line before after r) {w : Word} {n : ℕ} (q : r ≡ Spelled w n)
-    (long : length before ≡ 33) where
+    (long : length before ≡ mostNumbers) where
   pub first-not-field : isField (wordOf w) ≡ false → stops 4 ≡ firstOption (lineOf line)
   first-not-field f = first-other line _ (line-seen read q) f
 

@@ -118,10 +118,9 @@ module _ (p : ℕ) (s : Known) (l : Line) (c : Counts) (lows highs : List ℤ) (
     one = ap (λ (es : List Ends). length es) (ends-made s l (ends low high ∷ []) told)
 
     -- value 257 is refused by the line's own rules
-    pub room : c .values < 256
-    unfolding valueLimit
+    pub room : c .values < valueLimit
     room =
-        omega (arith, leb→le (length (s .known) + length (gadget s l .made)) 256 (kept .values-fit), values-are p lows highs places is sized, one)
+        omega (arith, leb→le (length (s .known) + length (gadget s l .made)) valueLimit (kept .values-fit), values-are p lows highs places is sized, one)
 
     pub grown : (size : Counts) → (Keeps 1 s l → Grows s l size)
         → stepSeen p (Next (record { values = c .values + size .values; inputs = c .inputs + size .inputs; cells = c .cells + size .cells; rows = c .rows + size .rows }))

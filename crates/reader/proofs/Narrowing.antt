@@ -12,7 +12,7 @@ use Rattle.meaning.specs.Line.{Line, span, sizeAt, numberAt, namesOf}
 use Rattle.meaning.specs.Known.{Ends, ends, Known, endsOf}
 use Rattle.meaning.specs.Gadget.Span.{shared, spanLine}
 use Rattle.meaning.specs.Meaning.{byWord, gadget, placesFrom, primeAfter, after}
-use Rattle.meaning.specs.Refusal.{rules, firstBroken}
+use Rattle.meaning.specs.Refusal.{rules, firstBroken, valueLimit}
 use Rattle.meaning.proofs.Kept.{Keeps, keeps-all}
 use Rattle.meaning.proofs.Lines.{first-named}
 use Rattle.reader.specs.State.{endsFrom, stateOf}
@@ -62,7 +62,7 @@ module _ (p : ℕ) (s : Known) (ns : List ℤ) (c : Counts) (lows highs : List �
       unfolding namesOf
       named = omega (arith, first-named (length (s .known)) 0 ns [] (kept .names-made), values-are p lows highs places is sized, at-is kept)
 
-      pub named-within : at < 256
+      pub named-within : at < valueLimit
       named-within = omega (arith, named, sized .values-most)
 
       known-narrowed : endsFrom (take (c .values) (set lows at low)) (take (c .values) (set highs at high)) ≡ set (s .known) (sizeAt ns 0) new

@@ -41,6 +41,7 @@ use Rattle.reader.specs.Size.{Adds}
 use Rattle.reader.specs.Step.{Step, stops, Grows, stepOf, stepOption, stepBytes}
 use Rattle.reader.specs.declared.state.Counts.{Counts}
 use Rattle.reader.proofs.Sizes.{length-groupRows, length-signRows, two-groups, four-groups}
+use Rattle.text.specs.Parsed.{mostNumbers}
 
 -- ---- the arguments of a line's reader
 
@@ -126,7 +127,7 @@ pub sum-count : {v : Word} → v ≡ Sum → (m : ℕ) → isCount (wordOf v) m 
 unfolding isCount wordOf
 sum-count q m e =
     let counted : isCount sum m ≡ true = ap (λ (u : Word). isCount (wordOf u) m) (sym q) ∙ e in
-    eqb→eq (m % 2) 1 (left (eqb (m % 2) 1) (leb m 33) (≡-test (isCount sum m) counted))
+    eqb→eq (m % 2) 1 (left (eqb (m % 2) 1) (leb m mostNumbers) (≡-test (isCount sum m) counted))
 
 pub span-word : {v : Word} → v ≡ Span → wordOf v ≡ span
 unfolding wordOf

@@ -35,13 +35,14 @@ use Rattle.reader.proofs.Values.{known-long}
 use Rattle.reader.proofs.Ordered.{Ordered, ordered-after}
 use Rattle.reader.proofs.Steps.{few}
 use Rattle.reader.proofs.Stopping.{stopped-at, gone-at, step-later}
+use Rattle.text.specs.Parsed.{mostNumbers}
 
 -- what holds before line n, which starts at `at`
 pub record Walked (list : List ℕ) (start p : ℕ) (numbers lows highs : List ℤ) (places : List ℕ) (c : Counts) (at n : ℕ) : Type 0 where
   pub inside : at ≤ length list
   pub later : 1 ≤ n
   pub counted : n ≤ at
-  pub numbers-long : length numbers ≡ 33
+  pub numbers-long : length numbers ≡ mostNumbers
   pub sized : WithinLimits c (length lows) (length highs) (length places)
   pub sound : Sound n (stateOf p c lows highs places)
   pub ordered : Ordered (stateOf p c lows highs places .known)
@@ -94,7 +95,7 @@ module _ (p : ℕ) (c : Counts) (lows highs : List ℤ) (places : List ℕ) (siz
         highs-small = λ i l. subst (λ (z : ℤ). natAbs z ≤ greatest) (getD-take (c .values) highs i (pos 0) l) (small i (omega (arith, count)) .1);
       }
 
-count-of : (p : ℕ) (c : Counts) (lows highs : List ℤ) → length lows ≡ 256 → length highs ≡ 256 → (places : List ℕ) → c .values ≤ 256
+count-of : (p : ℕ) (c : Counts) (lows highs : List ℤ) → length lows ≡ valueLimit → length highs ≡ valueLimit → (places : List ℕ) → c .values ≤ valueLimit
     → length (stateOf p c lows highs places .known) ≡ c .values
 unfolding stateOf
 count-of p c lows highs l m places h = known-long (stateOf p c lows highs places) (c .values) lows highs refl (omega (arith, l)) (omega (arith, m))
@@ -102,7 +103,7 @@ count-of p c lows highs l m places h = known-long (stateOf p c lows highs places
 -- ---- the walk
 
 pub walk-start : (list : List ℕ) (start p : ℕ) (numbers lows highs : List ℤ) (places : List ℕ) → 1 ≤ start → start ≤ length list → OddPrime p
-    → length numbers ≡ 33 → length lows ≡ 256 → length highs ≡ 256 → length places ≡ 256
+    → length numbers ≡ mostNumbers → length lows ≡ valueLimit → length highs ≡ valueLimit → length places ≡ valueLimit
     → Walked list start p numbers lows highs places (record { values = 0; inputs = 0; cells = 0; rows = 0 }) start 1
 unfolding stateOf endsFrom only
 walk-start list start p numbers lows highs places h k odd n l m o = record {
@@ -152,7 +153,7 @@ module _ {list : List ℕ} {start p : ℕ} {numbers lows highs : List ℤ} {plac
 
     -- the walk goes on with the next line
     module _ (x : Stepped) (next : Counts) (numbers′ ls hs : List ℤ) (ps : List ℕ) (is : x ≡ Next next)
-        (e : stepSeen p x ls hs ps ≡ stepBytes (stateOf p c lows highs places) line) (few-in : valuesIn x ≤ 256) (numbers-long : length numbers′ ≡ 33) (lows-long : length ls ≡ length lows)
+        (e : stepSeen p x ls hs ps ≡ stepBytes (stateOf p c lows highs places) line) (few-in : valuesIn x ≤ valueLimit) (numbers-long : length numbers′ ≡ mostNumbers) (lows-long : length ls ≡ length lows)
         (highs-long : length hs ≡ length highs) (places-long : length ps ≡ length places) where
       abbrev s : Known
       s = stateOf p c lows highs places
@@ -160,9 +161,9 @@ module _ {list : List ℕ} {start p : ℕ} {numbers lows highs : List ℤ} {plac
       abbrev t : Known
       t = stateOf p next ls hs ps
 
-      few-values : next .values ≤ 256
+      few-values : next .values ≤ valueLimit
       unfolding valuesIn
-      few-values = subst (λ (y : Stepped). valuesIn y ≤ 256) is few-in
+      few-values = subst (λ (y : Stepped). valuesIn y ≤ valueLimit) is few-in
 
       gone : (l : Line) × (firstBroken rules n s l ≡ none) × (t ≡ after s l) × (surveyOf (readLine rules n s (lineOf line) rest) ≡ surveyOf (rest t))
       unfolding stepSeen stepBytes
@@ -172,7 +173,7 @@ module _ {list : List ℕ} {start p : ℕ} {numbers lows highs : List ℤ} {plac
       keeps = keeps-all n s (gone .0) (gone .1)
 
       room : WithinLimits next (length ls) (length hs) (length ps)
-      unfolding stateOf after valueLimit cellLimit
+      unfolding stateOf after
       room =
           let g = gadget s (gone .0) in
           let f = few n s (gone .0) keeps in
@@ -188,7 +189,7 @@ module _ {list : List ℕ} {start p : ℕ} {numbers lows highs : List ℤ} {plac
             places-long = places-long ∙ w .sized .places-long;
             values-most = few-values;
             inputs-most = omega (arith, inputs-are, count, known-are, length-append (g .narrowed) (g .made), f .0, f .2, before, w .sized .inputs-most);
-            cells-most = omega (arith, cells-are, leb→le (c .cells + g .width) 4096 (keeps .cells-fit));
+            cells-most = omega (arith, cells-are, leb→le (c .cells + g .width) cellLimit (keeps .cells-fit));
             rows-most = omega (arith, cells-are, rows-are, f .1, w .sized .rows-most);
           }
 

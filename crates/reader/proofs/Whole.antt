@@ -28,14 +28,14 @@ ended-some [] e = let z : _≡_ {A = ℕ} 0 1 = cc in omega arith
 ended-some (x ∷ xs) e = omega arith
 
 module _ (text : List ℕ) where
-  pub survey-too-long : 65536 < length text → refusedAt 1 0 ≡ surveyOf (reading text)
-  unfolding surveyOf reading readingBy onReading textLimit
-  survey-too-long h = rw (lt-leb (length text) 65536 h) refl
+  pub survey-too-long : textLimit < length text → refusedAt 1 0 ≡ surveyOf (reading text)
+  unfolding surveyOf reading readingBy onReading
+  survey-too-long h = rw (lt-leb (length text) textLimit h) refl
 
-  module _ (short : length text ≤ 65536) where
+  module _ (short : length text ≤ textLimit) where
     pub survey-not-ended : isEnded text ≡ false → refusedAt 2 0 ≡ surveyOf (reading text)
-    unfolding surveyOf reading readingBy onReading textLimit
-    survey-not-ended e = rw (le-leb (length text) 65536 short, e) refl
+    unfolding surveyOf reading readingBy onReading
+    survey-not-ended e = rw (le-leb (length text) textLimit short, e) refl
 
     module _ (ended : isEnded text ≡ true) {end : ℕ} (found : Found 10 text 0 end) where
       abbrev line : List ℕ
@@ -48,8 +48,8 @@ module _ (text : List ℕ) where
       rest z = readFrom rules 1 z (linesFrom text (end + 1))
 
       survey-here : surveyOf (reading text) ≡ surveyOf (readLine rules 0 fresh (lineOf line) rest)
-      unfolding reading readingBy textLimit readFrom
-      survey-here = rw (le-leb (length text) 65536 short, ended, lines-next text ended (ended-some text ended) found) refl
+      unfolding reading readingBy readFrom
+      survey-here = rw (le-leb (length text) textLimit short, ended, lines-next text ended (ended-some text ended) found) refl
 
       module _ (x : First) (told : firstSeen x ≡ firstOption (lineOf line)) where
         pub first-stopped : (n : ℕ) → x ≡ NotFirst n → refusedAt n 0 ≡ surveyOf (reading text)

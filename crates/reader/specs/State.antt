@@ -6,8 +6,9 @@ use Prim.Native.Nat.{ℕ, _*_, _≤_, _<_}
 use lib.ListN.{length, getD, take}
 use lib.IntN.{ℤ, pos, natAbs}
 use Rattle.meaning.specs.Known.{Ends, ends, Known}
-use Rattle.text.specs.Number.{mostSize}
 use Rattle.reader.specs.declared.state.Counts.{Counts}
+use Rattle.meaning.specs.Text.{largest}
+use Rattle.meaning.specs.Refusal.{cellLimit, valueLimit}
 
 unfoldable pub endsFrom : (lows highs : List ℤ) → List Ends
 endsFrom [] hs = []
@@ -26,7 +27,7 @@ stateOf p c lows highs places = record {
 
 -- the size of a number that was read, and so of every known end
 abbrev pub greatest : ℕ
-greatest = mostSize
+greatest = largest
 
 -- that of the difference of two such
 abbrev pub greatestApart : ℕ
@@ -44,10 +45,10 @@ Small n zs = (i : ℕ) → i < n → natAbs (getD zs i (pos 0)) ≤ greatest
 pub record Ready (p values cells : ℕ) (lows highs : List ℤ) : Type 0 where
   pub p-low : 3 ≤ p
   pub p-high : p ≤ greatest
-  pub values-most : values ≤ 256
-  pub cells-most : cells ≤ 4096
-  pub lows-long : length lows ≡ 256
-  pub highs-long : length highs ≡ 256
+  pub values-most : values ≤ valueLimit
+  pub cells-most : cells ≤ cellLimit
+  pub lows-long : length lows ≡ valueLimit
+  pub highs-long : length highs ≡ valueLimit
   pub lows-small : Small values lows
   pub highs-small : Small values highs
 

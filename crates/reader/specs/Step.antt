@@ -7,7 +7,7 @@ use lib.IntN.{ℤ}
 use Rattle.meaning.specs.Line.{Line, lineOf}
 use Rattle.meaning.specs.Known.{Known}
 use Rattle.meaning.specs.Meaning.{gadget, after}
-use Rattle.meaning.specs.Refusal.{onSome, rules, firstBroken}
+use Rattle.meaning.specs.Refusal.{onSome, rules, firstBroken, cellLimit, valueLimit}
 use Rattle.reader.specs.State.{stateOf}
 use Rattle.reader.specs.Size.{Adds}
 use Rattle.reader.specs.declared.rule.Made.{Made}
@@ -42,12 +42,12 @@ valuesIn (Refused n) = 0
 
 -- arrays of 256, and counts that no sum overflows
 pub record WithinLimits (c : Counts) (lows highs places : ℕ) : Type 0 where
-  pub lows-long : lows ≡ 256
-  pub highs-long : highs ≡ 256
-  pub places-long : places ≡ 256
-  pub values-most : c .values ≤ 256
+  pub lows-long : lows ≡ valueLimit
+  pub highs-long : highs ≡ valueLimit
+  pub places-long : places ≡ valueLimit
+  pub values-most : c .values ≤ valueLimit
   pub inputs-most : c .inputs ≤ c .values
-  pub cells-most : c .cells ≤ 4096
+  pub cells-most : c .cells ≤ cellLimit
   pub rows-most : c .rows ≤ 2 * c .cells
 
 -- a line that adds these counts and narrows no ends
@@ -58,4 +58,4 @@ pub record Grows (s : Known) (l : Line) (size : Counts) : Type 0 where
 
 -- where a line has ends, its place is one of the arrays'
 abbrev pub Placed : Made → ℕ → Type 0
-Placed made at = (low high : ℤ) → made ≡ EndsOf low high → at < 256
+Placed made at = (low high : ℤ) → made ≡ EndsOf low high → at < valueLimit

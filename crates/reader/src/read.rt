@@ -21,6 +21,7 @@ ghost use Rattle.meaning.specs.Reply.{readReply};
 ghost use Rattle.text.specs.Word.{wordOf};
 ghost use Rattle.reader.specs.State.{greatest};
 ghost use Rattle.reader.specs.Read.{only, surveyOf, surveySeen, PrimeFound, primeIn, firstOption, firstSeen, answerSeen, Exact};
+ghost use Rattle.text.specs.Parsed.{mostNumbers};
 
 // p of line 0, or the number of its refusal.
 enum First {
@@ -56,7 +57,7 @@ fn is_field(word: Word) -> bool
 }
 
 fn first_line(line: &[u8], numbers: &mut [i64]) -> First
-    requires { ⌜ length (now numbers) ≡ 33 ⌝ }
+    requires { ⌜ length (now numbers) ≡ mostNumbers ⌝ }
     ensures told { λ r. ⌜ firstSeen r ≡ firstOption (lineOf (now (line .entry))) ⌝ }
     ensures small { λ r. ⌜ primeIn r ≤ greatest ⌝ }
     ensures long { λ r. ⌜ length (now (numbers .exit)) ≡ length (now (numbers .entry)) ⌝ }

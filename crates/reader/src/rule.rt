@@ -14,7 +14,7 @@ ghost use lib.IntN.{pos, natAbs, _+ℤ_, _-ℤ_};
 ghost use lib.Signed.{leZ};
 ghost use Rattle.meaning.specs.Known.{digitRule};
 ghost use Rattle.meaning.specs.Number.{inRange};
-ghost use Rattle.meaning.specs.Refusal.{isMade};
+ghost use Rattle.meaning.specs.Refusal.{isMade, cellLimit, valueLimit};
 ghost use Rattle.meaning.specs.Gadget.Sign.{signShift};
 ghost use Rattle.number.specs.Bounded.{Bounded};
 ghost use Rattle.reader.specs.Told.{madeSeen, makes};
@@ -85,7 +85,7 @@ pub fn is_ranged(numbers: &[i64], at: usize, p: u32) -> bool
 
 // Whether the number at a place names one of the values that are made.
 pub fn is_made(numbers: &[i64], at: usize, values: usize) -> bool
-    requires { ⌜ (at < length (now numbers)) × (values ≤ 256) ⌝ }
+    requires { ⌜ (at < length (now numbers)) × (values ≤ valueLimit) ⌝ }
     ensures { λ r. ⌜ r ≡ isMade values (getD (now (numbers .entry)) at (pos 0)) ⌝ }
 {
     let v = numbers[at];
@@ -97,7 +97,7 @@ pub fn is_made(numbers: &[i64], at: usize, values: usize) -> bool
 
 // The same of the first two numbers.
 pub fn are_made(numbers: &[i64], values: usize) -> bool
-    requires { ⌜ (1 < length (now numbers)) × (values ≤ 256) ⌝ }
+    requires { ⌜ (1 < length (now numbers)) × (values ≤ valueLimit) ⌝ }
     ensures { λ r. ⌜ r ≡ isMade values (getD (now (numbers .entry)) 0 (pos 0)) && isMade values (getD (now (numbers .entry)) 1 (pos 0)) ⌝ }
 {
     if is_made(numbers, 0, values) {
@@ -108,7 +108,7 @@ pub fn are_made(numbers: &[i64], values: usize) -> bool
 
 // The first that is broken of the rules 7 (the names are made), 8 (room for the new values) and 9 (room for the cells), or 0.
 pub fn early_broken(named: bool, values: usize, new: usize, cells: usize, width: usize) -> u32
-    requires { ⌜ (values ≤ 256) × (new ≤ 1) × (cells ≤ 4096) × (width ≤ 4096) ⌝ }
+    requires { ⌜ (values ≤ valueLimit) × (new ≤ 1) × (cells ≤ cellLimit) × (width ≤ cellLimit) ⌝ }
     ensures { λ r. ⌜ r ≡ earlyBroken named values new cells width ⌝ }
 {
     if !named {
@@ -144,7 +144,7 @@ pub fn begin_line(
     each: usize,
     more: usize,
 ) -> Begun
-    requires { ⌜ (at + 1 < length (now numbers)) × (values ≤ 256) × (new ≤ 1) × (cells ≤ 4096) × (each ≤ 4) × (more ≤ 3) ⌝ }
+    requires { ⌜ (at + 1 < length (now numbers)) × (values ≤ valueLimit) × (new ≤ 1) × (cells ≤ cellLimit) × (each ≤ 4) × (more ≤ 3) ⌝ }
     ensures { λ r. ⌜ r ≡ begun (getD (now (numbers .entry)) at (pos 0)) (getD (now (numbers .entry)) (at + 1) (pos 0)) ranged
         (earlyBroken named values new cells (each * natAbs (getD (now (numbers .entry)) (at + 1) (pos 0)) + more)) ⌝ }
 {

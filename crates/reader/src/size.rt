@@ -14,6 +14,7 @@ ghost use Rattle.meaning.proofs.Kept.{Keeps};
 ghost use Rattle.text.specs.Word.{wordOf};
 ghost use Rattle.reader.specs.Told.{lineWith};
 ghost use Rattle.reader.specs.Size.{counted, Adds};
+ghost use Rattle.text.specs.Parsed.{mostNumbers};
 
 // A number that is not negative, as a count: 0 where it is negative.
 pub fn natural(z: i64) -> usize
@@ -46,7 +47,7 @@ fn counts_of(values: usize, inputs: usize, cells: usize, rows: usize) -> Counts
 
 // How much a line adds to the counts of a list: its values, inputs, cells and rows. The walks over a list that was read go by it.
 pub fn line_size(word: Word, numbers: &[i64]) -> Counts
-    requires { ⌜ length (now numbers) ≡ 33 ⌝ }
+    requires { ⌜ length (now numbers) ≡ mostNumbers ⌝ }
     ensures told { λ r. ⌜ ((n count : ℕ) (s : Known) → isCount (wordOf word) count ≡ true
         → Keeps n s (lineWith (wordOf word) (take count (now (numbers .entry)))) → Adds s (lineWith (wordOf word) (take count (now (numbers .entry)))) r) ⌝ }
     ensures small { λ r. ⌜ (r .values ≤ 1) × (r .inputs ≤ 1) × (r .cells ≤ 126) × (r .rows ≤ 129) ⌝ }

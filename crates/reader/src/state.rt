@@ -13,6 +13,7 @@ ghost use Rattle.reader.specs.State.{stateOf};
 ghost use Rattle.reader.specs.Told.{toldOf, spanTold, madeSeen, lineWith};
 ghost use Rattle.reader.specs.Size.{Adds, FewCounts};
 ghost use Rattle.reader.specs.Step.{Grows, Placed, WithinLimits, valuesIn, stepSeen, stepOf};
+ghost use Rattle.meaning.specs.Refusal.{valueLimit};
 
 pub struct Counts {
     pub values: usize,
@@ -40,7 +41,7 @@ pub fn grow(
     ensures told { λ r. ⌜ ((p : ℕ) (s : Known) (l : Line) → s ≡ stateOf p counts (now (lows .entry)) (now (highs .entry)) (now (places .entry))
         → (Keeps 1 s l → Grows s l size) → madeSeen made ≡ toldOf s l
         → stepSeen p r (now (lows .exit)) (now (highs .exit)) (now (places .exit)) ≡ stepOf s l) ⌝ }
-    ensures long { λ r. ⌜ (valuesIn r ≤ 256) × (length (now (lows .exit)) ≡ length (now (lows .entry))) × (length (now (highs .exit)) ≡ length (now (highs .entry)))
+    ensures long { λ r. ⌜ (valuesIn r ≤ valueLimit) × (length (now (lows .exit)) ≡ length (now (lows .entry))) × (length (now (highs .exit)) ≡ length (now (highs .entry)))
         × (length (now (places .exit)) ≡ length (now (places .entry))) ⌝ }
 {
     match made {
@@ -75,7 +76,7 @@ pub fn narrow(
         → (Keeps 1 s (lineWith span ns) → (sizeAt ns 0 ≡ at) × Adds s (lineWith span ns) size)
         → madeSeen made ≡ spanTold s (lineWith span ns)
         → stepSeen p r (now (lows .exit)) (now (highs .exit)) (now (places .entry)) ≡ stepOf s (lineWith span ns)) ⌝ }
-    ensures long { λ r. ⌜ (valuesIn r ≤ 256) × (length (now (lows .exit)) ≡ length (now (lows .entry))) × (length (now (highs .exit)) ≡ length (now (highs .entry))) ⌝ }
+    ensures long { λ r. ⌜ (valuesIn r ≤ valueLimit) × (length (now (lows .exit)) ≡ length (now (lows .entry))) × (length (now (highs .exit)) ≡ length (now (highs .entry))) ⌝ }
 {
     match made {
         Made::Breaks(n) => Stepped::Refused(n),

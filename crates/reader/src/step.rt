@@ -27,6 +27,8 @@ ghost use Rattle.text.specs.Word.{wordOf};
 ghost use Rattle.reader.specs.State.{Small, Ready, Seen, stateOf};
 ghost use Rattle.reader.specs.Told.{lineTold, madeSeen, lineWith};
 ghost use Rattle.reader.specs.Step.{WithinLimits, valuesIn, stepSeen, stepOf, stepBytes};
+ghost use Rattle.text.specs.Parsed.{mostNumbers};
+ghost use Rattle.meaning.specs.Refusal.{valueLimit};
 
 // The ends of the value that a line makes, or narrows, or the number of the first rule that it breaks.
 fn read_ends(
@@ -39,7 +41,7 @@ fn read_ends(
     lows: &[i64],
     highs: &[i64],
 ) -> Made
-    requires { ⌜ Ready p values cells (now lows) (now highs) × (length (now numbers) ≡ 33) × (isCount (wordOf word) count ≡ true) × (count ≤ 33)
+    requires { ⌜ Ready p values cells (now lows) (now highs) × (length (now numbers) ≡ mostNumbers) × (isCount (wordOf word) count ≡ true) × (count ≤ mostNumbers)
         × Small count (now numbers) ⌝ }
     ensures { λ r. ⌜ ((s : Known) → Seen s p values cells (now (lows .entry)) (now (highs .entry))
         → madeSeen r ≡ lineTold s (lineWith (wordOf word) (take count (now (numbers .entry))))) ⌝ }
@@ -68,10 +70,10 @@ pub fn step(
     places: &mut [usize],
 ) -> Stepped
     requires { ⌜ Ready p (counts .values) (counts .cells) (now lows) (now highs) × WithinLimits counts (length (now lows)) (length (now highs)) (length (now places))
-        × (length (now numbers) ≡ 33) × (isCount (wordOf word) count ≡ true) × (count ≤ 33) × Small count (now numbers) ⌝ }
+        × (length (now numbers) ≡ mostNumbers) × (isCount (wordOf word) count ≡ true) × (count ≤ mostNumbers) × Small count (now numbers) ⌝ }
     ensures told { λ r. ⌜ ((s : Known) → s ≡ stateOf p counts (now (lows .entry)) (now (highs .entry)) (now (places .entry))
         → stepSeen p r (now (lows .exit)) (now (highs .exit)) (now (places .exit)) ≡ stepOf s (lineWith (wordOf word) (take count (now (numbers .entry))))) ⌝ }
-    ensures long { λ r. ⌜ (valuesIn r ≤ 256) × (length (now (lows .exit)) ≡ length (now (lows .entry))) × (length (now (highs .exit)) ≡ length (now (highs .entry)))
+    ensures long { λ r. ⌜ (valuesIn r ≤ valueLimit) × (length (now (lows .exit)) ≡ length (now (lows .entry))) × (length (now (highs .exit)) ≡ length (now (highs .entry)))
         × (length (now (places .exit)) ≡ length (now (places .entry))) ⌝ }
 {
     let made = read_ends(
@@ -103,10 +105,10 @@ pub fn step_line(
     places: &mut [usize],
 ) -> Stepped
     requires { ⌜ Ready p (counts .values) (counts .cells) (now lows) (now highs) × WithinLimits counts (length (now lows)) (length (now highs)) (length (now places))
-        × (length (now numbers) ≡ 33) ⌝ }
+        × (length (now numbers) ≡ mostNumbers) ⌝ }
     ensures told { λ r. ⌜ ((s : Known) → s ≡ stateOf p counts (now (lows .entry)) (now (highs .entry)) (now (places .entry))
         → stepSeen p r (now (lows .exit)) (now (highs .exit)) (now (places .exit)) ≡ stepBytes s (now (line .entry))) ⌝ }
-    ensures long { λ r. ⌜ (valuesIn r ≤ 256) × (length (now (numbers .exit)) ≡ 33) × (length (now (lows .exit)) ≡ length (now (lows .entry)))
+    ensures long { λ r. ⌜ (valuesIn r ≤ valueLimit) × (length (now (numbers .exit)) ≡ mostNumbers) × (length (now (lows .exit)) ≡ length (now (lows .entry)))
         × (length (now (highs .exit)) ≡ length (now (highs .entry))) × (length (now (places .exit)) ≡ length (now (places .entry))) ⌝ }
 {
     let Parsed::Line(word, count) = line_of(line, numbers) else {

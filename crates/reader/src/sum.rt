@@ -21,13 +21,14 @@ ghost use lib.ListN.{length, getD, take, drop};
 ghost use Rattle.meaning.specs.Line.{sum, alternate};
 ghost use Rattle.meaning.specs.Number.{inRange};
 ghost use Rattle.meaning.specs.Known.{Known, ends};
-ghost use Rattle.meaning.specs.Refusal.{all, isMade};
+ghost use Rattle.meaning.specs.Refusal.{all, isMade, valueLimit};
 ghost use Rattle.meaning.specs.Gadget.Sum.{termsOf, endsInRange};
 ghost use Rattle.number.specs.Bounded.{Bounded};
 ghost use Rattle.reader.specs.State.{Small, Ready, Seen, greatestProduct, greatest};
 ghost use Rattle.reader.specs.Told.{toldOf, madeSeen, lineWith};
 ghost use Rattle.reader.specs.Rule.{endsSeen, BoundedEnds};
 ghost use Rattle.reader.specs.Sum.{sumTold, Scaled, Added};
+ghost use Rattle.text.specs.Parsed.{mostNumbers};
 
 // c0, then count / 2 pairs of a coefficient and a name.
 pub fn read_sum(
@@ -39,7 +40,7 @@ pub fn read_sum(
     lows: &[i64],
     highs: &[i64],
 ) -> Made
-    requires { ⌜ Ready p values cells (now lows) (now highs) × (count ≤ length (now numbers)) × (count ≤ 33)
+    requires { ⌜ Ready p values cells (now lows) (now highs) × (count ≤ length (now numbers)) × (count ≤ mostNumbers)
         × (count % 2 ≡ 1) × Small count (now numbers) ⌝ }
     ensures { λ r. ⌜ ((s : Known) → Seen s p values cells (now (lows .entry)) (now (highs .entry))
         → madeSeen r ≡ toldOf s (lineWith sum (take count (now (numbers .entry))))) ⌝ }
@@ -57,7 +58,7 @@ pub fn read_sum(
 
 // c0, c1, c2, ..: the numbers at 0, 1, 3, 5, ..
 fn coefficients_ranged(numbers: &[i64], count: usize, p: u32) -> bool
-    requires { ⌜ (count ≤ length (now numbers)) × (count ≤ 33) × (0 < count) × (3 ≤ p) ⌝ }
+    requires { ⌜ (count ≤ length (now numbers)) × (count ≤ mostNumbers) × (0 < count) × (3 ≤ p) ⌝ }
     ensures { λ r. ⌜ r
         ≡ all (inRange p) (getD (now (numbers .entry)) 0 (pos 0) ∷ alternate (drop 1 (take count (now (numbers .entry))))) ⌝ }
 {
@@ -76,7 +77,7 @@ fn coefficients_ranged(numbers: &[i64], count: usize, p: u32) -> bool
 
 // v1, v2, ..: the numbers at 2, 4, ..
 fn names_made(numbers: &[i64], count: usize, values: usize) -> bool
-    requires { ⌜ (count ≤ length (now numbers)) × (count ≤ 33) × (values ≤ 256) ⌝ }
+    requires { ⌜ (count ≤ length (now numbers)) × (count ≤ mostNumbers) × (values ≤ valueLimit) ⌝ }
     ensures { λ r. ⌜ r ≡ all (isMade values) (alternate (drop 2 (take count (now (numbers .entry))))) ⌝ }
 {
     let mut i: usize = 2;
@@ -99,7 +100,7 @@ fn sum_ends(
     lows: &[i64],
     highs: &[i64],
 ) -> Made
-    requires { ⌜ Ready p values cells (now lows) (now highs) × (count ≤ length (now numbers)) × (count ≤ 33)
+    requires { ⌜ Ready p values cells (now lows) (now highs) × (count ≤ length (now numbers)) × (count ≤ mostNumbers)
         × (count % 2 ≡ 1) × Small count (now numbers) × (inRange p (getD (now numbers) 0 (pos 0)) ≡ true)
         × (all (isMade values) (alternate (drop 2 (take count (now numbers)))) ≡ true) ⌝ }
     ensures { λ r. ⌜ madeSeen r ≡ sumTold p (now (lows .entry)) (now (highs .entry))

@@ -15,7 +15,7 @@ use Rattle.meaning.specs.Line.{Line}
 use Rattle.meaning.specs.Known.{Known, fresh}
 use Rattle.meaning.specs.Row.{Row, among, holds}
 use Rattle.meaning.specs.Meaning.{gadget, after}
-use Rattle.meaning.specs.Refusal.{cellLimit, onSome, refused, onReading, reading}
+use Rattle.meaning.specs.Refusal.{cellLimit, onSome, refused, onReading, reading, valueLimit}
 use Rattle.meaning.specs.Reply.{Reply, reply, firstFail, isCell, rowsFrom, rowsOf, checked, checkReply}
 use Rattle.meaning.proofs.Kept.{Keeps}
 use Rattle.meaning.proofs.Lists.{all-pass}
@@ -36,6 +36,7 @@ use Rattle.service.proofs.Listed.{same-lines, same-last}
 use Rattle.service.proofs.Standing.{stands-first, nothing-left, line-kept, prime-here, cells-inside}
 use Rattle.service.proofs.Places.{placed-first, place-inside}
 use Rattle.service.proofs.Scan.{first-from, none-from, found-inside}
+use Rattle.text.specs.Parsed.{mostNumbers}
 
 -- ---- the cells
 
@@ -101,11 +102,11 @@ pub record Checking (list table : List ℕ) (p : ℕ) (numbers : List ℤ) (plac
   pub state : Known
   pub left : List Line
   pub stands : Stands list (asked .listed .last) state left c at number
-  pub numbers-long : length numbers ≡ 33
+  pub numbers-long : length numbers ≡ mostNumbers
   pub placed : Placed state places
   pub rows-left : firstFail (holds p table) 0 (rowsOf (asked .listed .lines)) ≡ firstFail (holds p table) (c .rows) (rowsFrom state left)
 
-pub checking-first : (list table : List ℕ) (p : ℕ) (numbers : List ℤ) (places : List ℕ) → length numbers ≡ 33 → length places ≡ 256 → TableAsked list table p
+pub checking-first : (list table : List ℕ) (p : ℕ) (numbers : List ℤ) (places : List ℕ) → length numbers ≡ mostNumbers → length places ≡ valueLimit → TableAsked list table p
     → Checking list table p numbers places (record { values = 0; inputs = 0; cells = 0; rows = 0 }) 0
 unfolding rowsOf
 checking-first list table p numbers places h k a = record {
@@ -163,7 +164,7 @@ module _ {list table : List ℕ} {p : ℕ} {numbers : List ℤ} {places : List �
       none-fails is = none-from test (among 0 0) (gadget (w .state) l .rows) (c .rows) (sym told ∙ ap rowsSeen is)
 
       pub checking-next : r ≡ AllHold → {next : Counts} {at′ : ℕ} (numbers′ : List ℤ) (places′ : List ℕ)
-          → Stands list (w .asked .listed .last) (after (w .state) l) rest next at′ (w .number + 1) → length numbers′ ≡ 33 → Placed (after (w .state) l) places′
+          → Stands list (w .asked .listed .last) (after (w .state) l) rest next at′ (w .number + 1) → length numbers′ ≡ mostNumbers → Placed (after (w .state) l) places′
           → Checking list table p numbers′ places′ next at′
       unfolding firstOf after
       checking-next is {next} numbers′ places′ stands long placed = record {
@@ -182,11 +183,10 @@ module _ {list table : List ℕ} {p : ℕ} {numbers : List ℤ} {places : List �
 
   -- the number of a row in the list is small
   pub row-fits : (l : Line) → Keeps (w .number) (w .state) l → {i : ℕ} → i < length (gadget (w .state) l .rows) → c .rows + i < 2 ^ 64
-  unfolding cellLimit
   row-fits l keeps h = omega (
     arith,
     few (w .number) (w .state) l keeps .1,
-    leb→le (w .state .cells + gadget (w .state) l .width) 4096 (keeps .cells-fit),
+    leb→le (w .state .cells + gadget (w .state) l .width) cellLimit (keeps .cells-fit),
     w .stands .few .rows-most,
     w .stands .few .cells-most,
   )

@@ -43,15 +43,14 @@ unfolding reading readingBy
 read-ended list ls s e = ended-by (leb (length list) textLimit) (isEnded list) (readFrom rules 0 fresh (linesOf list)) ls s e
 
 -- and not too long
-short-by : (n : ℕ) (ended : Bool) (r : Reading) (ls : List Line) (s : Known) → cond (leb n textLimit) (cond ended r (refused 2 0)) (refused 1 0) ≡ read ls s → n ≤ 65536
-unfolding textLimit
-short-by n ended r ls s e = by (leb n 65536) refl e
+short-by : (n : ℕ) (ended : Bool) (r : Reading) (ls : List Line) (s : Known) → cond (leb n textLimit) (cond ended r (refused 2 0)) (refused 1 0) ≡ read ls s → n ≤ textLimit
+short-by n ended r ls s e = by (leb n textLimit) refl e
   where
-    by : (t : Bool) → leb n 65536 ≡ t → cond t (cond ended r (refused 2 0)) (refused 1 0) ≡ read ls s → n ≤ 65536
-    by true q f = leb→le n 65536 (≡-test (leb n 65536) q)
+    by : (t : Bool) → leb n textLimit ≡ t → cond t (cond ended r (refused 2 0)) (refused 1 0) ≡ read ls s → n ≤ textLimit
+    by true q f = leb→le n textLimit (≡-test (leb n textLimit) q)
     by false q f = absurd (subst IsRead (sym f) tt)
 
-pub read-short : (list : List ℕ) (ls : List Line) (s : Known) → reading list ≡ read ls s → length list ≤ 65536
+pub read-short : (list : List ℕ) (ls : List Line) (s : Known) → reading list ≡ read ls s → length list ≤ textLimit
 unfolding reading readingBy
 read-short list ls s e = short-by (length list) (isEnded list) (readFrom rules 0 fresh (linesOf list)) ls s e
 

@@ -9,7 +9,7 @@ use lib.ListN.{length, take}
 use Rattle.meaning.specs.Number.{inRange}
 use Rattle.meaning.specs.Line.{Line}
 use Rattle.meaning.specs.Known.{Known}
-use Rattle.meaning.specs.Refusal.{onSome, refused, onReading, reading}
+use Rattle.meaning.specs.Refusal.{onSome, refused, onReading, reading, valueLimit}
 use Rattle.meaning.specs.Work.{false-at, true-table, work}
 use Rattle.meaning.specs.Reply.{Reply, reply, firstFail, Making, making, filled, made, makeReply}
 use Rattle.meaning.specs.Claims.{Column}
@@ -85,7 +85,7 @@ module _ (ls : List Line) (s : Known) (xs values : List ℤ) (x : Working) (done
 
 -- what writing is asked with, once every statement is found true
 module _ (list table : List ℕ) (p : ℕ) (xs values : List ℤ) (a : WorkAsked list xs) (prime : a .listed .last .p ≡ p) (long : length table ≡ a .listed .last .cells)
-    (values-long : length values ≡ 256) (x : Working) (done : WorkDone (a .listed .lines) (a .listed .last) xs values x) (is : x ≡ AllTrue) where
+    (values-long : length values ≡ valueLimit) (x : Working) (done : WorkDone (a .listed .lines) (a .listed .last) xs values x) (is : x ≡ AllTrue) where
   pub written-cells : List ℕ
   written-cells = all-worked (a .listed .lines) (a .listed .last) xs values x done is .0
 

@@ -23,8 +23,9 @@ use Rattle.meaning.proofs.Lines.{Sound, line-law}
 use Rattle.reader.specs.declared.state.Counts.{Counts}
 use Rattle.reader.proofs.Steps.{few}
 use Rattle.service.specs.Walk.{Counted, withPlace, Placed}
+use Rattle.meaning.specs.Refusal.{valueLimit}
 
-pub placed-first : (places : List ℕ) → length places ≡ 256 → Placed fresh places
+pub placed-first : (places : List ℕ) → length places ≡ valueLimit → Placed fresh places
 unfolding fresh
 placed-first places h = record { long = h; are = refl; below = tt }
 
@@ -48,7 +49,7 @@ room-for-values p s g law =
     )
 
 -- the places with those of the new values: none, or one
-module _ (places : List ℕ) (c d : Counts) (long : length places ≡ 256) (few-values : d .values ≤ 256) where
+module _ (places : List ℕ) (c d : Counts) (long : length places ≡ valueLimit) (few-values : d .values ≤ valueLimit) where
   places-with : (es : List Ends) (cells : ℕ) → cells ≡ c .cells → c .values + length es ≡ d .values → length es ≤ 1
       → take (c .values) places ++ placesFrom cells es ≡ take (c .values + length es) (withPlace places c d)
   unfolding withPlace placesFrom
@@ -57,11 +58,11 @@ module _ (places : List ℕ) (c d : Counts) (long : length places ≡ 256) (few-
       rw (lt-ltb (c .values) (d .values) (omega arith), add-one (c .values), take-suc-set places (c .values) (c .cells) (omega (arith, long)), e) refl
   places-with (x ∷ (y ∷ es)) cells e h k = absurd (omega arith)
 
-  with-long : length (withPlace places c d) ≡ 256
+  with-long : length (withPlace places c d) ≡ valueLimit
   unfolding withPlace
   with-long = cond-long (ltb (c .values) (d .values))
     where
-      cond-long : (t : mathlib.Core.Bool.Bool) → length (cond t (set places (c .values) (c .cells)) places) ≡ 256
+      cond-long : (t : mathlib.Core.Bool.Bool) → length (cond t (set places (c .values) (c .cells)) places) ≡ valueLimit
       cond-long mathlib.Core.Bool.true = length-set places (c .values) (c .cells) ∙ long
       cond-long mathlib.Core.Bool.false = long
 
@@ -73,7 +74,7 @@ places-below cells (suc width) (e ∷ es) h =
     (omega arith, subst (λ (n : ℕ). Below n (placesFrom (suc cells) es)) (omega arith) (places-below (suc cells) width es (omega arith)))
 
 pub placed-next : (n : ℕ) (s : Known) (l : Line) (places : List ℕ) (c d : Counts) → Sound n s → Keeps n s l → Placed s places → Counted s c
-    → Counted (after s l) d → d .values ≤ c .values + 1 → d .values ≤ 256 → Placed (after s l) (withPlace places c d)
+    → Counted (after s l) d → d .values ≤ c .values + 1 → d .values ≤ valueLimit → Placed (after s l) (withPlace places c d)
 unfolding after
 placed-next n s l places c d sound keeps placed was now-counted one-more few-values =
     let g = gadget s l in
@@ -94,7 +95,7 @@ placed-next n s l places c d sound keeps placed was now-counted one-more few-val
 -- ---- a place
 
 -- the place of a known value is a cell of what is known
-pub place-inside : (s : Known) (places : List ℕ) → Placed s places → (v : ℕ) → v < length (s .known) → length (s .known) ≤ 256 → getD places v 0 < s .cells
+pub place-inside : (s : Known) (places : List ℕ) → Placed s places → (v : ℕ) → v < length (s .known) → length (s .known) ≤ valueLimit → getD places v 0 < s .cells
 place-inside s places placed v h most =
     let there : getD (s .places) v 0 ≡ getD places v 0 = ap (λ (q : List ℕ). getD q v 0) (placed .are) ∙ getD-take (length (s .known)) places v 0 h in
     let many : length (s .places) ≡ length (s .known) = ap (λ (q : List ℕ). length q) (placed .are) ∙ length-take-le (length (s .known)) places (omega (arith, placed .long)) in

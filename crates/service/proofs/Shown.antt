@@ -18,6 +18,7 @@ use Rattle.service.specs.Show.{IsStretch}
 use Rattle.service.specs.declared.showing.Stretch.{Stretch}
 use Rattle.service.proofs.Listed.{same-lines, same-last}
 use Rattle.service.proofs.Standing.{stands-first, nothing-left}
+use Rattle.text.specs.Parsed.{mostNumbers}
 
 -- before line n, the line that is asked for is still to come
 pub record Showing (list : List ℕ) (line : ℕ) (numbers : List ℤ) (c : Counts) (at n : ℕ) : Type 0 where
@@ -25,11 +26,11 @@ pub record Showing (list : List ℕ) (line : ℕ) (numbers : List ℤ) (c : Coun
   pub state : Known
   pub left : List Line
   pub stands : Stands list (listed .last) state left c at n
-  pub numbers-long : length numbers ≡ 33
+  pub numbers-long : length numbers ≡ mostNumbers
   pub to-come : n ≤ line
   pub is : (t : List ℕ) → stretch fresh (listed .lines) line t ≡ stretch state left (line - n) t
 
-pub showing-first : (list : List ℕ) (line : ℕ) (numbers : List ℤ) → length numbers ≡ 33 → ListRead list
+pub showing-first : (list : List ℕ) (line : ℕ) (numbers : List ℤ) → length numbers ≡ mostNumbers → ListRead list
     → Showing list line numbers (record { values = 0; inputs = 0; cells = 0; rows = 0 }) 0 0
 showing-first list line numbers long l = record {
   listed = l;
@@ -79,7 +80,7 @@ module _ {list : List ℕ} {line : ℕ} {numbers : List ℤ} {c : Counts} {at n 
         })
 
     -- it is a later one
-    pub showing-next : (numbers′ : List ℤ) → length numbers′ ≡ 33 → (n ≡ line → ⊥) → Showing list line numbers′ next at′ (n + 1)
+    pub showing-next : (numbers′ : List ℤ) → length numbers′ ≡ mostNumbers → (n ≡ line → ⊥) → Showing list line numbers′ next at′ (n + 1)
     unfolding stretch
     showing-next numbers′ long other = record {
       listed = w .listed;

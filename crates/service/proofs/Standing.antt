@@ -21,7 +21,7 @@ use Rattle.meaning.proofs.Induction.{prime-kept, cells-grow}
 use Rattle.meaning.proofs.Reading.{reads-exactly, read-kept}
 use Rattle.text.specs.Word.{wordOf}
 use Rattle.text.specs.Place.{Found, linesFrom}
-use Rattle.text.specs.Parsed.{LineRead}
+use Rattle.text.specs.Parsed.{LineRead, mostNumbers}
 use Rattle.text.specs.declared.Word.{Word}
 use Rattle.text.specs.declared.Parsed.{Parsed}
 use Rattle.text.specs.declared.Parsed.the-variants.{NoLine}
@@ -108,7 +108,7 @@ module _ {list : List ℕ} {last s : Known} {left : List Line} {c : Counts} {at 
   -- ---- a line that is read
 
   module _ (ended : isEnded list ≡ true) {end : ℕ} (inside : at < length list) (found : Found 10 list at end) {before numbers : List ℤ} {r : Parsed}
-      (parsed : LineRead (take (end - at) (drop at list)) before numbers r) (long : length before ≡ 33) where
+      (parsed : LineRead (take (end - at) (drop at list)) before numbers r) (long : length before ≡ mostNumbers) where
     next : (l : Line) × (rest : List Line) × (left ≡ l ∷ rest) × (lineOf (take (end - at) (drop at list)) ≡ some l)
         × (map lineOf (linesFrom list (end + 1)) ≡ map some rest)
     next = next-left (take (end - at) (drop at list)) (linesFrom list (end + 1)) left
@@ -143,15 +143,15 @@ module _ {list : List ℕ} {last s : Known} {left : List Line} {c : Counts} {at 
       numbers-small = line-small parsed is
 
       few-after : (d : Counts) → Counted (after s line) d → Few d
-      unfolding after valueLimit cellLimit
+      unfolding after
       few-after d now-counted =
           let g = gadget s line in
           let f = few n s line keeps in
           let was = stands .counted in
           record {
-            values-most = omega (arith, now-counted .values-are, length-append (g .narrowed) (g .made), f .2, leb→le (length (s .known) + length (g .made)) 256 (keeps .values-fit));
+            values-most = omega (arith, now-counted .values-are, length-append (g .narrowed) (g .made), f .2, leb→le (length (s .known) + length (g .made)) valueLimit (keeps .values-fit));
             inputs-most = omega (arith, now-counted .inputs-are, now-counted .values-are, length-append (g .narrowed) (g .made), f .0, f .2, was .inputs-are, was .values-are, stands .few .inputs-most);
-            cells-most = omega (arith, now-counted .cells-are, leb→le (s .cells + g .width) 4096 (keeps .cells-fit));
+            cells-most = omega (arith, now-counted .cells-are, leb→le (s .cells + g .width) cellLimit (keeps .cells-fit));
             rows-most = omega (arith, now-counted .rows-are, now-counted .cells-are, f .1, was .rows-are, was .cells-are, stands .few .rows-most);
           }
 
@@ -171,7 +171,7 @@ module _ {list : List ℕ} {last s : Known} {left : List Line} {c : Counts} {at 
 -- ---- what `take_line` promises
 
 module _ {list : List ℕ} {c : Counts} {at : ℕ} (a : AtLine list c at) {end : ℕ} (found : Found 10 list at end) {before numbers : List ℤ} {r : Parsed}
-    (parsed : LineRead (take (end - at) (drop at list)) before numbers r) (long : length before ≡ 33) where
+    (parsed : LineRead (take (end - at) (drop at list)) before numbers r) (long : length before ≡ mostNumbers) where
   ended : isEnded list ≡ true
   ended = read-ended list (a .listed .lines) (a .listed .last) (a .listed .is-read)
 

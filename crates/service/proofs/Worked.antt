@@ -37,6 +37,7 @@ use Rattle.service.specs.Make.{withValue, isTrue, WorkAsked, WorkDone}
 use Rattle.service.specs.declared.working.Working.the-variants.{AllTrue, FalseAt}
 use Rattle.service.proofs.Listed.{same-lines, same-last}
 use Rattle.service.proofs.Standing.{stands-first, nothing-left, known-last, line-kept}
+use Rattle.text.specs.Parsed.{mostNumbers}
 
 -- ---- the value that a line makes
 
@@ -94,8 +95,8 @@ pub record WorkingOn (list : List ℕ) (inputs numbers values : List ℤ) (c : C
   pub state : Known
   pub left : List Line
   pub stands : Stands list (asked .listed .last) state left c at n
-  pub numbers-long : length numbers ≡ 33
-  pub values-long : length values ≡ 256
+  pub numbers-long : length numbers ≡ mostNumbers
+  pub values-long : length values ≡ valueLimit
   pub within : Within (state .known) (take (length (state .known)) values)
   pub cells : List ℕ
   pub so-far : work (asked .listed .lines) inputs
@@ -106,7 +107,7 @@ unfolding withCells
 nothing-before (false-at n) = refl
 nothing-before (true-table vs cs) = refl
 
-pub working-first : (list : List ℕ) (inputs numbers values : List ℤ) → length numbers ≡ 33 → length values ≡ 256 → WorkAsked list inputs
+pub working-first : (list : List ℕ) (inputs numbers values : List ℤ) → length numbers ≡ mostNumbers → length values ≡ valueLimit → WorkAsked list inputs
     → WorkingOn list inputs numbers values (record { values = 0; inputs = 0; cells = 0; rows = 0 }) 0 0
 unfolding work fresh
 working-first list inputs numbers values h k a = record {
@@ -187,12 +188,11 @@ module _ {list : List ℕ} {inputs numbers values : List ℤ} {c : Counts} {at n
       law = first-law l rest n (w .state) (w .asked .listed .last) kept (w .stands .sound)
 
       -- there is room for the values of the line
-      room : length (w .state .known) + length (g .values before next) ≤ 256
-      unfolding valueLimit
+      room : length (w .state .known) + length (g .values before next) ≤ valueLimit
       room = omega (
         arith,
         law .values-count before next,
-        leb→le (length (w .state .known) + length (g .made)) 256 (keeps-all n (w .state) l (kept .0) .values-fit),
+        leb→le (length (w .state .known) + length (g .made)) valueLimit (keeps-all n (w .state) l (kept .0) .values-fit),
       )
 
       pub value-inside : (z : ℤ) → r ≡ Value z → c .values < length values
@@ -225,7 +225,7 @@ module _ {list : List ℕ} {inputs numbers values : List ℤ} {c : Counts} {at n
       ))
 
       pub working-next : {d : Counts} {at′ : ℕ} (numbers′ : List ℤ)
-          → Stands list (w .asked .listed .last) (after (w .state) l) rest d at′ (n + 1) → length numbers′ ≡ 33
+          → Stands list (w .asked .listed .last) (after (w .state) l) rest d at′ (n + 1) → length numbers′ ≡ mostNumbers
           → WorkingOn list inputs numbers′ values′ d at′ (n + 1)
       unfolding after
       working-next {d} numbers′ stands long = record {

@@ -39,6 +39,8 @@ use Rattle.service.specs.declared.walk.Taken.{Taken}
 use Rattle.service.specs.Make.{WriteAsked}
 use Rattle.service.proofs.Listed.{same-lines, same-last}
 use Rattle.service.proofs.Standing.{stands-first, nothing-left, known-last, line-kept, prime-here, cells-inside}
+use Rattle.text.specs.Parsed.{mostNumbers}
+use Rattle.meaning.specs.Refusal.{valueLimit}
 
 -- ---- working on does not change the values that are there
 
@@ -145,7 +147,7 @@ pub record Writing (list : List ℕ) (p : ℕ) (values : List ℤ) (before table
   pub state : Known
   pub left : List Line
   pub stands : Stands list (asked .asked .listed .last) state left c at number
-  pub numbers-long : length numbers ≡ 33
+  pub numbers-long : length numbers ≡ mostNumbers
   pub within : Within (state .known) (take (length (state .known)) values)
   pub done : List ℕ
   pub done-long : length done ≡ c .cells
@@ -155,7 +157,7 @@ pub record Writing (list : List ℕ) (p : ℕ) (values : List ℤ) (before table
       ≡ true-table (take (length (asked .asked .listed .last .known)) values) to-come
   pub all-cells : done ++ to-come ≡ asked .cells
 
-pub writing-first : (list : List ℕ) (p : ℕ) (values : List ℤ) (before : List ℕ) (numbers : List ℤ) → length numbers ≡ 33 → WriteAsked list p values before
+pub writing-first : (list : List ℕ) (p : ℕ) (values : List ℤ) (before : List ℕ) (numbers : List ℤ) → length numbers ≡ mostNumbers → WriteAsked list p values before
     → Writing list p values before before numbers (record { values = 0; inputs = 0; cells = 0; rows = 0 }) 0
 unfolding work fresh
 writing-first list p values before numbers h a = record {
@@ -274,7 +276,7 @@ module _ {list : List ℕ} {p : ℕ} {values : List ℤ} {before table : List �
     parted = split-worked (here .statement known-values) (w .number) (here .cells known-values next) later all-values (w .to-come)
         (ap (workFrom (w .number) (w .state) known-values (drop (c .inputs) (w .asked .inputs))) (sym left-is) ∙ w .left-worked)
 
-    few-known : known ≤ 256
+    few-known : known ≤ valueLimit
     few-known = omega (arith, w .stands .counted .values-are, w .stands .few .values-most)
 
     known-long : length known-values ≡ known
@@ -323,7 +325,7 @@ module _ {list : List ℕ} {p : ℕ} {values : List ℤ} {before table : List �
 
     pub writing-next : {d : Counts} {at′ : ℕ} (numbers′ : List ℤ) (written : List ℕ)
         → written ≡ here .cells (take (c .values) values) next ++ drop (here .width) part
-        → Stands list last (after (w .state) l) rest d at′ (w .number + 1) → length numbers′ ≡ 33
+        → Stands list last (after (w .state) l) rest d at′ (w .number + 1) → length numbers′ ≡ mostNumbers
         → Writing list p values before (putMid (c .cells) (length table - c .cells) table written) numbers′ d at′
     unfolding after
     writing-next {d} numbers′ written written-is stands long = record {

@@ -17,6 +17,7 @@ use Rattle.service.specs.declared.making.Inputs.{Inputs}
 use Rattle.service.specs.declared.making.Inputs.the-variants.{AllInRange, Outside}
 use Rattle.service.specs.declared.working.Working.{Working}
 use Rattle.service.specs.declared.working.Working.the-variants.{AllTrue, FalseAt}
+use Rattle.meaning.specs.Refusal.{valueLimit}
 
 -- the place of the first input outside the signed range
 unfoldable pub inputsSeen : Inputs → Option ℕ
@@ -49,7 +50,7 @@ pub record WriteAsked (list : List ℕ) (p : ℕ) (values : List ℤ) (table : L
   pub inputs : List ℤ
   pub asked : WorkAsked list inputs
   pub prime : asked .listed .last .p ≡ p
-  pub values-long : length values ≡ 256
+  pub values-long : length values ≡ valueLimit
   pub cells : List ℕ
   pub worked : work (asked .listed .lines) inputs ≡ true-table (take (length (asked .listed .last .known)) values) cells
   pub long : length table ≡ asked .listed .last .cells

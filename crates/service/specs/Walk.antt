@@ -11,7 +11,7 @@ use Rattle.algebra.specs.Digits.{Below}
 use Rattle.meaning.specs.Line.{Line, lineOf, isCount}
 use Rattle.meaning.specs.Known.{Known}
 use Rattle.meaning.specs.Meaning.{after}
-use Rattle.meaning.specs.Refusal.{read, reading}
+use Rattle.meaning.specs.Refusal.{read, reading, cellLimit, valueLimit}
 use Rattle.meaning.proofs.Kept.{Kept}
 use Rattle.meaning.proofs.Number.{OddPrime}
 use Rattle.meaning.proofs.Lines.{Sound}
@@ -21,6 +21,7 @@ use Rattle.reader.specs.State.{greatest, Small}
 use Rattle.reader.specs.Told.{lineWith}
 use Rattle.reader.specs.declared.state.Counts.{Counts}
 use Rattle.service.specs.declared.walk.Taken.{Taken}
+use Rattle.text.specs.Parsed.{mostNumbers}
 
 -- the counts are those of what is known
 pub record Counted (s : Known) (c : Counts) : Type 0 where
@@ -31,9 +32,9 @@ pub record Counted (s : Known) (c : Counts) : Type 0 where
 
 -- counts that no sum overflows
 pub record Few (c : Counts) : Type 0 where
-  pub values-most : c .values ≤ 256
+  pub values-most : c .values ≤ valueLimit
   pub inputs-most : c .inputs ≤ c .values
-  pub cells-most : c .cells ≤ 4096
+  pub cells-most : c .cells ≤ cellLimit
   pub rows-most : c .rows ≤ 2 * c .cells
 
 -- the list is read: its lines, and what is known at its end
@@ -84,9 +85,9 @@ pub record Took {list : List ℕ} {c : Counts} {at : ℕ} (a : AtLine list c at)
   pub next : Stands list (a .listed .last) (after (a .state) (taken numbers t)) rest (t .counts) (t .next) (a .number + 1)
   pub one-more : t .counts .values ≤ c .values + 1
   pub further : at < t .next
-  pub long : length numbers ≡ 33
+  pub long : length numbers ≡ mostNumbers
   pub counted : isCount (wordOf (t .word)) (t .count) ≡ true
-  pub few : t .count ≤ 33
+  pub few : t .count ≤ mostNumbers
   pub small : Small (t .count) numbers
 
 -- ---- the cells of the values
@@ -97,6 +98,6 @@ withPlace places c d = cond (ltb (c .values) (d .values)) (set places (c .values
 
 -- the first places are the cells of the values that are known
 pub record Placed (s : Known) (places : List ℕ) : Type 0 where
-  pub long : length places ≡ 256
+  pub long : length places ≡ valueLimit
   pub are : s .places ≡ take (length (s .known)) places
   pub below : Below (s .cells) (s .places)

@@ -17,6 +17,8 @@ ghost use Rattle.meaning.proofs.Kept.{Keeps};
 ghost use Rattle.text.specs.Word.{wordOf};
 ghost use Rattle.reader.specs.Told.{lineWith};
 ghost use Rattle.service.specs.Walk.{Counted, Few, AtLine, Took, withPlace};
+ghost use Rattle.text.specs.Parsed.{mostNumbers};
+ghost use Rattle.meaning.specs.Refusal.{valueLimit};
 
 // A line of the list: its word, how many numbers it has, the counts after it, and where the next line starts.
 pub struct Taken {
@@ -28,7 +30,7 @@ pub struct Taken {
 
 // Takes the line at a place, whose numbers are written.
 pub fn take_line(list: &[u8], at: usize, counts: Counts, numbers: &mut [i64]) -> Taken
-    requires { ⌜ AtLine (now list) counts at × (length (now numbers) ≡ 33) ⌝ }
+    requires { ⌜ AtLine (now list) counts at × (length (now numbers) ≡ mostNumbers) ⌝ }
     ensures { λ r. ⌜ ((a : AtLine (now (list .entry)) counts at) → Took a (now (numbers .exit)) r) ⌝ }
 {
     let end = line_end(list, at);
@@ -52,7 +54,7 @@ pub fn take_line(list: &[u8], at: usize, counts: Counts, numbers: &mut [i64]) ->
 
 // The counts after a line.
 fn counts_after(counts: Counts, word: Word, numbers: &[i64]) -> Counts
-    requires { ⌜ Few counts × (length (now numbers) ≡ 33) ⌝ }
+    requires { ⌜ Few counts × (length (now numbers) ≡ mostNumbers) ⌝ }
     ensures told { λ r. ⌜ ((n count : ℕ) (s : Known) → isCount (wordOf word) count ≡ true
         → Keeps n s (lineWith (wordOf word) (take count (now (numbers .entry)))) → Counted s counts
         → Counted (after s (lineWith (wordOf word) (take count (now (numbers .entry))))) r) ⌝ }
@@ -69,7 +71,7 @@ fn counts_after(counts: Counts, word: Word, numbers: &[i64]) -> Counts
 
 // Takes in the cell of the value that a line makes, where it makes one: it is the first cell of the line.
 pub fn take_place(places: &mut [usize], counts: Counts, next: Counts)
-    requires { ⌜ (length (now places) ≡ 256) × (counts .values ≤ 256) × (next .values ≤ 256) ⌝ }
+    requires { ⌜ (length (now places) ≡ valueLimit) × (counts .values ≤ valueLimit) × (next .values ≤ valueLimit) ⌝ }
     ensures { λ _. ⌜ now (places .exit) ≡ withPlace (now (places .entry)) counts next ⌝ }
 {
     let at = counts.values;

@@ -10,6 +10,7 @@ ghost use lib.ListN.{length, getD};
 ghost use Rattle.table.specs.declared.value.Worked.the-variants.{Value};
 ghost use Rattle.service.specs.Walk.{ListRead};
 ghost use Rattle.service.specs.Make.{withValue, isTrue, WorkAsked, WorkDone};
+ghost use Rattle.meaning.specs.Refusal.{valueLimit};
 
 // The first line whose statement is false.
 pub enum Working {
@@ -41,9 +42,9 @@ fn take_value(values: &mut [i64], at: usize, worked: Worked) -> bool
 
 // Every line is worked on the values of the lines before it, until a statement is false.
 pub fn work_lines(list: &[u8], inputs: &[i64], values: &mut [i64]) -> Working
-    requires { ⌜ WorkAsked (now list) (now inputs) × (length (now values) ≡ 256) ⌝ }
+    requires { ⌜ WorkAsked (now list) (now inputs) × (length (now values) ≡ valueLimit) ⌝ }
     ensures told { λ r. ⌜ ((l : ListRead (now (list .entry))) → WorkDone (l .lines) (l .last) (now (inputs .entry)) (now (values .exit)) r) ⌝ }
-    ensures long { λ _. ⌜ length (now (values .exit)) ≡ 256 ⌝ }
+    ensures long { λ _. ⌜ length (now (values .exit)) ≡ valueLimit ⌝ }
 {
     let mut numbers: [i64; 33] = [0; 33];
     let mut counts = Counts {

@@ -15,7 +15,7 @@ use Rattle.meaning.specs.Gadget.Root.{rootValue}
 use Rattle.meaning.proofs.Group.{length-group}
 use Rattle.number.specs.Bounded.{Bounded}
 use Rattle.number.proofs.Bounded.{bounded-more, bounded-sum, bounded-difference, bounded-product, bounded-fits}
-use Rattle.table.specs.Cells.{restCells, rootCells}
+use Rattle.table.specs.Cells.{restCells, rootCells, formBound, powerBound, valueBound}
 use Rattle.table.proofs.Whole.{pos-bounded}
 
 -- a root is as small as the value that it is of
@@ -23,37 +23,37 @@ pub root-bounded : {bound : ℕ} {v : ℤ} → Bounded bound v → Bounded bound
 unfolding rootValue
 root-bounded {bound} {v} s = record { size = omega (arith, s .size, root-below (natAbs v)) }
 
-module _ {r : ℤ} (small : Bounded (2 ^ 30) r) where
+module _ {r : ℤ} (small : Bounded valueBound r) where
   square-bounded : Bounded (2 ^ 60) (r *ℤ r)
   square-bounded = bounded-product small small
 
-  twice-bounded : Bounded (2 ^ 31) (pos 2 *ℤ r)
+  twice-bounded : Bounded powerBound (pos 2 *ℤ r)
   twice-bounded = bounded-product (pos-bounded 2 2 (omega arith)) small
 
-  next-bounded : Bounded (2 ^ 60 + 2 ^ 31) (r *ℤ r +ℤ pos 2 *ℤ r)
+  next-bounded : Bounded (2 ^ 60 + powerBound) (r *ℤ r +ℤ pos 2 *ℤ r)
   next-bounded = bounded-sum square-bounded twice-bounded
 
   pub square-fits : SFits w64 (r *ℤ r)
   square-fits = bounded-fits (2 ^ 60) square-bounded tt
 
   pub twice-fits : SFits w64 (pos 2 *ℤ r)
-  twice-fits = bounded-fits (2 ^ 31) twice-bounded tt
+  twice-fits = bounded-fits powerBound twice-bounded tt
 
   pub next-fits : SFits w64 (r *ℤ r +ℤ pos 2 *ℤ r)
-  next-fits = bounded-fits (2 ^ 60 + 2 ^ 31) next-bounded tt
+  next-fits = bounded-fits (2 ^ 60 + powerBound) next-bounded tt
 
-  module _ {v : ℤ} (value-small : Bounded (2 ^ 30) v) where
-    pub above-bounded : Bounded (2 ^ 61) (v -ℤ r *ℤ r)
+  module _ {v : ℤ} (value-small : Bounded valueBound v) where
+    pub above-bounded : Bounded formBound (v -ℤ r *ℤ r)
     above-bounded = bounded-more (bounded-difference value-small square-bounded) (lit≤ tt)
 
-    pub below-bounded : Bounded (2 ^ 61) (r *ℤ r +ℤ pos 2 *ℤ r -ℤ v)
+    pub below-bounded : Bounded formBound (r *ℤ r +ℤ pos 2 *ℤ r -ℤ v)
     below-bounded = bounded-more (bounded-difference next-bounded value-small) (lit≤ tt)
 
     pub above-fits : SFits w64 (v -ℤ r *ℤ r)
-    above-fits = bounded-fits (2 ^ 61) above-bounded tt
+    above-fits = bounded-fits formBound above-bounded tt
 
     pub below-fits : SFits w64 (r *ℤ r +ℤ pos 2 *ℤ r -ℤ v)
-    below-fits = bounded-fits (2 ^ 61) below-bounded tt
+    below-fits = bounded-fits formBound below-bounded tt
 
 -- ---- the line's cells up to the groups over v and r
 

@@ -37,6 +37,7 @@ use Rattle.reader.proofs.Digits.{Allowed, digits-allowed}
 use Rattle.reader.proofs.Sizes.{digits-given}
 use Rattle.reader.proofs.Steps.{not-below}
 use Rattle.table.specs.Line.{KeptLine, gadgetOf, knownCount}
+use Rattle.table.specs.Cells.{valueBound}
 
 -- the size of the number at a place: a name, a base or a digit count, where the number is not negative
 abbrev pub size : (numbers : List ℤ) (i : ℕ) → ℕ
@@ -53,7 +54,7 @@ pub record NameAt (n : ℕ) (numbers : List ℤ) (i : ℕ) : Type 0 where
   pub inside : i < length numbers
   pub natural : pos 0 ≤ℤ getD numbers i (pos 0)
   pub below : size numbers i < n
-  pub most : size numbers i < 256
+  pub most : size numbers i < valueLimit
 
 -- ---- bases and digit counts
 
@@ -115,11 +116,10 @@ module _ {w : Word} {numbers : List ℤ} {count : ℕ} (l : KeptLine w numbers c
   size-is i h = ap natAbs (number-is i h)
 
   -- there is room for the values before the line and its own
-  pub made-fit : knownCount l + length (gadgetOf l .made) ≤ 256
-  unfolding valueLimit
-  made-fit = leb→le (knownCount l + length (gadgetOf l .made)) 256 (l .keeps .values-fit)
+  pub made-fit : knownCount l + length (gadgetOf l .made) ≤ valueLimit
+  made-fit = leb→le (knownCount l + length (gadgetOf l .made)) valueLimit (l .keeps .values-fit)
 
-  pub values-most : knownCount l ≤ 256
+  pub values-most : knownCount l ≤ valueLimit
   values-most = omega (arith, made-fit)
 
   -- ---- p
@@ -127,7 +127,7 @@ module _ {w : Word} {numbers : List ℤ} {count : ℕ} (l : KeptLine w numbers c
   pub prime-is : isField w ≡ false → OddPrime (l .state .p)
   prime-is e = l .sound .prime (after-field (l .line) w e (l .keeps .placed))
 
-  pub half-most : isField w ≡ false → half (l .state .p) ≤ 2 ^ 30
+  pub half-most : isField w ≡ false → half (l .state .p) ≤ valueBound
   unfolding half
   half-most e = omega (arith, l .p-most e)
 
@@ -195,7 +195,7 @@ module _ {w : Word} {numbers : List ℤ} {count : ℕ} (l : KeptLine w numbers c
   -- ---- the values before the line
 
   pub value-bounded : isField w ≡ false → (vs : List ℤ) → Within (l .state .known) vs → (v : ℕ) → v < knownCount l
-      → Bounded (2 ^ 30) (getD vs v (pos 0))
+      → Bounded valueBound (getD vs v (pos 0))
   unfolding valueAt lowest highest
   value-bounded e vs within v named =
       let s : Known = l .state in

@@ -15,7 +15,7 @@ use Rattle.meaning.specs.Gadget.Digits.{valueAt}
 use Rattle.meaning.specs.Refusal.{isField}
 use Rattle.number.specs.Bounded.{Bounded}
 use Rattle.reader.specs.State.{greatest}
-use Rattle.table.specs.Cells.{GroupOf}
+use Rattle.table.specs.Cells.{GroupOf, powerBound, valueBound}
 use Rattle.table.specs.Line.{KeptLine, knownCount}
 use Rattle.table.specs.LineValues.{ValuesAsked}
 use Rattle.table.proofs.LineNumbers.{size, NameAt, value-bounded}
@@ -38,7 +38,7 @@ module _ {w : Word} {numbers : List ℤ} {count : ℕ} {values : List ℤ} (a : 
   pub value-asked : (i < length numbers) × (pos 0 ≤ℤ getD numbers i (pos 0)) × (size numbers i < length values)
   value-asked = (name .inside, name .natural, omega (arith, name .most, a .values-long))
 
-  pub named-bounded : isField w ≡ false → Bounded (2 ^ 30) (named numbers i values)
+  pub named-bounded : isField w ≡ false → Bounded valueBound (named numbers i values)
   named-bounded e = rw (getD-take (knownCount (a .kept)) values (size numbers i) (pos 0) (name .below)) at
       (value-bounded (a .kept) e (take (knownCount (a .kept)) values) (a .within) (size numbers i) (name .below))
 
@@ -51,7 +51,7 @@ power-positive {b} {k} {c} g = rw (g .power) (one-le-pow k b (omega (arith, g .b
 module _ {w : Word} {numbers : List ℤ} {count : ℕ} (l : KeptLine w numbers count) (i : ℕ) (word : DigitWord w numbers count i)
     {b k : ℕ} (base : b ≡ size numbers i) (digits : k ≡ size numbers (suc i)) where
   -- as `power_of` asks it
-  pub power-asked : (k ≤ 31) × (b ^ k ≤ 2 ^ 31)
+  pub power-asked : (k ≤ 31) × (b ^ k ≤ powerBound)
   power-asked = let d = word-digits l i word in rw (base, digits) (d .count-most, omega (arith, d .power-most))
 
   pub group-read : {c : ℕ} → c ≡ b ^ k → GroupOf b k c

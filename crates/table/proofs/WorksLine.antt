@@ -31,7 +31,7 @@ use Rattle.text.specs.declared.Word.the-variants.{Sum}
 use Rattle.reader.specs.State.{greatest}
 use Rattle.reader.proofs.Steps.{sum-count}
 use Rattle.table.specs.Line.{KeptLine, knownCount}
-use Rattle.table.specs.Cells.{workedSeen, sumOf, SumAsked}
+use Rattle.table.specs.Cells.{workedSeen, sumOf, SumAsked, powerBound}
 use Rattle.table.specs.LineValues.{ValuesAsked, WorkTold}
 use Rattle.table.specs.declared.value.Worked.{Worked}
 use Rattle.table.specs.declared.value.Worked.the-variants.{Value, NoValue}
@@ -43,7 +43,7 @@ use Rattle.table.proofs.WorksSumFits.{sum-small}
 
 -- ---- one value, and a digit group
 
-pub span-shift : {numbers : List ℤ} → KeptLine span numbers 4 → Bounded (2 ^ 31) (getD numbers 3 (pos 0))
+pub span-shift : {numbers : List ℤ} → KeptLine span numbers 4 → Bounded powerBound (getD numbers 3 (pos 0))
 span-shift l = record { size = omega (arith, l .small 3 (omega arith)) }
 
 module _ {numbers values : List ℤ} {v : ℤ} {b k : ℕ} (value : v ≡ named numbers 0 values) (base : b ≡ size numbers 1)

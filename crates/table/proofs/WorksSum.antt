@@ -16,7 +16,7 @@ use Rattle.meaning.specs.Gadget.Sum.{Term, termsOf, sumValue}
 use Rattle.number.specs.Bounded.{Bounded}
 use Rattle.number.proofs.Bounded.{bounded-difference}
 use Rattle.reader.proofs.SumLine.{without-drop, terms-at}
-use Rattle.table.specs.Cells.{sumOf, SumSmall, SumAsked}
+use Rattle.table.specs.Cells.{sumOf, SumSmall, SumAsked, powerBound, valueBound}
 use Rattle.table.proofs.LineSum.{name-made, terms-end}
 
 -- x is the sum up to place i
@@ -33,18 +33,18 @@ term numbers values i = getD numbers i (pos 0) *ℤ getD values (natAbs (getD nu
 pub record Turn (numbers : List ℤ) (count : ℕ) (values : List ℤ) (n i : ℕ) (x : ℤ) : Type 0 where
   pub made : natAbs (getD numbers (i + 1) (pos 0)) < n
   pub size : pos 0 ≤ℤ getD numbers (i + 1) (pos 0)
-  pub product : Bounded (2 ^ 31) (term numbers values i)
-  pub total : Bounded (2 ^ 30) (x +ℤ term numbers values i)
+  pub product : Bounded powerBound (term numbers values i)
+  pub total : Bounded valueBound (x +ℤ term numbers values i)
   pub next : Summing numbers count values n (i + 2) (x +ℤ term numbers values i)
 
 -- a sum that is small with further terms is small without them
-small-now : (vs : List ℤ) (x : ℤ) (ts : List Term) → SumSmall vs x ts → Bounded (2 ^ 30) x
+small-now : (vs : List ℤ) (x : ℤ) (ts : List Term) → SumSmall vs x ts → Bounded valueBound x
 unfolding SumSmall
 small-now vs x [] s = s
 small-now vs x (t ∷ ts) s = s .0
 
-step-bounded : (x t : ℤ) → Bounded (2 ^ 30) x → Bounded (2 ^ 30) (x +ℤ t) → Bounded (2 ^ 31) t
-step-bounded x t s u = subst (Bounded (2 ^ 31)) step (bounded-difference u s)
+step-bounded : (x t : ℤ) → Bounded valueBound x → Bounded valueBound (x +ℤ t) → Bounded powerBound t
+step-bounded x t s u = subst (Bounded powerBound) step (bounded-difference u s)
   where
     step : x +ℤ t -ℤ x ≡ t
     step = omega (linear, plus x t)
@@ -99,13 +99,13 @@ module _ (numbers : List ℤ) (count : ℕ) (values : List ℤ) (n : ℕ) (asked
         value : getD (take n values) (natAbs v) (pos 0) ≡ getD values (natAbs v) (pos 0)
         value = getD-take n values (natAbs v) (pos 0) (name .1)
 
-        steps : Bounded (2 ^ 30) x × SumSmall (take n values) (x +ℤ c *ℤ getD (take n values) (natAbs v) (pos 0)) rest
+        steps : Bounded valueBound x × SumSmall (take n values) (x +ℤ c *ℤ getD (take n values) (natAbs v) (pos 0)) rest
         steps = rw listed at (s .small)
 
         later : SumSmall (take n values) (x +ℤ term numbers values i) rest
         later = rw value at (steps .1)
 
-        now : Bounded (2 ^ 30) (x +ℤ term numbers values i)
+        now : Bounded valueBound (x +ℤ term numbers values i)
         now = small-now (take n values) _ rest later
 
     pub summing-end : count - 1 ≤ i → x ≡ sumOf (take count numbers) (take n values)

@@ -16,16 +16,16 @@ use Rattle.meaning.proofs.Law.{Within, low-end, high-end}
 use Rattle.meaning.proofs.Gadget.Sum.{Named, Between, scaled-between, added-between}
 use Rattle.number.specs.Bounded.{Bounded}
 use Rattle.number.proofs.Bounded.{bounded-more, bounded-range}
-use Rattle.table.specs.Cells.{SumSmall}
+use Rattle.table.specs.Cells.{SumSmall, valueBound}
 
-ends-bounded : (p : ℕ) (es : Ends) (x : ℤ) → half p ≤ 2 ^ 30 → T (endsInRange p es) → Between es x → Bounded (2 ^ 30) x
+ends-bounded : (p : ℕ) (es : Ends) (x : ℤ) → half p ≤ valueBound → T (endsInRange p es) → Between es x → Bounded valueBound x
 unfolding endsInRange inRange lowest highest
 ends-bounded p es x h t b =
     let low = between-iff (lowest p) (es .E) (highest p) .0 (left (inRange p (es .E)) (inRange p (es .F)) t) .0 in
     let high = between-iff (lowest p) (es .F) (highest p) .0 (right (inRange p (es .E)) (inRange p (es .F)) t) .1 in
     bounded-more (bounded-range x (omega (linear, b .0, low)) (omega (linear, b .1, high))) h
 
-module _ (s : Known) (vs : List ℤ) (within : Within (s .known) vs) (small : half (s .p) ≤ 2 ^ 30) where
+module _ (s : Known) (vs : List ℤ) (within : Within (s .known) vs) (small : half (s .p) ≤ valueBound) where
   sum-small-from : (es : Ends) (x : ℤ) (ts : List Term) → Named s ts → Between es x → T (sumFits s es ts) → SumSmall vs x ts
   unfolding SumSmall sumFits
   sum-small-from es x [] n b t = ends-bounded (s .p) es x small t b

@@ -19,6 +19,16 @@ use Rattle.number.specs.Bounded.{Bounded}
 use Rattle.table.specs.declared.value.Worked.{Worked}
 use Rattle.table.specs.declared.value.Worked.the-variants.{Value, NoValue, False}
 
+-- the size of a value, of a power c = b^k, and of a form with its shift, by which nothing that a line computes leaves a machine word
+abbrev pub valueBound : ℕ
+valueBound = 2 ^ 30
+
+abbrev pub powerBound : ℕ
+powerBound = 2 ^ 31
+
+abbrev pub formBound : ℕ
+formBound = 2 ^ 61
+
 -- the values that the line makes, where its statement is true
 unfoldable pub workedSeen : Worked → Option (List ℤ)
 workedSeen (Value z) = some (z ∷ [])
@@ -30,7 +40,7 @@ pub record GroupOf (b k c : ℕ) : Type 0 where
   pub base : 2 ≤ b
   pub some-digit : 1 ≤ k
   pub power : c ≡ b ^ k
-  pub small : c ≤ 2 ^ 31
+  pub small : c ≤ powerBound
 
 -- f and w, for t modulo p: the last two cells of `signCells`
 unfoldable pub flagCells : (p t : ℕ) → List ℕ
@@ -61,8 +71,8 @@ sumOf ns vs = sumValue vs (numberAt ns 0) (termsOf (withoutFirst ns))
 
 -- the sum so far, and after each further term, is small
 unfoldable pub SumSmall : List ℤ → ℤ → List Term → Type 0
-SumSmall vs x [] = Bounded (2 ^ 30) x
-SumSmall vs x (t ∷ ts) = Bounded (2 ^ 30) x × SumSmall vs (x +ℤ t .coefficient *ℤ valueAt vs (t .value)) ts
+SumSmall vs x [] = Bounded valueBound x
+SumSmall vs x (t ∷ ts) = Bounded valueBound x × SumSmall vs (x +ℤ t .coefficient *ℤ valueAt vs (t .value)) ts
 
 -- what the sum of a line takes: the line's numbers are the first count, and the values before it the first n; its terms name
 -- values, and no step of the sum is great

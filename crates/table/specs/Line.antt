@@ -14,6 +14,7 @@ use Rattle.meaning.proofs.Kept.{Keeps}
 use Rattle.meaning.proofs.Lines.{Sound}
 use Rattle.reader.specs.State.{greatest, Small}
 use Rattle.reader.specs.Told.{lineWith}
+use Rattle.text.specs.Parsed.{mostNumbers}
 
 -- a line with this word, whose numbers are the first count of numbers; it keeps the rules in the state before it
 pub record KeptLine (w : Word) (numbers : List ℤ) (count : ℕ) : Type 0 where
@@ -23,9 +24,9 @@ pub record KeptLine (w : Word) (numbers : List ℤ) (count : ℕ) : Type 0 where
   pub sound : Sound line state
   pub keeps : Keeps line state (lineWith w (take count numbers))
   pub p-most : isField w ≡ false → state .p ≤ greatest
-  pub numbers-long : length numbers ≡ 33
+  pub numbers-long : length numbers ≡ mostNumbers
   pub counted : isCount w count ≡ true
-  pub few : count ≤ 33
+  pub few : count ≤ mostNumbers
   pub small : Small count numbers
 
 module _ {w : Word} {numbers : List ℤ} {count : ℕ} (l : KeptLine w numbers count) where

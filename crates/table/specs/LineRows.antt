@@ -8,7 +8,7 @@ use lib.ListN.{length, getD, take}
 use Rattle.algebra.specs.Digits.{Below}
 use Rattle.meaning.specs.Line.{Word}
 use Rattle.meaning.specs.Row.{holds}
-use Rattle.meaning.specs.Refusal.{isField}
+use Rattle.meaning.specs.Refusal.{isField, valueLimit}
 use Rattle.meaning.specs.Reply.{firstFail}
 use Rattle.table.specs.Rows.{rowsSeen}
 use Rattle.table.specs.Line.{KeptLine, gadgetOf, knownCount}
@@ -21,7 +21,7 @@ pub record RowsAsked (p : ℕ) (w : Word) (numbers : List ℤ) (count : ℕ) (ta
   pub below : Below p table
   pub cells-are : kept .state .cells ≡ cells
   pub room : cells + gadgetOf kept .width ≤ length table
-  pub places-long : length places ≡ 256
+  pub places-long : length places ≡ valueLimit
   pub places-are : kept .state .places ≡ take (knownCount kept) places
   pub inside : (v : ℕ) → v < knownCount kept → getD places v 0 < length table
 

@@ -8,7 +8,7 @@ use lib.IntN.{ℤ}
 use lib.ListN.{length, take, drop}
 use Rattle.meaning.specs.Line.{Word}
 use Rattle.meaning.specs.Gadget.Interface.{Gadget}
-use Rattle.meaning.specs.Refusal.{isField}
+use Rattle.meaning.specs.Refusal.{isField, valueLimit}
 use Rattle.meaning.proofs.Law.{Within}
 use Rattle.table.specs.Line.{KeptLine, gadgetOf, knownCount}
 use Rattle.table.specs.Cells.{workedSeen}
@@ -19,7 +19,7 @@ use Rattle.table.specs.declared.value.Worked.{Worked}
 -- values has the values before the line, each between its ends
 pub record ValuesAsked (w : Word) (numbers : List ℤ) (count : ℕ) (values : List ℤ) : Type 0 where
   pub kept : KeptLine w numbers count
-  pub values-long : length values ≡ 256
+  pub values-long : length values ≡ valueLimit
   pub within : Within (kept .state .known) (take (knownCount kept) values)
 
 -- the answer is the values that the line makes, where its statement is true

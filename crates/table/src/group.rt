@@ -20,10 +20,11 @@ ghost use Rattle.meaning.specs.Reply.{firstFail};
 ghost use Rattle.meaning.specs.Gadget.Digits.{groupCells};
 ghost use Rattle.number.specs.Bounded.{Bounded};
 ghost use Rattle.table.specs.Rows.{rowsSeen, Leaves};
+ghost use Rattle.table.specs.Cells.{formBound, powerBound};
 
 // c = b ^ k.
 pub fn power_of(b: u32, k: usize) -> u64
-    requires { ⌜ (k ≤ 31) × (b ^ k ≤ 2 ^ 31) ⌝ }
+    requires { ⌜ (k ≤ 31) × (b ^ k ≤ powerBound) ⌝ }
     ensures { λ r. ⌜ r ≡ b ^ k ⌝ }
 {
     match capped_power(b as u64, k as u32, 2147483648) {
@@ -34,7 +35,7 @@ pub fn power_of(b: u32, k: usize) -> u64
 
 // How far x and y are from each other.
 pub fn apart(x: i64, y: i64) -> u64
-    requires { ⌜ Bounded (2 ^ 61) x × Bounded (2 ^ 61) y ⌝ }
+    requires { ⌜ Bounded formBound x × Bounded formBound y ⌝ }
     ensures { λ r. ⌜ r ≡ natAbs (x -ℤ y) ⌝ }
 {
     if x <= y {
@@ -62,7 +63,7 @@ pub fn group_cells(out: &mut [u32], n: u64, b: u32, k: usize)
 
 // The group over a whole number with a shift.
 pub fn form_cells(out: &mut [u32], form: i64, shift: i64, b: u32, k: usize)
-    requires { ⌜ (0 < b) × (k ≤ length (now out)) × Bounded (2 ^ 61) form × Bounded (2 ^ 61) shift ⌝ }
+    requires { ⌜ (0 < b) × (k ≤ length (now out)) × Bounded formBound form × Bounded formBound shift ⌝ }
     ensures { λ _. ⌜ now (out .exit) ≡ groupCells b k form shift ++ drop k (now (out .entry)) ⌝ }
 {
     group_cells(out, apart(form, shift), b, k);
@@ -70,7 +71,7 @@ pub fn form_cells(out: &mut [u32], form: i64, shift: i64, b: u32, k: usize)
 
 // Two groups with shift 0, one after the other.
 pub fn two_groups(out: &mut [u32], first: i64, second: i64, b: u32, k: usize)
-    requires { ⌜ (0 < b) × (k + k ≤ length (now out)) × Bounded (2 ^ 61) first × Bounded (2 ^ 61) second ⌝ }
+    requires { ⌜ (0 < b) × (k + k ≤ length (now out)) × Bounded formBound first × Bounded formBound second ⌝ }
     ensures { λ _. ⌜ now (out .exit) ≡ groupCells b k first (pos 0) ++ groupCells b k second (pos 0) ++ drop (k + k) (now (out .entry)) ⌝ }
 {
     form_cells(out, first, 0, b, k);

@@ -34,7 +34,7 @@ ghost use Rattle.meaning.specs.Row.{holds};
 ghost use Rattle.meaning.specs.Reply.{firstFail};
 ghost use Rattle.meaning.specs.Gadget.Max.{maxLine};
 ghost use Rattle.number.specs.Bounded.{Bounded};
-ghost use Rattle.table.specs.Cells.{workedSeen, maxCells};
+ghost use Rattle.table.specs.Cells.{workedSeen, maxCells, valueBound};
 ghost use Rattle.table.specs.Rows.{rowsSeen};
 ghost use Rattle.table.specs.LineValues.{ValuesAsked, WorkTold, CellsAsked, CellsTold};
 ghost use Rattle.table.specs.LineRows.{RowsAsked, RowsTold};
@@ -49,7 +49,7 @@ fn max_value(u: i64, v: i64) -> i64
 }
 
 fn max_works(u: i64, v: i64, c: u64) -> Worked
-    requires { ⌜ Bounded (2 ^ 30) u × Bounded (2 ^ 30) v ⌝ }
+    requires { ⌜ Bounded valueBound u × Bounded valueBound v ⌝ }
     ensures { λ r. ⌜ ((b k : ℕ) → c ≡ b ^ k → workedSeen r ≡ cond (ltb (natAbs (u -ℤ v)) (b ^ k)) (some (larger u v ∷ [])) none) ⌝ }
 {
     if apart(u, v) < c {
@@ -74,7 +74,7 @@ pub fn max_line_works(numbers: &[i64], values: &[i64]) -> Worked
 // ---- cells
 
 fn max_cells(out: &mut [u32], p: u32, u: i64, v: i64, b: u32, k: usize)
-    requires { ⌜ (0 < p) × (0 < b) × (suc (2 * k) ≤ length (now out)) × Bounded (2 ^ 30) u × Bounded (2 ^ 30) v ⌝ }
+    requires { ⌜ (0 < p) × (0 < b) × (suc (2 * k) ≤ length (now out)) × Bounded valueBound u × Bounded valueBound v ⌝ }
     ensures { λ _. ⌜ now (out .exit) ≡ maxCells p b k u v ++ drop (suc (2 * k)) (now (out .entry)) ⌝ }
 {
     let y = max_value(u, v);

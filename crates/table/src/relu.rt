@@ -35,7 +35,7 @@ ghost use Rattle.meaning.specs.Gadget.Sign.{signStatement, signCells};
 ghost use Rattle.meaning.specs.Gadget.Relu.{reluLine};
 ghost use Rattle.meaning.proofs.Number.{OddPrime};
 ghost use Rattle.number.specs.Bounded.{Bounded};
-ghost use Rattle.table.specs.Cells.{workedSeen, GroupOf};
+ghost use Rattle.table.specs.Cells.{workedSeen, GroupOf, powerBound, valueBound};
 ghost use Rattle.table.specs.Rows.{rowsSeen};
 ghost use Rattle.table.specs.LineValues.{ValuesAsked, WorkTold, CellsAsked, CellsTold};
 ghost use Rattle.table.specs.LineRows.{RowsAsked, RowsTold};
@@ -50,7 +50,7 @@ fn relu_value(v: i64) -> i64
 }
 
 fn relu_works(v: i64, b: u32, c: u64) -> Worked
-    requires { ⌜ (0 < b) × (c ≤ 2 ^ 31) ⌝ }
+    requires { ⌜ (0 < b) × (c ≤ powerBound) ⌝ }
     ensures { λ r. ⌜ ((k : ℕ) → 1 ≤ k → c ≡ b ^ k → workedSeen r ≡ cond (signStatement b k v) (some (larger (pos 0) v ∷ [])) none) ⌝ }
 {
     if sign_works(v, b, c) {
@@ -74,7 +74,7 @@ pub fn relu_line_works(numbers: &[i64], values: &[i64]) -> Worked
 // ---- cells
 
 fn relu_cells(out: &mut [u32], p: u32, v: i64, b: u32, k: usize, c: u64)
-    requires { ⌜ OddPrime p × GroupOf b k c × (k + 3 ≤ length (now out)) × Bounded (2 ^ 30) v ⌝ }
+    requires { ⌜ OddPrime p × GroupOf b k c × (k + 3 ≤ length (now out)) × Bounded valueBound v ⌝ }
     ensures { λ _. ⌜ now (out .exit) ≡ (remainder p (larger (pos 0) v) ∷ signCells p b k v) ++ drop (k + 3) (now (out .entry)) ⌝ }
 {
     value_cell(out, p, relu_value(v));

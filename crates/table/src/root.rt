@@ -37,7 +37,7 @@ ghost use Rattle.meaning.specs.Row.{Form, holds};
 ghost use Rattle.meaning.specs.Reply.{firstFail};
 ghost use Rattle.meaning.specs.Gadget.Root.{rootValue, rootLine};
 ghost use Rattle.number.specs.Bounded.{Bounded};
-ghost use Rattle.table.specs.Cells.{workedSeen, restCells, rootCells};
+ghost use Rattle.table.specs.Cells.{workedSeen, restCells, rootCells, powerBound, valueBound};
 ghost use Rattle.table.specs.Rows.{rowsSeen, Leaves, fourGroups};
 ghost use Rattle.table.specs.LineValues.{ValuesAsked, WorkTold, CellsAsked, CellsTold};
 ghost use Rattle.table.specs.LineRows.{RowsAsked, RowsTold};
@@ -45,14 +45,14 @@ ghost use Rattle.table.specs.LineRows.{RowsAsked, RowsTold};
 // ---- working
 
 fn root_value(v: i64) -> i64
-    requires { ⌜ Bounded (2 ^ 30) v ⌝ }
+    requires { ⌜ Bounded valueBound v ⌝ }
     ensures { λ r. ⌜ r ≡ rootValue v ⌝ }
 {
     square_root(apart(v, 0)) as i64
 }
 
 fn root_works(v: i64, c: u64) -> Worked
-    requires { ⌜ Bounded (2 ^ 30) v × (c ≤ 2 ^ 31) ⌝ }
+    requires { ⌜ Bounded valueBound v × (c ≤ powerBound) ⌝ }
     ensures { λ r. ⌜ ((b k : ℕ) → c ≡ b ^ k → workedSeen r ≡ cond (between (pos 0) v (pos (b ^ k) -ℤ pos 1)) (some (rootValue v ∷ [])) none) ⌝ }
 {
     let top = c as i64 - 1;
@@ -77,7 +77,7 @@ pub fn root_line_works(numbers: &[i64], values: &[i64]) -> Worked
 // ---- cells
 
 fn root_cells(out: &mut [u32], p: u32, v: i64, b: u32, k: usize)
-    requires { ⌜ (0 < p) × (0 < b) × (2 + 4 * k ≤ length (now out)) × Bounded (2 ^ 30) v ⌝ }
+    requires { ⌜ (0 < p) × (0 < b) × (2 + 4 * k ≤ length (now out)) × Bounded valueBound v ⌝ }
     ensures { λ _. ⌜ now (out .exit) ≡ rootCells p b k v ++ drop (2 + 4 * k) (now (out .entry)) ⌝ }
 {
     let r = root_value(v);
@@ -89,7 +89,7 @@ fn root_cells(out: &mut [u32], p: u32, v: i64, b: u32, k: usize)
 
 // The cells of r and of its square.
 fn square_cells(out: &mut [u32], p: u32, r: i64)
-    requires { ⌜ (0 < p) × (2 ≤ length (now out)) × Bounded (2 ^ 30) r ⌝ }
+    requires { ⌜ (0 < p) × (2 ≤ length (now out)) × Bounded valueBound r ⌝ }
     ensures { λ _. ⌜ now (out .exit) ≡ remainder p r ∷ remainder p (r *ℤ r) ∷ drop 2 (now (out .entry)) ⌝ }
 {
     value_cell(out, p, r);
@@ -98,7 +98,7 @@ fn square_cells(out: &mut [u32], p: u32, r: i64)
 
 // The groups over v less the square of r, and over what is left from v up to the last number before the next square.
 fn rest_cells(out: &mut [u32], v: i64, r: i64, b: u32, k: usize)
-    requires { ⌜ (0 < b) × (k + k ≤ length (now out)) × Bounded (2 ^ 30) v × Bounded (2 ^ 30) r ⌝ }
+    requires { ⌜ (0 < b) × (k + k ≤ length (now out)) × Bounded valueBound v × Bounded valueBound r ⌝ }
     ensures { λ _. ⌜ now (out .exit) ≡ restCells b k v r ++ drop (k + k) (now (out .entry)) ⌝ }
 {
     let q = r * r;

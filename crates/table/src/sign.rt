@@ -29,14 +29,14 @@ ghost use Rattle.meaning.specs.Reply.{firstFail};
 ghost use Rattle.meaning.specs.Gadget.Sign.{signStatement, signCells, signShift, signRows};
 ghost use Rattle.meaning.proofs.Number.{OddPrime};
 ghost use Rattle.number.specs.Bounded.{Bounded};
-ghost use Rattle.table.specs.Cells.{flagCells, GroupOf};
+ghost use Rattle.table.specs.Cells.{flagCells, GroupOf, powerBound};
 ghost use Rattle.table.specs.Rows.{rowsSeen, Leaves};
 
 // ---- working
 
 // Whether the statement is true of x, with c = b^k: c / b is b^(k-1).
 pub fn sign_works(x: i64, b: u32, c: u64) -> bool
-    requires { ⌜ (0 < b) × (c ≤ 2 ^ 31) ⌝ }
+    requires { ⌜ (0 < b) × (c ≤ powerBound) ⌝ }
     ensures { λ r. ⌜ ((k : ℕ) → 1 ≤ k → c ≡ b ^ k → r ≡ signStatement b k x) ⌝ }
 {
     let part = c / b as u64;
@@ -48,7 +48,7 @@ pub fn sign_works(x: i64, b: u32, c: u64) -> bool
 // ---- cells
 
 pub fn sign_cells(out: &mut [u32], p: u32, x: i64, b: u32, k: usize, c: u64)
-    requires { ⌜ OddPrime p × GroupOf b k c × (k + 2 ≤ length (now out)) × Bounded (2 ^ 31) x ⌝ }
+    requires { ⌜ OddPrime p × GroupOf b k c × (k + 2 ≤ length (now out)) × Bounded powerBound x ⌝ }
     ensures { λ _. ⌜ now (out .exit) ≡ signCells p b k x ++ drop (k + 2) (now (out .entry)) ⌝ }
 {
     let part = c / b as u64;

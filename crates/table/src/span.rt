@@ -30,12 +30,13 @@ ghost use Rattle.number.specs.Bounded.{Bounded};
 ghost use Rattle.table.specs.Rows.{rowsSeen};
 ghost use Rattle.table.specs.LineValues.{ValuesAsked, WorkTold, CellsAsked, CellsTold};
 ghost use Rattle.table.specs.LineRows.{RowsAsked, RowsTold};
+ghost use Rattle.table.specs.Cells.{powerBound};
 
 // ---- working
 
 // Whether the line's statement is true, of every b and k with the power c.
 fn span_works(v: i64, c: u64, shift: i64) -> bool
-    requires { ⌜ (0 < c) × (c ≤ 2 ^ 31) × Bounded (2 ^ 31) shift ⌝ }
+    requires { ⌜ (0 < c) × (c ≤ powerBound) × Bounded powerBound shift ⌝ }
     ensures { λ r. ⌜ ((b k : ℕ) → c ≡ b ^ k → r ≡ between shift v (spanTop b k shift)) ⌝ }
 {
     let top = shift + (c - 1) as i64;

@@ -34,7 +34,7 @@ ghost use Rattle.meaning.specs.Gadget.Sign.{signStatement, signCells};
 ghost use Rattle.meaning.specs.Gadget.Which.{whichValue, whichLine};
 ghost use Rattle.meaning.proofs.Number.{OddPrime};
 ghost use Rattle.number.specs.Bounded.{Bounded};
-ghost use Rattle.table.specs.Cells.{workedSeen, GroupOf};
+ghost use Rattle.table.specs.Cells.{workedSeen, GroupOf, powerBound, valueBound};
 ghost use Rattle.table.specs.Rows.{rowsSeen};
 ghost use Rattle.table.specs.LineValues.{ValuesAsked, WorkTold, CellsAsked, CellsTold};
 ghost use Rattle.table.specs.LineRows.{RowsAsked, RowsTold};
@@ -48,7 +48,7 @@ fn which_value(u: i64, v: i64) -> i64
 }
 
 fn which_works(u: i64, v: i64, b: u32, c: u64) -> Worked
-    requires { ⌜ (0 < b) × (c ≤ 2 ^ 31) × Bounded (2 ^ 30) u × Bounded (2 ^ 30) v ⌝ }
+    requires { ⌜ (0 < b) × (c ≤ powerBound) × Bounded valueBound u × Bounded valueBound v ⌝ }
     ensures { λ r. ⌜ ((k : ℕ) → 1 ≤ k → c ≡ b ^ k → workedSeen r ≡ cond (signStatement b k (u -ℤ v)) (some (whichValue u v ∷ [])) none) ⌝ }
 {
     if sign_works(u - v, b, c) {
@@ -73,7 +73,7 @@ pub fn which_line_works(numbers: &[i64], values: &[i64]) -> Worked
 // ---- cells
 
 fn which_cells(out: &mut [u32], p: u32, u: i64, v: i64, b: u32, k: usize, c: u64)
-    requires { ⌜ OddPrime p × GroupOf b k c × (k + 3 ≤ length (now out)) × Bounded (2 ^ 30) u × Bounded (2 ^ 30) v ⌝ }
+    requires { ⌜ OddPrime p × GroupOf b k c × (k + 3 ≤ length (now out)) × Bounded valueBound u × Bounded valueBound v ⌝ }
     ensures { λ _. ⌜ now (out .exit) ≡ (remainder p (whichValue u v) ∷ signCells p b k (u -ℤ v)) ++ drop (k + 3) (now (out .entry)) ⌝ }
 {
     value_cell(out, p, which_value(u, v));

@@ -8,28 +8,27 @@ use native.Mathlib.Omega.{arith}
 use lib.IntN.{ℤ, pos, natAbs}
 use lib.ListN.{length, getD, take}
 use lib.Seq.{length-take-le, getD-take}
-use Rattle.meaning.specs.Text.{fieldsOf, number}
+use Rattle.meaning.specs.Text.{fieldsOf, number, largest}
 use Rattle.meaning.specs.Line.{words, wordAmong, isCount, consNumber, numbersOf, assemble, lineOfFields, lineOf}
 use Rattle.meaning.specs.Line.{Word as MeantWord, Line as MeantLine}
 use Rattle.text.specs.declared.Word.{Word}
 use Rattle.text.specs.declared.Parsed.{Parsed}
 use Rattle.text.specs.declared.Parsed.the-variants.{Line, NoLine}
 use Rattle.text.specs.Word.{wordOf}
-use Rattle.text.specs.Parsed.{parsedSeen, countSeen, LineRead}
+use Rattle.text.specs.Parsed.{parsedSeen, countSeen, LineRead, mostNumbers}
 use Rattle.text.proofs.Bytes.{none-some}
 use Rattle.text.proofs.Numbers.{number-small}
-use Rattle.text.specs.Number.{mostSize}
 
 -- ---- every line that the definition reads is good
 
 abbrev pub Small : List ℤ → Type 0
-Small ns = (i : ℕ) → natAbs (getD ns i (pos 0)) ≤ mostSize
+Small ns = (i : ℕ) → natAbs (getD ns i (pos 0)) ≤ largest
 
 pub record GoodLine (l : MeantLine) : Type 0 where
   pub counted : isCount (l .word) (length (l .numbers)) ≡ true
   pub small : Small (l .numbers)
 
-cons-small : (first : Option ℤ) (rest : Option (List ℤ)) (ns : List ℤ) → ((z : ℤ) → first ≡ some z → natAbs z ≤ mostSize)
+cons-small : (first : Option ℤ) (rest : Option (List ℤ)) (ns : List ℤ) → ((z : ℤ) → first ≡ some z → natAbs z ≤ largest)
     → ((ms : List ℤ) → rest ≡ some ms → Small ms) → consNumber first rest ≡ some ns → Small ns
 unfolding consNumber
 cons-small none rest ns small later q i = absurd (none-some q)
@@ -73,12 +72,12 @@ module _ {line : List ℕ} {before after : List ℤ} {r : Parsed} (read : LineRe
     unfolding parsedSeen
     line-seen = sym (read .seen) ∙ rw q
 
-    pub line-most : n ≤ 33
+    pub line-most : n ≤ mostNumbers
     unfolding countSeen
     line-most = rw q at (read .most)
 
-    pub line-counted : length before ≡ 33 → isCount (wordOf w) n ≡ true
+    pub line-counted : length before ≡ mostNumbers → isCount (wordOf w) n ≡ true
     line-counted room = rw (length-take-le n after (omega (arith, read .kept, line-most))) at (good-line line line-seen .counted)
 
-    pub line-small : (i : ℕ) → i < n → natAbs (getD after i (pos 0)) ≤ mostSize
+    pub line-small : (i : ℕ) → i < n → natAbs (getD after i (pos 0)) ≤ largest
     line-small i h = rw (getD-take n after i (pos 0) h) at (good-line line line-seen .small i)

@@ -23,7 +23,7 @@ use Rattle.text.specs.declared.Parsed.the-variants.{Line}
 use Rattle.text.specs.Number.{NumberRead}
 use Rattle.text.specs.Word.{wordOf, wordSeen}
 use Rattle.text.specs.Place.{Found}
-use Rattle.text.specs.Parsed.{parsedSeen}
+use Rattle.text.specs.Parsed.{parsedSeen, mostNumbers}
 use Rattle.text.proofs.Bytes.{and-false}
 use Rattle.text.proofs.Numbers.{number-is-none, number-is, number-ends}
 use Rattle.text.proofs.Places.{partsAfter, parts-from, parts-none, fields-some, fields-next}
@@ -47,18 +47,18 @@ after-next ns n (some ms) = ap some (sym (append-assoc ns (n ∷ []) ms))
 
 -- ---- no word has more than 33 numbers
 
-count-over : (w : MeantWord) (n : ℕ) → 33 < n → isCount w n ≡ false
+count-over : (w : MeantWord) (n : ℕ) → mostNumbers < n → isCount w n ≡ false
 unfolding isCount
 count-over field n h = ne-eqb n 1 (λ e. omega arith)
 count-over input n h = ne-eqb n 0 (λ e. omega arith)
 count-over span n h = ne-eqb n 4 (λ e. omega arith)
-count-over sum n h = rw (lt-leb n 33 h) (and-false (eqb (n % 2) 1))
+count-over sum n h = rw (lt-leb n mostNumbers h) (and-false (eqb (n % 2) 1))
 count-over relu n h = ne-eqb n 3 (λ e. omega arith)
 count-over which n h = ne-eqb n 4 (λ e. omega arith)
 count-over max n h = ne-eqb n 4 (λ e. omega arith)
 count-over root n h = ne-eqb n 3 (λ e. omega arith)
 
-after-full : (w : MeantWord) (ns : List ℤ) (first : Option ℤ) (rest : Option (List ℤ)) → length ns ≡ 33
+after-full : (w : MeantWord) (ns : List ℤ) (first : Option ℤ) (rest : Option (List ℤ)) → length ns ≡ mostNumbers
     → assemble (some w) (afterNumbers ns (consNumber first rest)) ≡ none
 unfolding assemble afterNumbers consNumber
 after-full w ns none rest h = refl
@@ -100,8 +100,8 @@ module _ (line : List ℕ) (w : Word) (end : ℕ) (h : end < length line) {r : N
       rw (fields-next line end h (number-ends line (end + 1) read q), number-is line (end + 1) read q, more)
       (ap (assemble (some (wordOf w))) (after-next (take count numbers) n (numbersOf (partsAfter 9 line next))))
 
-module _ (line : List ℕ) (w : Word) (numbers : List ℤ) (end count : ℕ) (room : length numbers ≡ 33) (most : count ≤ 33) where
-  pub line-full : end < length line → 33 ≤ count → lineAfter w (take count numbers) (partsAfter 9 line end) ≡ none
+module _ (line : List ℕ) (w : Word) (numbers : List ℤ) (end count : ℕ) (room : length numbers ≡ mostNumbers) (most : count ≤ mostNumbers) where
+  pub line-full : end < length line → mostNumbers ≤ count → lineAfter w (take count numbers) (partsAfter 9 line end) ≡ none
   unfolding lineAfter numbersOf
   line-full h full = rw (fields-some line end h) (after-full (wordOf w) (take count numbers) _ _ (omega (arith, length-take-le count numbers (omega arith))))
 

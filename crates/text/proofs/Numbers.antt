@@ -19,7 +19,7 @@ use Rattle.text.specs.declared.NumberAt.{NumberAt}
 use Rattle.text.specs.declared.NumberAt.the-variants.{Of as OfAt, NoNumber as NoNumberAt}
 use Rattle.text.specs.declared.Size.{Size}
 use Rattle.text.specs.declared.Size.the-variants.{Small, NoSize}
-use Rattle.text.specs.Number.{numberSeen, plainSize, SizeRead, NumberRead, mostSize}
+use Rattle.text.specs.Number.{numberSeen, plainSize, SizeRead, NumberRead}
 use Rattle.text.specs.Place.{indexOf, Found, fieldAt}
 use Rattle.text.proofs.Bytes.{and-false, none-some}
 use Rattle.text.proofs.Places.{index-end, found-next, field-empty, field-byte, field-more, field-length, field-whole}
@@ -51,8 +51,8 @@ unfoldable pub digitsAfter : ℕ → List ℕ → Option ℕ
 digitsAfter n xs = cond (allDigits xs && leb (decimal n xs) largest) (some (decimal n xs)) none
 
 module _ (line : List ℕ) (i n : ℕ) where
-  pub digits-end : indexOf 9 (drop i line) ≡ 0 → n ≤ mostSize → digitsAfter n (fieldAt line i) ≡ some n
-  unfolding digitsAfter allDigits decimal largest
+  pub digits-end : indexOf 9 (drop i line) ≡ 0 → n ≤ largest → digitsAfter n (fieldAt line i) ≡ some n
+  unfolding digitsAfter allDigits decimal
   digits-end q small = rw (field-empty line i q) (simp (le-leb _ _ small))
 
   module _ (h : i < length line) where
@@ -70,9 +70,9 @@ unfolding decimal
 decimal-grows n [] = omega arith
 decimal-grows n (x ∷ xs) = omega (arith, decimal-grows (10 * n + (x - 48)) xs)
 
-pub digits-over : (n : ℕ) (xs : List ℕ) → mostSize < n → digitsAfter n xs ≡ none
-unfolding digitsAfter largest
-digits-over n xs h = rw (lt-leb (decimal n xs) mostSize (omega (arith, decimal-grows n xs)), and-false (allDigits xs))
+pub digits-over : (n : ℕ) (xs : List ℕ) → largest < n → digitsAfter n xs ≡ none
+unfolding digitsAfter
+digits-over n xs h = rw (lt-leb (decimal n xs) largest (omega (arith, decimal-grows n xs)), and-false (allDigits xs))
 
 -- ---- a size: a law for each way in and out of `size_from`
 
@@ -96,25 +96,25 @@ module _ (line : List ℕ) (at : ℕ) where
     unfolding plainSize digitsAfter isPlain
     size-digits high = rw (field-more line at h (λ e. omega arith)) (simp (ne-eqb (getD line at 0) 48 (λ e. omega arith)))
 
-small-at : (plain small : Bool) (m n : ℕ) → leb m mostSize ≡ small → cond (plain && small) (some m) none ≡ some n → n ≤ mostSize
-small-at true true m n p q = let e : m ≡ n = cc in omega (arith, leb-true m mostSize p)
+small-at : (plain small : Bool) (m n : ℕ) → leb m largest ≡ small → cond (plain && small) (some m) none ≡ some n → n ≤ largest
+small-at true true m n p q = let e : m ≡ n = cc in omega (arith, leb-true m largest p)
 small-at true false m n p q = absurd (none-some q)
 small-at false small m n p q = absurd (none-some q)
 
-plain-small : (xs : List ℕ) (n : ℕ) → plainSize xs ≡ some n → n ≤ mostSize
-unfolding plainSize largest
-plain-small xs n q = small-at (isPlain xs) (leb (decimal 0 xs) mostSize) (decimal 0 xs) n refl q
+plain-small : (xs : List ℕ) (n : ℕ) → plainSize xs ≡ some n → n ≤ largest
+unfolding plainSize
+plain-small xs n q = small-at (isPlain xs) (leb (decimal 0 xs) largest) (decimal 0 xs) n refl q
 
 -- ---- the sign, as the machine makes it
 
-sfits-pos : (n : ℕ) → n ≤ mostSize → SFits w64 (pos n)
+sfits-pos : (n : ℕ) → n ≤ largest → SFits w64 (pos n)
 sfits-pos n h = record { sfits = omega arith }
 
-sfits-neg : (n : ℕ) → n ≤ mostSize → SFits w64 (negℤ (pos n))
+sfits-neg : (n : ℕ) → n ≤ largest → SFits w64 (negℤ (pos n))
 sfits-neg zero h = record { sfits = omega arith }
 sfits-neg (suc n) h = record { sfits = omega arith }
 
-minus-is : (n : ℕ) → n ≤ mostSize → pos 0 -ℤ toZ w64 n ≡ negℤ (pos n)
+minus-is : (n : ℕ) → n ≤ largest → pos 0 -ℤ toZ w64 n ≡ negℤ (pos n)
 minus-is n h = rw (toZ-pos w64 n (omega arith)) (+ℤ-idl (negℤ (pos n)))
 
 sized-at : (t : Bool) (n : ℕ) (sign : ℕ → ℤ) (m : ℕ) → cond t (some n) none ≡ some m → cond t (some (sign n)) none ≡ some (sign m)
@@ -149,7 +149,7 @@ module _ (line : List ℕ) (at : ℕ) {r : Size} (read : SizeRead line at r) whe
     unfolding sized plainSize
     sized-is sign = let xs = fieldAt line at in sized-at (isPlain xs && leb (decimal 0 xs) largest) (decimal 0 xs) sign n size-is
 
-    size-small : n ≤ mostSize
+    size-small : n ≤ largest
     size-small = plain-small (fieldAt line at) n size-is
 
     pub size-fits : SFits w64 (pos n)
@@ -300,27 +300,27 @@ module _ (field : List ℕ) {r : NumberAt} (read : NumberRead field 0 r) where
 
 -- ---- no number is larger than the limit
 
-sized-small-at : (plain small : Bool) (m : ℕ) (sign : ℕ → ℤ) (z : ℤ) → natAbs (sign m) ≡ m → leb m mostSize ≡ small
-    → cond (plain && small) (some (sign m)) none ≡ some z → natAbs z ≤ mostSize
-sized-small-at true true m sign z size p q = let e : sign m ≡ z = cc in rw (← e) (omega (arith, leb-true m mostSize p))
+sized-small-at : (plain small : Bool) (m : ℕ) (sign : ℕ → ℤ) (z : ℤ) → natAbs (sign m) ≡ m → leb m largest ≡ small
+    → cond (plain && small) (some (sign m)) none ≡ some z → natAbs z ≤ largest
+sized-small-at true true m sign z size p q = let e : sign m ≡ z = cc in rw (← e) (omega (arith, leb-true m largest p))
 sized-small-at true false m sign z size p q = absurd (none-some q)
 sized-small-at false small m sign z size p q = absurd (none-some q)
 
-sized-small : (xs : List ℕ) (sign : ℕ → ℤ) (z : ℤ) → ((n : ℕ) → natAbs (sign n) ≡ n) → sized xs sign ≡ some z → natAbs z ≤ mostSize
-unfolding sized largest
-sized-small xs sign z size q = sized-small-at (isPlain xs) (leb (decimal 0 xs) mostSize) (decimal 0 xs) sign z (size (decimal 0 xs)) refl q
+sized-small : (xs : List ℕ) (sign : ℕ → ℤ) (z : ℤ) → ((n : ℕ) → natAbs (sign n) ≡ n) → sized xs sign ≡ some z → natAbs z ≤ largest
+unfolding sized
+sized-small xs sign z size q = sized-small-at (isPlain xs) (leb (decimal 0 xs) largest) (decimal 0 xs) sign z (size (decimal 0 xs)) refl q
 
 minus-size : (n : ℕ) → natAbs (negℤ (pos n)) ≡ n
 minus-size zero = refl
 minus-size (suc n) = refl
 
-signed-small : (zero-text minus-text : Bool) (minus plain : Option ℤ) (z : ℤ) → (minus ≡ some z → natAbs z ≤ mostSize)
-    → (plain ≡ some z → natAbs z ≤ mostSize) → cond zero-text (some (pos 0)) (cond minus-text minus plain) ≡ some z → natAbs z ≤ mostSize
+signed-small : (zero-text minus-text : Bool) (minus plain : Option ℤ) (z : ℤ) → (minus ≡ some z → natAbs z ≤ largest)
+    → (plain ≡ some z → natAbs z ≤ largest) → cond zero-text (some (pos 0)) (cond minus-text minus plain) ≡ some z → natAbs z ≤ largest
 signed-small true minus-text minus plain z m p q = let e : pos 0 ≡ z = cc in rw (← e) (omega arith)
 signed-small false true minus plain z m p q = m q
 signed-small false false minus plain z m p q = p q
 
-pub number-small : (field : List ℕ) {z : ℤ} → number field ≡ some z → natAbs z ≤ mostSize
+pub number-small : (field : List ℕ) {z : ℤ} → number field ≡ some z → natAbs z ≤ largest
 unfolding number
 number-small [] q = absurd (none-some q)
 number-small (x ∷ xs) {z} q =

@@ -15,10 +15,6 @@ use Rattle.text.specs.declared.Size.{Size}
 use Rattle.text.specs.declared.Size.the-variants.{Small, NoSize}
 use Rattle.text.specs.Place.{Found, fieldAt}
 
--- the largest size of a number, as a numeral that arithmetic sees: `largest` of `meaning` by its value
-abbrev pub mostSize : ℕ
-mostSize = 2147483647
-
 unfoldable pub numberSeen : Number → Option ℤ
 numberSeen (Of z) = some z
 numberSeen NoNumber = none

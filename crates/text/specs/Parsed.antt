@@ -20,8 +20,12 @@ unfoldable pub countSeen : Parsed → ℕ
 countSeen (Line w n) = n
 countSeen NoLine = 0
 
+-- the most numbers that a line has: those of a sum with 16 pairs
+abbrev pub mostNumbers : ℕ
+mostNumbers = 33
+
 -- the answer, with the numbers as they were left, is the line that the bytes spell
 pub record LineRead (line : List ℕ) (before after : List ℤ) (r : Parsed) : Type 0 where
   pub seen : parsedSeen r after ≡ lineOf line
-  pub most : countSeen r ≤ 33
+  pub most : countSeen r ≤ mostNumbers
   pub kept : length after ≡ length before

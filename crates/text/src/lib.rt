@@ -10,7 +10,7 @@ ghost use Rattle.meaning.specs.Line.{words, wordAmong, isCount};
 ghost use Rattle.text.specs.Number.{numberSeen, SizeRead, NumberRead};
 ghost use Rattle.text.specs.Word.{wordOf, wordSeen};
 ghost use Rattle.text.specs.Place.{Found};
-ghost use Rattle.text.specs.Parsed.{LineRead};
+ghost use Rattle.text.specs.Parsed.{LineRead, mostNumbers};
 
 // Bytes with a meaning of their own.
 const TAB: u8 = 9;
@@ -297,7 +297,7 @@ pub enum Parsed {
 // The line that the bytes spell: its word, and how many numbers follow it, which are then the first in `numbers`.
 // `end` is where the last field that was read ends, so that a field follows just where a byte, its tab, is there.
 pub fn line_of(line: &[u8], numbers: &mut [i64]) -> Parsed
-    requires { ⌜ length (now numbers) ≡ 33 ⌝ }
+    requires { ⌜ length (now numbers) ≡ mostNumbers ⌝ }
     ensures { λ r. ⌜ LineRead (now (line .entry)) (now (numbers .entry)) (now (numbers .exit)) r ⌝ }
 {
     let mut end = field_end(line, 0);

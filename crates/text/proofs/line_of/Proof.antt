@@ -5,7 +5,7 @@ use mir.Syntax.{w64}
 use mir.ValLaws.{toZ-ofZ}
 use lib.ListN.{length, take}
 use Rattle.meaning.specs.Line.{lineOf}
-use Rattle.text.specs.Parsed.{parsedSeen, countSeen}
+use Rattle.text.specs.Parsed.{parsedSeen, countSeen, mostNumbers}
 use Rattle.text.proofs.Places.{partsAfter}
 use Rattle.text.proofs.Numbers.{number-ends}
 use Rattle.text.proofs.Lines.{lineAfter, line-no-word, line-word, line-full, line-no-number, line-number, line-is, line-wrong-count}
@@ -16,7 +16,7 @@ use Rattle.text.proofs.line_of.Tie as tie
 
 abbrev Inv-loop : tie.InvT-loop
 Inv-loop line numbers₀ end₀ word count₀ numbers end count =
-    (end ≤ length line) × (count ≤ 33) × (length numbers ≡ 33)
+    (end ≤ length line) × (count ≤ mostNumbers) × (length numbers ≡ mostNumbers)
     × (lineOf line ≡ lineAfter word (take count numbers) (partsAfter 9 line end))
 
 abbrev μ-loop : tie.MeasureT-loop

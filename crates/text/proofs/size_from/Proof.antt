@@ -3,8 +3,8 @@ use mathlib.Core.Path.{_≡_, sym, _∙_}
 use mathlib.Core.Bool.{true}
 use Prim.Native.Nat.{_≤_, _+_, _*_, _-_}
 use lib.ListN.{length, getD, drop}
-use Rattle.meaning.specs.Text.{isDigit}
-use Rattle.text.specs.Number.{plainSize, SizeRead, mostSize}
+use Rattle.meaning.specs.Text.{isDigit, largest}
+use Rattle.text.specs.Number.{plainSize, SizeRead}
 use Rattle.text.specs.Place.{indexOf, fieldAt}
 use Rattle.text.proofs.Places.{index-here, index-past, index-end}
 use Rattle.text.proofs.Numbers.{digitsAfter, size-empty, size-low, size-digits, digit-bounds, digits-end, digits-not, digits-next, digits-over}
@@ -16,7 +16,7 @@ use Rattle.text.proofs.size_from.Tie as tie
 
 abbrev Inv-loop : tie.InvT-loop
 Inv-loop line at n₀ i₀ n i =
-    (at ≤ i) × (i ≤ length line) × (n ≤ mostSize) × (at + indexOf 9 (drop at line) ≡ i + indexOf 9 (drop i line))
+    (at ≤ i) × (i ≤ length line) × (n ≤ largest) × (at + indexOf 9 (drop at line) ≡ i + indexOf 9 (drop i line))
     × (plainSize (fieldAt line at) ≡ digitsAfter n (fieldAt line i))
 
 abbrev μ-loop : tie.MeasureT-loop

@@ -15,34 +15,34 @@ add-if2 : tie.Need-add-if2
 add-if2 c = search needs
 
 returns-2 : tie.Need-returns-2
-unfolding earlyBroken valueLimit
+unfolding earlyBroken
 returns-2 c =
     let a = c .before .before .args in
-    rw (not-false (a .named) (c .before .if1 .left), lt-leb (a .values + a .new) 256 (c .if2 .taken))
+    rw (not-false (a .named) (c .before .if1 .left), lt-leb (a .values + a .new) valueLimit (c .if2 .taken))
 
 add-if3 : tie.Need-add-if3
 add-if3 c = search needs
 
 returns-3 : tie.Need-returns-3
-unfolding earlyBroken valueLimit cellLimit
+unfolding earlyBroken
 returns-3 c =
     let a = c .before .before .before .args in
     rw (
       not-false (a .named) (c .before .before .if1 .left),
-      le-leb (a .values + a .new) 256 (c .before .if2 .left),
+      le-leb (a .values + a .new) valueLimit (c .before .if2 .left),
       lt-leb
-          (a .cells + a .width) 4096 (c .if3 .taken),
+          (a .cells + a .width) cellLimit (c .if3 .taken),
     )
 
 returns-4 : tie.Need-returns-4
-unfolding earlyBroken valueLimit cellLimit
+unfolding earlyBroken
 returns-4 c =
     let a = c .before .before .before .args in
     rw (
       not-false (a .named) (c .before .before .if1 .left),
-      le-leb (a .values + a .new) 256 (c .before .if2 .left),
+      le-leb (a .values + a .new) valueLimit (c .before .if2 .left),
       le-leb
-          (a .cells + a .width) 4096 (c .if3 .left),
+          (a .cells + a .width) cellLimit (c .if3 .left),
     )
 
 pub early-broken-spec : {M : Type 1} → statement M

@@ -8,6 +8,7 @@ use Rattle.service.proofs.Listed.{read-short}
 use Rattle.service.proofs.Standing.{line-is-there, took}
 use Rattle.service.proofs.walk.take_line.Statement.{statement}
 use Rattle.service.proofs.walk.take_line.Tie as tie
+use Rattle.meaning.specs.Refusal.{textLimit}
 
 line-end-requires : tie.Need-line-end-requires
 line-end-requires c κs = c .before .pre .0 .stands .inside
@@ -47,7 +48,7 @@ add-t11 : tie.Need-add-t11
 add-t11 c =
     let S = c .before .before .before .before .before .before .before .before .before .before .before in
     let high : c .before .before .before .before .before .before .before .before .before .line-end .result ≤ length (now (S .args .list)) = c .before .before .before .before .before .before .before .before .before .line-end .ensures .high in
-    let short : length (now (S .args .list)) ≤ 65536 = read-short _ _ _ (S .pre .0 .listed .is-read) in
+    let short : length (now (S .args .list)) ≤ textLimit = read-short _ _ _ (S .pre .0 .listed .is-read) in
     search (needs, high, short)
 
 same-length-2 : tie.Need-same-length-2

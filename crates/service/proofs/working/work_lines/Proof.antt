@@ -13,6 +13,7 @@ use Rattle.service.proofs.Listed.{read-short}
 use Rattle.service.proofs.Worked.{WorkingOn, working-first, working-end, working-false, working-next, value-inside, at-line, values-asked}
 use Rattle.service.proofs.working.work_lines.Statement.{statement}
 use Rattle.service.proofs.working.work_lines.Tie as tie
+use Rattle.meaning.specs.Refusal.{textLimit}
 
 abbrev Inv-loop : tie.InvT-loop
 Inv-loop list inputs values₀ numbers₀ counts₀ at₀ n₀ values numbers counts at n = WorkingOn list inputs numbers values counts at n
@@ -75,7 +76,7 @@ add-n c =
     let w = c .before .before .before .before .before .before .before .before .before .before .before .before .before .loop .inv in
     let numbered : c .before .before .before .before .before .before .before .before .before .before .before .before .before .loop .n ≤ c .before .before .before .before .before .before .before .before .before .before .before .before .before .loop .at = w .stands .numbered in
     let inside : c .before .before .before .before .before .before .before .before .before .before .before .before .before .loop .at ≤ length list = w .stands .inside in
-    let short : length list ≤ 65536 = read-short _ _ _ (w .asked .listed .is-read) in
+    let short : length list ≤ textLimit = read-short _ _ _ (w .asked .listed .is-read) in
     search (needs, numbered, inside, short)
 
 loop-less : tie.Need-loop-less Inv-loop μ-loop

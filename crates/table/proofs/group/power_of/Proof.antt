@@ -6,6 +6,7 @@ use Rattle.number.proofs.CappedPower.{of-capped, above-capped}
 use borrow.Author.Needs.{needs}
 use Rattle.table.proofs.group.power_of.Statement.{statement}
 use Rattle.table.proofs.group.power_of.Tie as tie
+use Rattle.table.specs.Cells.{powerBound}
 
 cast-capped-power : tie.Need-cast-capped-power
 cast-capped-power c = search needs
@@ -22,12 +23,12 @@ enum-told c = search needs
 returns : tie.Need-returns
 returns c =
     let s = c .before .before .before .before in
-    of-capped (s .args .b) (s .args .k) (2 ^ 31) _ (sym (c .before .c .given .1) ∙ c .before .before .before .capped-power .ensures) .0
+    of-capped (s .args .b) (s .args .k) powerBound _ (sym (c .before .c .given .1) ∙ c .before .before .before .capped-power .ensures) .0
 
 returns-2 : tie.Need-returns-2
 returns-2 c =
     let s = c .before .before .before in
-    let above = above-capped (s .args .b) (s .args .k) (2 ^ 31) (sym (c .enum-told .given .1) ∙ c .before .before .capped-power .ensures) in
+    let above = above-capped (s .args .b) (s .args .k) powerBound (sym (c .enum-told .given .1) ∙ c .before .before .capped-power .ensures) in
     absurd (omega (arith, above, s .pre .1))
 
 pub power-of-spec : {M : Type 1} → statement M

@@ -13,9 +13,10 @@ use Rattle.table.proofs.Whole.{pos-bounded, natAbs-from-zero}
 use borrow.Author.Needs.{needs}
 use Rattle.table.proofs.root.root_value.Statement.{statement}
 use Rattle.table.proofs.root.root_value.Tie as tie
+use Rattle.table.specs.Cells.{formBound, valueBound}
 
 apart-requires : tie.Need-apart-requires
-apart-requires c κs = (rw (back (c .fits .v)) (bounded-more (c .pre) (lit≤ tt)), pos-bounded 0 (2 ^ 61) (lit≤ tt))
+apart-requires c κs = (rw (back (c .fits .v)) (bounded-more (c .pre) (lit≤ tt)), pos-bounded 0 formBound (lit≤ tt))
 
 square-root-requires : tie.Need-square-root-requires
 square-root-requires c κs = search needs
@@ -27,7 +28,7 @@ size c = (rw (back (c .before .fits .v)) at (c .apart .ensures)) ∙ natAbs-from
 root : (c : tie.After-square-root) → c .square-root .result ≡ squareRoot (natAbs (c .before .before .args .v))
 root c = c .square-root .ensures ∙ ap squareRoot (size (c .before))
 
-root-small : (c : tie.After-square-root) → c .square-root .result ≤ 2 ^ 30
+root-small : (c : tie.After-square-root) → c .square-root .result ≤ valueBound
 root-small c = omega (arith, root c, root-below (natAbs (c .before .before .args .v)), c .before .before .pre .size)
 
 cast-result : tie.Need-cast-result

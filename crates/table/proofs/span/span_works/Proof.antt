@@ -11,6 +11,7 @@ use Rattle.table.proofs.Whole.{pos-bounded}
 use borrow.Author.Needs.{needs}
 use Rattle.table.proofs.span.span_works.Statement.{statement}
 use Rattle.table.proofs.span.span_works.Tie as tie
+use Rattle.table.specs.Cells.{powerBound}
 
 sub-top : tie.Need-sub-top
 sub-top c = search needs
@@ -22,7 +23,7 @@ add-top : tie.Need-add-top
 add-top c =
     let n = c .args .c - 1 in
     rw (back (c .fits .shift), small n (omega arith))
-    (sum-fits (c .args .shift) (pos n) (c .pre .2) (pos-bounded n (2 ^ 31) (omega arith)) tt)
+    (sum-fits (c .args .shift) (pos n) (c .pre .2) (pos-bounded n powerBound (omega arith)) tt)
 
 within-requires : tie.Need-within-requires
 within-requires c κs = search needs

@@ -10,7 +10,7 @@ use mir.Val.{SFits, toZ, ofZ}
 use borrow.Author.Needs.{needs}
 use Rattle.number.proofs.Word.{back}
 use Rattle.number.proofs.Bounded.{bounded-fits}
-use Rattle.table.specs.Cells.{SumAsked}
+use Rattle.table.specs.Cells.{SumAsked, powerBound, valueBound}
 use Rattle.table.proofs.WorksSum.{Summing, Turn, term, summing-start, summing-turn, summing-end}
 use Rattle.table.proofs.sum.sum_works.Statement.{statement}
 use Rattle.table.proofs.sum.sum_works.Tie as tie
@@ -63,7 +63,7 @@ product-fits : (c : tie.After-total2 Inv-loop μ-loop)
 product-fits c =
     let s = c .before .before .before .before .before in
     let t = turn (c .before .before) (s .pre .0) (s .pre .1) in
-    bounded-fits (2 ^ 31) (t .product) tt
+    bounded-fits powerBound (t .product) tt
 
 product : (c : tie.After-total2 Inv-loop μ-loop)
     → let a = c .before .before .before .before .before .args in
@@ -84,7 +84,7 @@ add-total : tie.Need-add-total Inv-loop μ-loop
 add-total c =
     let s = c .before .before .before .before .before in
     let t = turn (c .before .before) (s .pre .0) (s .pre .1) in
-    rw (product c, back (product-fits c)) (bounded-fits (2 ^ 30) (t .total) tt)
+    rw (product c, back (product-fits c)) (bounded-fits valueBound (t .total) tt)
 
 add-i : tie.Need-add-i Inv-loop μ-loop
 add-i c = search needs
@@ -95,7 +95,7 @@ loop-less c = search needs
 loop-again : tie.Need-loop-again Inv-loop μ-loop
 loop-again c n asked =
     let t = turn (c .before .before) n asked in
-    rw (product c, back (product-fits c), back (bounded-fits (2 ^ 30) (t .total) tt)) (t .next)
+    rw (product c, back (product-fits c), back (bounded-fits valueBound (t .total) tt)) (t .next)
 
 returns : tie.Need-returns Inv-loop μ-loop
 returns c n asked = summing-end _ _ _ n asked _ _ (c .before .loop .inv n asked) (c .loop-test .left)
