@@ -1,13 +1,13 @@
 // Reads a list: what is known, line by line, and the refusals in their order.
-pub mod input;
-pub mod max;
+mod input;
+mod max;
 pub mod read;
-pub mod relu;
-pub mod root;
-pub mod rule;
+mod relu;
+mod root;
+mod rule;
 pub mod size;
-pub mod span;
+mod span;
 pub mod state;
-pub mod step;
-pub mod sum;
-pub mod which;
+mod step;
+mod sum;
+mod which;

@@ -1,5 +1,5 @@
-// One line after line 0: its word and numbers out of the bytes, the rules of its kind, and what is known after it. Reading,
-// checking and making walk the same lines by this one function.
+// One line after line 0 in reading: its word and numbers out of the bytes, the rules of its kind, and what is known after it. The walks over
+// a list that was read test no rule again, and do not come here.
 use super::input::read_input;
 use super::max::read_max;
 use super::relu::read_relu;
