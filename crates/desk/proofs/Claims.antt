@@ -1,8 +1,8 @@
 -- The desk of the code counts its calls: what `meaning` proves of the definitions holds of every run of the code.
 use mathlib.Core.Path.{_≡_, refl, sym, ap, ap₂, _∙_}
-use mathlib.Core.List.{List, _∷_, map}
+use mathlib.Core.List.{List, [], _∷_, map}
 use Rattle.meaning.specs.Reply.{Reply as MeantReply}
-use Rattle.meaning.specs.Desk.{freshDesk, fullCount, Call, deskAfter, deskReplies}
+use Rattle.meaning.specs.Desk.{freshDesk, fullCount, Call, deskAfter, deskReplies, deskCall}
 use Rattle.meaning.specs.Desk.{Desk as MeantDesk, Called as MeantCalled}
 use Rattle.meaning.proofs.Desk.{counts}
 use Rattle.service.specs.Reply.{replySeen}
@@ -10,7 +10,7 @@ use Rattle.desk.specs.declared.Desk.{Desk}
 use Rattle.desk.specs.declared.Called.{Called}
 use Rattle.desk.specs.Desk.{Answers, Agrees, deskSeen, calledSeen}
 use Rattle.desk.specs.Run.{Run, no-call, then, callsOf, repliesOf, deskOf}
-use Rattle.desk.specs.Claims.{CodeCounts, CodeStaysFull, fullReply}
+use Rattle.desk.specs.Claims.{CodeCounts, CodeStaysFull, EveryListRuns, fullReply}
 use Rattle.desk.proofs.Calling.{call-full}
 
 -- ---- a run of the code is one of the definitions
@@ -67,3 +67,24 @@ code-stays-full _ (then d c gave h run) agrees full =
     let same : gave .desk ≡ d = ap (λ (k : Called). k .desk) q in
     let rest = code-stays-full (gave .desk) run (rw same agrees) (rw same full) in
     (rest .0 ∙ same, ap₂ _∷_ (ap (λ (k : Called). k .reply) q) (rest .1))
+
+-- ---- every list of calls has a run
+
+code-of : MeantCalled → Called
+code-of k =
+    record {
+      desk = record { heard = k .desk .heard; accepted = k .desk .accepted; refused = k .desk .refused };
+      reply = record { number = k .answer .number; place = k .answer .place };
+    }
+
+seen-code : (k : MeantCalled) → calledSeen (code-of k) ≡ k
+unfolding calledSeen deskSeen replySeen code-of
+seen-code k = refl
+
+pub every-list-runs : EveryListRuns
+unfolding callsOf
+every-list-runs d [] = (no-call d, refl)
+every-list-runs d (c ∷ cs) =
+    let gave : Called = code-of (deskCall (deskSeen d) (c .list) (c .table)) in
+    let rest = every-list-runs (gave .desk) cs in
+    (then d c gave (seen-code (deskCall (deskSeen d) (c .list) (c .table))) (rest .0), ap (λ (xs : List Call). c ∷ xs) (rest .1))

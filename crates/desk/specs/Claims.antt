@@ -2,7 +2,7 @@
 use Prim.Native.Nat.{_<_, _^_}
 use mathlib.Core.Path.{_≡_}
 use mathlib.Core.Bool.{not}
-use mathlib.Core.List.{map}
+use mathlib.Core.List.{List, map}
 use lib.ListN.{length}
 use Rattle.meaning.specs.Desk.{freshDesk, fullCount, Call}
 use Rattle.meaning.specs.Claims.{howMany, passes, checkOf}
@@ -21,6 +21,10 @@ CodeCounts =
     × (deskOf run .accepted ≡ howMany passes (callsOf run))
     × (deskOf run .refused ≡ howMany (λ c. not (passes c)) (callsOf run))
     × (map replySeen (repliesOf run) ≡ map checkOf (callsOf run))
+
+-- every list of calls has a run from every desk: the claims are not empty
+abbrev pub EveryListRuns : Type 0
+EveryListRuns = (d : Desk) (calls : List Call) → (run : Run d) × (callsOf run ≡ calls)
 
 unfoldable pub fullReply : Call → Reply
 fullReply c = record { number = 20; place = 0 }

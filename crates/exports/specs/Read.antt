@@ -13,7 +13,7 @@ pub record Numbers : Type 0 where
 abbrev pub numbers : (number place p values cells rows : ℕ) → Numbers
 numbers n at p v c r = record { number = n; place = at; p = p; values = v; cells = c; rows = r }
 
--- a read list has number 0, a refused one no p and no counts
-unfoldable pub numbersOf : Answer → Numbers
-numbersOf (counts p v c r) = numbers 0 0 p v c r
-numbersOf (refusal r) = numbers (r .number) (r .place) 0 0 0 0
+-- a read list has number 0; a refused one changes none of the four places lent for p and the counts
+unfoldable pub numbersAfter : (p values cells rows : ℕ) → Answer → Numbers
+numbersAfter p′ v′ c′ r′ (counts p v c r) = numbers 0 0 p v c r
+numbersAfter p′ v′ c′ r′ (refusal r) = numbers (r .number) (r .place) p′ v′ c′ r′

@@ -16,7 +16,7 @@ ghost use Rattle.meaning.specs.Reply.{reply, making, readReply, checkReply, mak
 ghost use Rattle.meaning.specs.Program.{respond as responseTo};
 ghost use Rattle.meaning.specs.Desk.{counted, called, deskCall};
 ghost use Rattle.program.specs.Answered.{Answered};
-ghost use Rattle.exports.specs.Read.{numbers, numbersOf};
+ghost use Rattle.exports.specs.Read.{numbers, numbersAfter};
 ghost use Rattle.exports.specs.Show.{upFrom, firstShown};
 
 // A list of more cells is refused.
@@ -33,7 +33,7 @@ pub extern "C" fn digit_table_read(
     rows: &mut usize,
 ) -> u32
     ensures { λ r. ⌜ numbers r (now (place .exit)) (now (p .exit)) (now (values .exit)) (now (cells .exit)) (now (rows .exit))
-        ≡ numbersOf (readReply (now (list .entry))) ⌝ }
+        ≡ numbersAfter (now (p .entry)) (now (values .entry)) (now (cells .entry)) (now (rows .entry)) (readReply (now (list .entry))) ⌝ }
 {
     let answer = read(list);
     match answer {
@@ -47,10 +47,6 @@ pub extern "C" fn digit_table_read(
         }
         Answer::Refused(number, at) => {
             *place = at;
-            *p = 0;
-            *values = 0;
-            *cells = 0;
-            *rows = 0;
             number
         }
     }

@@ -13,13 +13,14 @@ use lib.Signed.{_≤ℤ_}
 use Rattle.algebra.specs.Congruence.{Congruent}
 use Rattle.algebra.specs.Digits.{value, digits, Below}
 use Rattle.algebra.proofs.Test.{left, right}
-use Rattle.algebra.proofs.Congruence.{congruent-≡, congruent-refl, congruent-sym, congruent-trans, congruent--}
+use Rattle.algebra.proofs.Congruence.{congruent-≡, congruent-refl, congruent-sym, congruent-trans, congruent--, remainder-iff}
 use Rattle.algebra.proofs.Digits.{length-digits, digits-below, base-below-power, DigitRule, digit-rule}
 use Rattle.meaning.specs.Known.{Ends, digitRule}
 use Rattle.meaning.specs.Row.{Form, constant, _⊖_, eval, Row, _≅_, digitRows, placeValues, group}
 use Rattle.meaning.specs.Gadget.Digits.{groupCells}
 use Rattle.meaning.proofs.Cells.{cellsAt, cellsAt-zero, cellsAt-suc, length-cellsAt, append-iff}
-use Rattle.meaning.proofs.Hold.{Hold, hold-append, row-holds, digit-holds}
+use Rattle.meaning.specs.Claims.{DigitsAreExact}
+use Rattle.meaning.proofs.Hold.{Hold, hold-append, hold-each, row-holds, digit-holds}
 
 module _ (p : ℕ) (t : List ℕ) where
   digits-hold : (at b k : ℕ) → at + k ≤ length t → Hold p t (digitRows at b k) ↔ Below b (cellsAt t at k)
@@ -78,6 +79,14 @@ rule-kept p b k es L x h t low high =
 pub rule-power : (p b k : ℕ) (es : Ends) (L : ℤ) → T (digitRule p b k es L) → b ^ k ≤ p
 unfolding digitRule
 rule-power p b k es L t = leb→le (b ^ k) p (search (left, right))
+
+-- the digit rule as a claim
+pub digits-are-exact : DigitsAreExact
+unfolding cellsAt
+digits-are-exact p b k at es L x form t h base allowed low high room same =
+    let g = group-holds p t form at h room (remainder-iff p (eval t form) x h .1 same) (rule-kept p b k es L x base allowed low high) in
+    let each = hold-each p t (group form L at b k) in
+    (λ e. g .0 (each .1 e), λ e. each .0 (g .1 e))
 
 -- ---- the true cells of a group
 

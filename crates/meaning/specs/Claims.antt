@@ -1,19 +1,21 @@
 -- What is claimed of the definitions, as types: demands 2 and 3 over whole lists, tables and sequences of calls.
 -- Their proofs are terms of these types, in proofs/.
-use Prim.Native.Nat.{ℕ, _+_, _<_, _^_}
+use Prim.Native.Nat.{ℕ, _+_, _-_, _≤_, _<_, _^_}
 use mathlib.Core.Path.{_≡_}
 use mathlib.Core.Bool.{Bool, true, not}
 use mathlib.Core.Logic.{_↔_, _⊎_}
 use mathlib.Core.List.{List, [], _∷_, _++_, map}
 use mathlib.Core.Option.{Option, none, some}
 use lib.Dec.{T}
-use lib.ListN.{length, getD, take}
-use lib.IntN.{ℤ, pos}
-use Rattle.meaning.specs.Number.{signed, inRange}
+use lib.ListN.{length, getD, take, drop}
+use lib.IntN.{ℤ, pos, _+ℤ_}
+use lib.Signed.{_≤ℤ_}
+use Rattle.meaning.specs.Number.{signed, inRange, remainder}
 use Rattle.meaning.specs.Text.{linesOf, isEnded}
 use Rattle.meaning.specs.Line.{Line, lineOf}
-use Rattle.meaning.specs.Known.{Known, fresh}
-use Rattle.meaning.specs.Row.{among, holds}
+use Rattle.meaning.specs.Known.{Ends, Known, fresh, digitRule}
+use Rattle.meaning.specs.Row.{Form, eval, among, holds, group}
+use Rattle.meaning.specs.Gadget.Digits.{groupCells}
 use Rattle.meaning.specs.Meaning.{gadget, after}
 use Rattle.meaning.specs.Refusal.{textLimit, Rule, rule, rules, refused, read, reading}
 use Rattle.meaning.specs.Work.{false-at, true-table, work}
@@ -87,6 +89,17 @@ ChecksRows =
     (checkReply text t ≡ reply 0 0 ↔ ((i : ℕ) → i < s .rows → Holds s ls t i))
     × ((r : ℕ) → checkReply text t ≡ reply 15 r ↔ ((r < s .rows) × (¬ Holds s ls t r) × ((i : ℕ) → i < r → Holds s ls t i)))
     × ((checkReply text t ≡ reply 0 0) ⊎ ((r : ℕ) × (checkReply text t ≡ reply 15 r)))
+
+-- ---- the digit rule
+
+-- "The digit rule is shown for all b, k and forms together": where it allows a group over a form with ends E..F and shift L, the group's rows
+-- hold exactly where the whole number x of the form lies in L..L+c-1 and the cells are the digits of x - L
+abbrev pub DigitsAreExact : Type 0
+DigitsAreExact =
+    (p b k at : ℕ) (es : Ends) (L x : ℤ) (form : Form) (t : List ℕ) → 0 < p → 0 < b → T (digitRule p b k es L) → es .E ≤ℤ x → x ≤ℤ es .F →
+    at + k ≤ length t → remainder p (eval t form) ≡ remainder p x →
+    ((i : ℕ) → i < length (group form L at b k) → T (holds p t (getD (group form L at b k) i (among 0 0))))
+    ↔ ((L ≤ℤ x) × (x ≤ℤ (L +ℤ pos (b ^ k - 1))) × (take k (drop at t) ≡ groupCells b k x L))
 
 -- ---- true tables
 

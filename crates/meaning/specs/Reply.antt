@@ -97,3 +97,12 @@ stretch s (l ∷ ls) (suc n) t = stretch (after s l) ls n t
 -- "empty for the field line, for a line that is not there, for a refused list and for a wrong table length"
 unfoldable pub shown : (list table : List ℕ) (line : ℕ) → List ℕ
 shown text t n = onReading (reading text) (λ _ _. []) (λ ls s. cond (eqb (length t) (s .cells)) (stretch fresh ls n t) [])
+
+-- and the cell where that stretch starts, 0 where nothing is shown
+unfoldable pub startFrom : Known → List Line → (n : ℕ) → ℕ
+startFrom s [] n = 0
+startFrom s (l ∷ ls) zero = s .cells
+startFrom s (l ∷ ls) (suc n) = startFrom (after s l) ls n
+
+unfoldable pub shownFrom : (list table : List ℕ) (line : ℕ) → ℕ
+shownFrom text t n = onReading (reading text) (λ _ _. 0) (λ ls s. cond (eqb (length t) (s .cells)) (startFrom fresh ls n) 0)

@@ -80,7 +80,7 @@ makes-true-tables list ls s inputs table r after promise is-read column long =
           let m = claim .0 values cells e in
           let left = promise .left ∙ m .1 in
           (promise .replied ∙ m .0, left, rw left (m .3), rw left (m .4)),
-      λ line e. let m = claim .1 line e in (promise .replied ∙ m .0, promise .left ∙ m .1),
+      λ line e. let m = claim .1 line e in (promise .replied ∙ m .0, promise .left ∙ m .1, λ other checked c same a. m .2 other same (sym c ∙ a)),
     )
 
 -- how a making of a read list comes out: a refusal that leaves the table, or the true table of a column of inputs

@@ -10,7 +10,7 @@ use Rattle.meaning.specs.Line.{Line}
 use Rattle.meaning.specs.Known.{Known, fresh}
 use Rattle.meaning.specs.Meaning.{gadget, after}
 use Rattle.meaning.specs.Refusal.{refused, onReading, reading}
-use Rattle.meaning.specs.Reply.{stretch, shown}
+use Rattle.meaning.specs.Reply.{stretch, shown, startFrom, shownFrom}
 use Rattle.meaning.proofs.Induction.{cells-grow}
 use Rattle.reader.specs.declared.state.Counts.{Counts}
 use Rattle.service.specs.Walk.{Stands, ListRead, AtLine}
@@ -29,6 +29,7 @@ pub record Showing (list : List ℕ) (line : ℕ) (numbers : List ℤ) (c : Coun
   pub numbers-long : length numbers ≡ mostNumbers
   pub to-come : n ≤ line
   pub is : (t : List ℕ) → stretch fresh (listed .lines) line t ≡ stretch state left (line - n) t
+  pub starts : startFrom fresh (listed .lines) line ≡ startFrom state left (line - n)
 
 pub showing-first : (list : List ℕ) (line : ℕ) (numbers : List ℤ) → length numbers ≡ mostNumbers → ListRead list
     → Showing list line numbers (record { values = 0; inputs = 0; cells = 0; rows = 0 }) 0 0
@@ -40,6 +41,7 @@ showing-first list line numbers long l = record {
   numbers-long = long;
   to-come = omega arith;
   is = λ t. ap (λ (i : ℕ). stretch fresh (l .lines) i t) (omega arith);
+  starts = ap (startFrom fresh (l .lines)) (omega arith);
 }
 
 -- a stretch of one reading of the list is that of another
@@ -48,6 +50,7 @@ same-stretch list line l m r s = record {
   ordered = s .ordered;
   inside = omega (arith, s .inside, ap (λ (q : Known). q .cells) (same-last l m));
   is = λ t. s .is t ∙ ap (λ (ls : List Line). stretch fresh ls line t) (same-lines l m);
+  starts = s .starts ∙ ap (λ (ls : List Line). startFrom fresh ls line) (same-lines l m);
 }
 
 module _ {list : List ℕ} {line : ℕ} {numbers : List ℤ} {c : Counts} {at n : ℕ} (w : Showing list line numbers c at n) where
@@ -56,18 +59,19 @@ module _ {list : List ℕ} {line : ℕ} {numbers : List ℤ} {c : Counts} {at n 
 
   -- the line is not there
   pub showing-end : length list ≤ at → (m : ListRead list) → IsStretch list line m (record { from = 0; to = 0 })
-  unfolding stretch
+  unfolding stretch startFrom
   showing-end h m = same-stretch list line (w .listed) m _ (record {
     ordered = omega arith;
     inside = omega arith;
     is = λ t. sym (w .is t ∙ rw (nothing-left (w .stands) h) refl);
+    starts = sym (w .starts ∙ rw (nothing-left (w .stands) h) refl);
   })
 
   module _ (l : Line) (rest : List Line) (left-is : w .left ≡ l ∷ rest) {next : Counts} {at′ : ℕ}
       (stands : Stands list (w .listed .last) (after (w .state) l) rest next at′ (n + 1)) where
     -- this is the line
     pub showing-line : n ≡ line → (m : ListRead list) → IsStretch list line m (record { from = c .cells; to = next .cells })
-    unfolding after stretch
+    unfolding after stretch startFrom
     showing-line here m =
         let from-is = w .stands .counted .cells-are in
         let to-is = stands .counted .cells-are in
@@ -77,11 +81,12 @@ module _ {list : List ℕ} {line : ℕ} {numbers : List ℤ} {c : Counts} {at n 
           ordered = omega (arith, from-is, to-is);
           inside = omega (arith, to-is, cells-grow rest (n + 1) (after (w .state) l) (w .listed .last) (stands .kept));
           is = λ t. sym (w .is t ∙ rw (left-is, first) (ap₂ (λ (i j : ℕ). take i (drop j t)) (sym wide) from-is));
+          starts = sym (w .starts ∙ rw (left-is, first) from-is);
         })
 
     -- it is a later one
     pub showing-next : (numbers′ : List ℤ) → length numbers′ ≡ mostNumbers → (n ≡ line → ⊥) → Showing list line numbers′ next at′ (n + 1)
-    unfolding stretch
+    unfolding stretch startFrom
     showing-next numbers′ long other = record {
       listed = w .listed;
       state = after (w .state) l;
@@ -90,6 +95,7 @@ module _ {list : List ℕ} {line : ℕ} {numbers : List ℤ} {c : Counts} {at n 
       numbers-long = long;
       to-come = later;
       is = λ t. w .is t ∙ rw (left-is, one-less) refl;
+      starts = w .starts ∙ rw (left-is, one-less) refl;
     }
       where
         later : n + 1 ≤ line
@@ -105,6 +111,10 @@ module _ (list t : List ℕ) (line : ℕ) where
   unfolding shown onReading
   shown-refused n i e = rw e refl
 
+  pub from-refused : (n i : ℕ) → reading list ≡ refused n i → 0 ≡ shownFrom list t line
+  unfolding shownFrom onReading
+  from-refused n i e = rw e refl
+
   module _ (l : ListRead list) where
     pub shown-wrong-length : (length t ≡ l .last .cells → ⊥) → [] ≡ shown list t line
     unfolding shown onReading
@@ -113,3 +123,11 @@ module _ (list t : List ℕ) (line : ℕ) where
     pub shown-stretch : length t ≡ l .last .cells → (r : Stretch) → IsStretch list line l r → take (r .to - r .from) (drop (r .from) t) ≡ shown list t line
     unfolding shown onReading
     shown-stretch h r s = rw (l .is-read, eq-eqb (length t) (l .last .cells) h) (s .is t)
+
+    pub from-wrong-length : (length t ≡ l .last .cells → ⊥) → 0 ≡ shownFrom list t line
+    unfolding shownFrom onReading
+    from-wrong-length h = rw (l .is-read, ne-eqb (length t) (l .last .cells) h) refl
+
+    pub from-stretch : length t ≡ l .last .cells → (r : Stretch) → IsStretch list line l r → r .from ≡ shownFrom list t line
+    unfolding shownFrom onReading
+    from-stretch h r s = rw (l .is-read, eq-eqb (length t) (l .last .cells) h) (s .starts)

@@ -61,7 +61,8 @@ MakesTrueTables =
     Makes list inputs table r after → reading list ≡ read ls s → Column s inputs → length table ≡ s .cells →
     ((values : List ℤ) (cells : List ℕ) → work ls inputs ≡ true-table values cells →
     Accepts r × (after ≡ cells) × (inputsOf s ls after ≡ inputs) × (valuesOf s after ≡ values))
-    × ((line : ℕ) → work ls inputs ≡ false-at line → (replySeen r ≡ reply 18 line) × (after ≡ table))
+    × ((line : ℕ) → work ls inputs ≡ false-at line → (replySeen r ≡ reply 18 line) × (after ≡ table)
+    × ((other : List ℕ) (checked : Reply) → Checks list other checked → inputsOf s ls other ≡ inputs → ¬ Accepts checked))
 
 -- what the maker wrote passes, and no other table with these inputs does
 abbrev pub MadeTablesPass : Type 0

@@ -4,7 +4,7 @@ use mathlib.Core.List.{List}
 use Prim.Native.Nat.{ℕ, _-_, _≤_}
 use lib.ListN.{take, drop}
 use Rattle.meaning.specs.Known.{fresh}
-use Rattle.meaning.specs.Reply.{stretch}
+use Rattle.meaning.specs.Reply.{stretch, startFrom}
 use Rattle.service.specs.Walk.{ListRead}
 use Rattle.service.specs.declared.showing.Stretch.{Stretch}
 
@@ -13,3 +13,4 @@ pub record IsStretch (list : List ℕ) (line : ℕ) (l : ListRead list) (r : Str
   pub ordered : r .from ≤ r .to
   pub inside : r .to ≤ l .last .cells
   pub is : (t : List ℕ) → take (r .to - r .from) (drop (r .from) t) ≡ stretch fresh (l .lines) line t
+  pub starts : r .from ≡ startFrom fresh (l .lines) line

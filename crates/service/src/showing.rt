@@ -4,7 +4,9 @@ use reader::read::Surveyed;
 use reader::read::survey;
 use reader::state::Counts;
 ghost use mathlib.Core.Path.{_≡_};
-ghost use Rattle.meaning.specs.Reply.{shown};
+ghost use Prim.Native.Nat.{_+_, _*_};
+ghost use denote.Ref.{ptr};
+ghost use Rattle.meaning.specs.Reply.{shown, shownFrom};
 ghost use Rattle.service.specs.Walk.{ListRead};
 ghost use Rattle.service.specs.Show.{IsStretch};
 
@@ -17,7 +19,8 @@ struct Stretch {
 // The public call: a part of the caller's slice, empty for the field line, for a line that is not there, for a refused list and for a
 // wrong table length.
 pub fn show<'a>(list: &[u8], table: &'a [u32], line: usize) -> &'a [u32]
-    ensures { λ r. ⌜ now r ≡ shown (now (list .entry)) (now (table .entry)) line ⌝ }
+    ensures cells { λ r. ⌜ now r ≡ shown (now (list .entry)) (now (table .entry)) line ⌝ }
+    ensures place { λ r. ⌜ ptr r ≡ (ptr (table .entry) .0, shownFrom (now (list .entry)) (now (table .entry)) line * 4 + ptr (table .entry) .1) ⌝ }
 {
     let found = survey(list);
     match found {

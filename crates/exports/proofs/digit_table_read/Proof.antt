@@ -2,7 +2,8 @@
 use mathlib.Core.Path.{sym, ap, _∙_}
 use Rattle.reader.specs.Read.{answerSeen}
 use Rattle.reader.specs.declared.read.Answer.{Answer}
-use Rattle.exports.specs.Read.{numbersOf}
+use Rattle.exports.specs.Read.{numbersAfter}
+use denote.Ref.{now}
 use borrow.Author.Needs.{needs}
 use Rattle.exports.proofs.digit_table_read.Statement.{statement}
 use Rattle.exports.proofs.digit_table_read.Tie as tie
@@ -17,14 +18,18 @@ enum-known-answer-2 : tie.Need-enum-known-answer-2
 enum-known-answer-2 c = search needs
 
 returns : tie.Need-returns
-unfolding numbersOf answerSeen
+unfolding numbersAfter answerSeen
 returns c =
-    sym (ap (λ (a : Answer). numbersOf (answerSeen a)) (c .before .answer .given .1)) ∙ ap numbersOf (c .before .before .before .read .ensures .0)
+    let S = c .before .before .before .before .before .args in
+    let after = numbersAfter (now (S .p)) (now (S .values)) (now (S .cells)) (now (S .rows)) in
+    sym (ap (λ (a : Answer). after (answerSeen a)) (c .before .answer .given .1)) ∙ ap after (c .before .before .before .read .ensures .0)
 
 returns-2 : tie.Need-returns-2
-unfolding numbersOf answerSeen
+unfolding numbersAfter answerSeen
 returns-2 c =
-    sym (ap (λ (a : Answer). numbersOf (answerSeen a)) (c .before .answer2 .given .1)) ∙ ap numbersOf (c .before .before .before .read .ensures .0)
+    let S = c .before .before .before .before .before .args in
+    let after = numbersAfter (now (S .p)) (now (S .values)) (now (S .cells)) (now (S .rows)) in
+    sym (ap (λ (a : Answer). after (answerSeen a)) (c .before .answer2 .given .1)) ∙ ap after (c .before .before .before .read .ensures .0)
 
 pub digit-table-read-spec : {M : Type 1} → statement M
 digit-table-read-spec =

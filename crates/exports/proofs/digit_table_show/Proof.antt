@@ -36,7 +36,7 @@ returns-2 : tie.Need-returns-2
 returns-2 c =
     let S = c .before .before .before .before .before .before .before .before .before .before in
     let fills = c .before .before .before .before .before .number-cells .ensures in
-    let told = first-told (now (S .args .list)) (now (S .args .table)) (S .args .line) _ _ 4096 _ fills (c .before .before .before .before .before .before .before .if1 .left) (c .before .show .ensures) (c .first-of .ensures) in
+    let told = first-told (now (S .args .list)) (now (S .args .table)) (S .args .line) _ _ 4096 _ fills (c .before .before .before .before .before .before .before .if1 .left) (c .before .show .ensures .0) (c .first-of .ensures) in
     (told .part, (told .counted, (told .starts, told .inside)))
 
 pub digit-table-show-spec : {M : Type 1} → statement M

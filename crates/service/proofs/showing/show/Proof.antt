@@ -1,11 +1,12 @@
 -- `service::showing::show`: the part of the table that `stretch_of` names, where the list is read and the length is right.
-use mathlib.Core.Path.{_∙_}
-use Prim.Native.Nat.{_≤_}
+use mathlib.Core.Path.{ap, _∙_}
+use Prim.Native.Nat.{ℕ, _+_, _*_, _≤_}
 use native.Mathlib.Omega.{arith}
 use lib.ListN.{length}
-use denote.Ref.{now}
+use mathlib.Core.Path.{_≡_}
+use denote.Ref.{now, ptr}
 use Rattle.service.proofs.Listed.{survey-refused, survey-counted}
-use Rattle.service.proofs.Shown.{shown-refused, shown-wrong-length, shown-stretch}
+use Rattle.service.proofs.Shown.{shown-refused, shown-wrong-length, shown-stretch, from-refused, from-wrong-length, from-stretch}
 use borrow.Author.Needs.{needs}
 use Rattle.service.proofs.showing.show.Statement.{statement}
 use Rattle.service.proofs.showing.show.Tie as tie
@@ -51,7 +52,10 @@ returns : tie.Need-returns
 returns c =
     let S = c .before .before .before .before .before .before .before .before in
     let l = survey-counted (now (S .args .list)) _ (c .before .before .before .before .before .survey .ensures .0) (c .before .before .before .before .before .survey .ensures .1) _ _ (c .before .before .before .found .given .1) in
-    shown-wrong-length _ (now (S .args .table)) (S .args .line) (l .listed) (λ e. c .before .if1 .taken (e ∙ l .counts-are .cells-are))
+    let other : (length (now (S .args .table)) ≡ l .listed .last .cells → ⊥) = λ e. c .before .if1 .taken (e ∙ l .counts-are .cells-are) in (
+      shown-wrong-length _ (now (S .args .table)) (S .args .line) (l .listed) other,
+      ap (λ (i : ℕ). (ptr (S .args .table) .0, i * 4 + ptr (S .args .table) .1)) (from-wrong-length _ (now (S .args .table)) (S .args .line) (l .listed) other),
+    )
 
 -- src/showing.rt:33:17
 stretch-of-requires : tie.Need-stretch-of-requires
@@ -97,15 +101,20 @@ part-result-end-3 c =
 returns-2 : tie.Need-returns-2
 returns-2 c =
     let S = c .before .before .before .before .before .before in
-    shown-refused (now (S .args .list)) (now (S .args .table)) (S .args .line) _ _
-    (survey-refused _ _ (c .before .before .before .survey .ensures .0) _ _ (c .before .enum-told .given .1))
+    let e = survey-refused _ _ (c .before .before .before .survey .ensures .0) _ _ (c .before .enum-told .given .1) in (
+      shown-refused (now (S .args .list)) (now (S .args .table)) (S .args .line) _ _ e,
+      ap (λ (i : ℕ). (ptr (S .args .table) .0, i * 4 + ptr (S .args .table) .1)) (from-refused (now (S .args .list)) (now (S .args .table)) (S .args .line) _ _ e),
+    )
 
 -- src/showing.rt:22:1
 returns-3 : tie.Need-returns-3
 returns-3 c =
     let S = c .before .before .before .before .before .before .before .before .before in
     let l = survey-counted (now (S .args .list)) _ (c .before .before .before .before .before .before .survey .ensures .0) (c .before .before .before .before .before .before .survey .ensures .1) _ _ (c .before .before .before .before .found .given .1) in
-    shown-stretch _ (now (S .args .table)) (S .args .line) (l .listed) (omega (arith, l .counts-are .cells-are, c .before .before .if1 .left)) _ (c .before .stretch-of .ensures (l .listed))
+    let long : length (now (S .args .table)) ≡ l .listed .last .cells = omega (arith, l .counts-are .cells-are, c .before .before .if1 .left) in (
+      shown-stretch _ (now (S .args .table)) (S .args .line) (l .listed) long _ (c .before .stretch-of .ensures (l .listed)),
+      ap (λ (i : ℕ). (ptr (S .args .table) .0, i * 4 + ptr (S .args .table) .1)) (from-stretch _ (now (S .args .table)) (S .args .line) (l .listed) long _ (c .before .stretch-of .ensures (l .listed))),
+    )
 
 pub show-spec : {M : Type 1} → statement M
 show-spec =
