@@ -12,9 +12,10 @@ use borrow.Author.Tests.{eqb-true}
 use Rattle.meaning.specs.Line.{Line}
 use Rattle.meaning.specs.Known.{Known, fresh}
 use Rattle.meaning.specs.Meaning.{gadget, after}
-use Rattle.meaning.specs.Refusal.{cellLimit, Reading, refused, read, onReading, reading}
+use Rattle.meaning.specs.Refusal.{Reading, refused, read, onReading, reading}
 use Rattle.meaning.specs.Reply.{stretch, shown}
-use Rattle.meaning.proofs.Kept.{Kept, keeps-all}
+use Rattle.meaning.specs.Kept.{Kept}
+use Rattle.meaning.proofs.Kept.{keeps-all}
 use Rattle.meaning.proofs.Induction.{cells-grow}
 use Rattle.meaning.proofs.Reading.{read-kept}
 use Rattle.exports.specs.Show.{upFrom, firstShown}

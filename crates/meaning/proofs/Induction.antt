@@ -12,20 +12,21 @@ use lib.Seq.{take-take, drop-drop, drop-cons, drop-length, drop-at, take-at}
 use lib.IntN.{ℤ, pos}
 use Rattle.algebra.specs.Congruence.{remainder}
 use Rattle.algebra.specs.Digits.{Below}
-use Rattle.meaning.specs.Number.{inRange, signed}
+use Rattle.meaning.specs.Number.{inRange, signed, OddPrime}
 use Rattle.meaning.specs.Line.{Line}
-use Rattle.meaning.specs.Known.{Ends, Known}
+use Rattle.meaning.specs.Known.{Ends, Known, Within}
 use Rattle.meaning.specs.Gadget.Interface.{Gadget}
 use Rattle.meaning.specs.Meaning.{gadget, placesFrom, after}
 use Rattle.meaning.specs.Work.{Worked, false-at, true-table, withCells, workFrom}
 use Rattle.meaning.specs.Reply.{rowsFrom}
 use Rattle.meaning.specs.Claims.{inputCellsFrom, signedAt}
-use Rattle.meaning.proofs.Number.{OddPrime, positive, signed-range}
+use Rattle.meaning.proofs.Number.{positive, signed-range}
 use Rattle.meaning.proofs.Cells.{cellsAt, head-equal, tail-equal}
 use Rattle.meaning.proofs.Hold.{Hold, hold-append}
-use Rattle.meaning.proofs.Law.{Within, InCells, cells-append, below-any, Before, Law}
-use Rattle.meaning.proofs.Kept.{Kept, keeps-all}
-use Rattle.meaning.proofs.Lines.{Sound, line-law, sound-after, same-prime}
+use Rattle.meaning.proofs.Law.{InCells, cells-append, below-any, Before, Law}
+use Rattle.meaning.specs.Kept.{Kept, Sound}
+use Rattle.meaning.proofs.Kept.{keeps-all}
+use Rattle.meaning.proofs.Lines.{line-law, sound-after, same-prime}
 
 -- ---- along the list
 

@@ -1,5 +1,5 @@
--- The rules that the lines of a list keep, as later proofs go through the lines: `Kept` says it of all lines, from line n in
--- state s to state s′, and `Keeps` says what it is for one line, a field for each rule of the table.
+-- The rules that the lines of a list keep, as later proofs go through the lines: no rule of the table is broken exactly when each is kept,
+-- and a line that breaks none keeps what each asks.
 use Prim.Native.Nat.{ℕ, zero, suc, _+_, _<_}
 use native.Mathlib.Omega.{arith}
 use mathlib.Core.Path.{_≡_, refl, sym, _∙_}
@@ -7,33 +7,17 @@ use mathlib.Core.Bool.{Bool, true, _&&_}
 use mathlib.Core.Logic.{_↔_}
 use mathlib.Core.List.{List, [], _∷_}
 use mathlib.Core.Option.{none, some}
-use lib.Dec.{T, leb, eqb, eqb→eq, lit<}
+use lib.Dec.{T, eqb, eqb→eq, lit<}
 use lib.ListN.{length, getD}
 use Rattle.algebra.proofs.Test.{left, right}
-use Rattle.meaning.specs.Line.{Line, namesOf}
+use Rattle.meaning.specs.Line.{Line}
 use Rattle.meaning.specs.Known.{Known}
-use Rattle.meaning.specs.Meaning.{gadget, after}
-use Rattle.meaning.specs.Refusal.{
-  valueLimit,
-  cellLimit,
-  all,
-  isPlaced,
-  isOverPrime,
-  isRanged,
-  isMade,
-  Rule,
-  rule,
-  rulesWithin,
-  rules,
-  firstBroken,
-}
+use Rattle.meaning.specs.Meaning.{after}
+use Rattle.meaning.specs.Refusal.{Rule, rule, rulesWithin, rules, firstBroken}
+use Rattle.meaning.specs.Kept.{Kept, Keeps}
 use Rattle.meaning.specs.Reply.{firstFail}
 use Rattle.meaning.specs.Claims.{ruleAt, knownAfter}
 use Rattle.meaning.proofs.Lists.{all-pass, first-fails}
-
-abbrev pub Kept : (n : ℕ) (s : Known) (ls : List Line) (s′ : Known) → Type 0
-Kept n s [] s′ = s ≡ s′
-Kept n s (l ∷ ls) s′ = (firstBroken rules n s l ≡ none) × Kept (suc n) (after s l) ls s′
 
 pub kept-known : (n : ℕ) (s : Known) (ls : List Line) (s′ : Known) → Kept n s ls s′ → s′ ≡ knownAfter s ls
 unfolding knownAfter
@@ -86,18 +70,6 @@ one-broken n s l r e =
     (h .0, h .2 .inside, h .1 ∙ sym (rule-number (h .0) (h .2 .inside)), h .2 .fails, h .2 .earlier)
 
 -- ---- one line
-
--- what the table asks of line n, in state s
-pub record Keeps (n : ℕ) (s : Known) (l : Line) : Type 0 where
-  pub placed : T (isPlaced n (l .word))
-  pub over-prime : T (isOverPrime (l .word) (l .numbers))
-  pub ranged : T (isRanged (s .p) (l .word) (l .numbers))
-  pub names-made : T (all (isMade (length (s .known))) (namesOf (l .word) (l .numbers)))
-  pub values-fit : T (leb (length (s .known) + length (gadget s l .made)) valueLimit)
-  pub cells-fit : T (leb (s .cells + gadget s l .width) cellLimit)
-  pub unambiguous : T (gadget s l .unambiguous)
-  pub fits : T (gadget s l .fits)
-  pub overlaps : T (gadget s l .overlaps)
 
 pub keeps-all : (n : ℕ) (s : Known) (l : Line) → firstBroken rules n s l ≡ none → Keeps n s l
 unfolding ruleAt rules rulesWithin

@@ -14,7 +14,7 @@ use Rattle.algebra.specs.Congruence.{Congruent, remainder}
 use Rattle.algebra.specs.Digits.{Below}
 use Rattle.algebra.proofs.Congruence.{congruent-≡, congruent-sym, congruent-trans, congruent-remainder}
 use Rattle.meaning.specs.Number.{lowest, highest, inRange, signed}
-use Rattle.meaning.specs.Known.{Ends, ends, Known, endsOf, placeOf}
+use Rattle.meaning.specs.Known.{Ends, ends, Known, endsOf, placeOf, Within, Ranged}
 use Rattle.meaning.specs.Row.{cell, eval}
 use Rattle.meaning.specs.Gadget.Interface.{Gadget}
 use Rattle.meaning.specs.Gadget.Digits.{valueAt}
@@ -23,24 +23,12 @@ use Rattle.meaning.proofs.Hold.{Hold}
 
 -- ---- ends, values and cells, one beside the other
 
--- each value lies between its ends
-abbrev pub Within : List Ends → List ℤ → Type 0
-Within [] [] = Unit {0}
-Within [] (v ∷ vs) = ⊥
-Within (e ∷ es) [] = ⊥
-Within (e ∷ es) (v ∷ vs) = (e .E ≤ℤ v) × (v ≤ℤ e .F) × Within es vs
-
 -- the cell at each place is the remainder of the value
 abbrev pub InCells : ℕ → List ℕ → (places : List ℕ) → List ℤ → Type 0
 InCells p t [] [] = Unit {0}
 InCells p t [] (v ∷ vs) = ⊥
 InCells p t (i ∷ is) [] = ⊥
 InCells p t (i ∷ is) (v ∷ vs) = (getD t i 0 ≡ remainder p v) × InCells p t is vs
-
--- the ends lie in the signed range
-abbrev pub Ranged : ℕ → List Ends → Type 0
-Ranged p [] = Unit {0}
-Ranged p (e ∷ es) = (lowest p ≤ℤ e .E) × (e .F ≤ℤ highest p) × Ranged p es
 
 pub within-append : (es fs : List Ends) (vs ws : List ℤ) → Within es vs → Within fs ws → Within (es ++ fs) (vs ++ ws)
 within-append [] fs [] ws h k = k

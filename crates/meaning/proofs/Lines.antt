@@ -11,16 +11,16 @@ use lib.IntN.{ℤ, pos, negsuc, natAbs}
 use lib.Signed.{_≤ℤ_, nonNeg}
 use Rattle.algebra.proofs.Test.{left, right}
 use Rattle.algebra.proofs.Integer.Linear.{linear}
-use Rattle.meaning.specs.Number.{inRange, oddPrime}
+use Rattle.meaning.specs.Number.{inRange, oddPrime, OddPrime}
 use Rattle.meaning.specs.Line.{Word, field, input, span, sum, relu, which, max, root, Line, numberAt, sizeAt, alternate, withoutFirst}
 use Rattle.meaning.specs.Line.{namesOf, coefficientsOf, shiftsOf, digitsAt, digitsOf}
-use Rattle.meaning.specs.Known.{Known, fresh}
+use Rattle.meaning.specs.Known.{Known, fresh, Ranged}
 use Rattle.meaning.specs.Gadget.Sum.{termsOf}
 use Rattle.meaning.specs.Meaning.{byWord, gadget, primeAfter, after}
 use Rattle.meaning.specs.Refusal.{all, isField, isPlaced, isOverPrime, isDigits, isRanged, isMade}
-use Rattle.meaning.proofs.Number.{OddPrime, odd-prime}
-use Rattle.meaning.proofs.Law.{Ranged, Law}
-use Rattle.meaning.proofs.Kept.{Keeps}
+use Rattle.meaning.proofs.Number.{odd-prime}
+use Rattle.meaning.proofs.Law.{Law}
+use Rattle.meaning.specs.Kept.{Keeps, Sound}
 use Rattle.meaning.proofs.Gadget.Field.{field-law}
 use Rattle.meaning.proofs.Gadget.Input.{input-law}
 use Rattle.meaning.proofs.Gadget.Span.{span-law}
@@ -29,12 +29,6 @@ use Rattle.meaning.proofs.Gadget.Relu.{relu-law}
 use Rattle.meaning.proofs.Gadget.Which.{which-law}
 use Rattle.meaning.proofs.Gadget.Max.{max-law}
 use Rattle.meaning.proofs.Gadget.Root.{root-law}
-
--- what is known before line n: nothing before line 0, and then a prime and ends in its signed range
-pub record Sound (n : ℕ) (s : Known) : Type 0 where
-  pub start : n ≡ 0 → s ≡ fresh
-  pub prime : zero < n → OddPrime (s .p)
-  pub ranged : Ranged (s .p) (s .known)
 
 -- ---- what the rules say of a line's numbers
 

@@ -22,7 +22,8 @@ use Rattle.meaning.specs.Reply.{reply, rowsFrom, rowsOf, checkReply}
 use Rattle.meaning.specs.Claims.{knownAfter}
 use Rattle.meaning.specs.Examples.{listText}
 use Rattle.meaning.specs.Compute.{computing}
-use Rattle.meaning.proofs.Kept.{Keeps, keeps-all}
+use Rattle.meaning.specs.Kept.{Keeps}
+use Rattle.meaning.proofs.Kept.{keeps-all}
 use Rattle.meaning.proofs.Lines.{field-or-not}
 use Rattle.meaning.proofs.Reading.{read-kept}
 use Rattle.meaning.proofs.Rows.{accepted-iff}

@@ -3,7 +3,7 @@ use mathlib.Core.Path.{_≡_, refl, subst}
 use mathlib.Core.Bool.{not}
 use mathlib.Core.List.{[], _∷_}
 use mathlib.Core.Logic.{_≢_, _↔_}
-use Prim.Native.Nat.{ℕ, zero, suc, _-_, _*_, _%_, _≤_, _<_}
+use Prim.Native.Nat.{ℕ, zero, suc, _-_, _%_, _≤_, _<_}
 use native.Mathlib.Omega.{arith}
 use native.Mathlib.Decide.{ℕ-discrete}
 use lib.Dec.{T, eqb, leb, leb→le, T-not}
@@ -17,15 +17,9 @@ use Rattle.algebra.proofs.Integer.Ring.{var, lit, _⊕_, _⊖_, _⊗_, ring}
 use Rattle.algebra.proofs.Congruence.{congruent-≡, congruent-sym, congruent-trans, near-equal}
 use Rattle.algebra.proofs.Congruence.{congruent-remainder, remainder-below, remainder-unique, residue-iff}
 use Rattle.algebra.proofs.Prime.{prime-by-trial, prime-no-remainder}
-use Rattle.meaning.specs.Number.{half, lowest, highest, between, inRange, signed, noDivisor, oddPrime}
+use Rattle.meaning.specs.Number.{half, lowest, highest, between, inRange, signed, noDivisor, oddPrime, OddPrime}
 
 -- ---- odd primes
-
--- p is prime, and one more than twice its half
-pub record OddPrime (p : ℕ) : Type 0 where
-  pub prime : Prime p
-  pub odd : p ≡ suc (2 * half p)
-  pub three : 3 ≤ p
 
 noDivisor-all : (n k : ℕ) → T (noDivisor n k) → (d : ℕ) → 1 < d → d ≤ suc k → n % d ≢ 0
 unfolding noDivisor

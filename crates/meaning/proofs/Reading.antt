@@ -44,7 +44,8 @@ use Rattle.meaning.specs.Claims.{
   Spells,
   ReadsExactly,
 }
-use Rattle.meaning.proofs.Kept.{Kept, kept-known, rule-number, none-broken, one-broken}
+use Rattle.meaning.specs.Kept.{Kept}
+use Rattle.meaning.proofs.Kept.{kept-known, rule-number, none-broken, one-broken}
 
 -- ---- what fits a line
 

@@ -17,7 +17,7 @@ use Rattle.meaning.specs.Refusal.{onSome, read, onReading, reading}
 use Rattle.meaning.specs.Reply.{Reply, reply, firstFail, isCell, rowsFrom, rowsOf, checked, checkReply}
 use Rattle.meaning.specs.Claims.{WellFormed, Holds, ChecksRows}
 use Rattle.meaning.proofs.Lists.{FirstFails, all-pass, first-fails-at}
-use Rattle.meaning.proofs.Kept.{Kept}
+use Rattle.meaning.specs.Kept.{Kept}
 use Rattle.meaning.proofs.Reading.{read-kept}
 
 -- ---- how many rows there are

@@ -11,20 +11,21 @@ use lib.IntN.{ℤ, pos}
 use Rattle.algebra.specs.Digits.{Below}
 use Rattle.algebra.proofs.Test.{test-≡, eqb-iff}
 use Rattle.algebra.proofs.Integer.Linear.{linear}
-use Rattle.meaning.specs.Number.{inRange, signed}
+use Rattle.meaning.specs.Number.{inRange, signed, OddPrime}
 use Rattle.meaning.specs.Line.{Line}
-use Rattle.meaning.specs.Known.{Ends, Known, fresh}
+use Rattle.meaning.specs.Known.{Ends, Known, fresh, Within, Ranged}
 use Rattle.meaning.specs.Meaning.{after}
 use Rattle.meaning.specs.Refusal.{onSome, onReading, read, reading}
 use Rattle.meaning.specs.Work.{Worked, true-table, work}
 use Rattle.meaning.specs.Reply.{reply, rowsOf, checkReply, Making, filled, made, makeReply}
 use Rattle.meaning.specs.Claims.{WellFormed, signedAt, inputsOf, valuesOf, AcceptsTrueTables, Column, MakesTheOnly}
 use Rattle.meaning.proofs.Lists.{all-pass}
-use Rattle.meaning.proofs.Number.{OddPrime, range-test, signed-remainder}
+use Rattle.meaning.proofs.Number.{range-test, signed-remainder}
 use Rattle.meaning.proofs.Hold.{hold-each}
-use Rattle.meaning.proofs.Law.{Within, InCells, Ranged, below-at}
-use Rattle.meaning.proofs.Kept.{Kept, keeps-all}
-use Rattle.meaning.proofs.Lines.{Sound, sound-after, sound-fresh}
+use Rattle.meaning.proofs.Law.{InCells, below-at}
+use Rattle.meaning.specs.Kept.{Kept, Sound}
+use Rattle.meaning.proofs.Kept.{keeps-all}
+use Rattle.meaning.proofs.Lines.{sound-after, sound-fresh}
 use Rattle.meaning.proofs.Reading.{read-kept}
 use Rattle.meaning.proofs.Rows.{accepted-iff}
 use Rattle.meaning.proofs.Induction.{rows-iff, cellsIn, IsTrue}

@@ -11,18 +11,19 @@ use lib.Seq.{getD-take, getD-drop}
 use lib.IntN.{ℤ, pos}
 use Rattle.algebra.specs.Congruence.{remainder}
 use Rattle.algebra.specs.Digits.{Below}
-use Rattle.meaning.specs.Number.{inRange, signed}
+use Rattle.meaning.specs.Number.{inRange, signed, OddPrime}
 use Rattle.meaning.specs.Line.{Line}
-use Rattle.meaning.specs.Known.{Known}
+use Rattle.meaning.specs.Known.{Known, Within}
 use Rattle.meaning.specs.Gadget.Interface.{Gadget}
 use Rattle.meaning.specs.Meaning.{gadget, after}
 use Rattle.meaning.specs.Work.{true-table, workFrom}
 use Rattle.meaning.specs.Claims.{inputCellsFrom, signedAt}
-use Rattle.meaning.proofs.Number.{OddPrime, signed-remainder}
+use Rattle.meaning.proofs.Number.{signed-remainder}
 use Rattle.meaning.proofs.Cells.{cellsAt}
-use Rattle.meaning.proofs.Law.{Within, InCells, below-append, Law}
-use Rattle.meaning.proofs.Kept.{Kept, keeps-all}
-use Rattle.meaning.proofs.Lines.{Sound, sound-after}
+use Rattle.meaning.proofs.Law.{InCells, below-append, Law}
+use Rattle.meaning.specs.Kept.{Kept, Sound}
+use Rattle.meaning.proofs.Kept.{keeps-all}
+use Rattle.meaning.proofs.Lines.{sound-after}
 use Rattle.meaning.proofs.Induction.{prime-kept, first-law, cellsIn, valuesIn, split-worked, line-cells, later-cells, within-after, cells-after}
 
 pub inputs-grow : (ls : List Line) (n : ℕ) (s s′ : Known) → Kept n s ls s′ → s .inputs ≤ s′ .inputs

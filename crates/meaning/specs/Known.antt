@@ -2,11 +2,12 @@
 -- (document 01, "Known ends", "The digit rule").
 use Prim.Native.Nat.{ℕ, _*_, _-_, _^_}
 use mathlib.Core.Bool.{Bool, cond, _&&_}
-use mathlib.Core.List.{List, []}
+use mathlib.Core.List.{List, [], _∷_}
 use lib.Dec.{leb}
 use lib.ListN.{getD}
 use lib.IntN.{ℤ, pos, _+ℤ_, _-ℤ_}
-use lib.Signed.{leZ}
+use lib.Signed.{leZ, _≤ℤ_}
+use Rattle.meaning.specs.Number.{lowest, highest}
 
 unfoldable pub larger : ℤ → ℤ → ℤ
 larger a b = cond (leZ a b) b a
@@ -41,6 +42,18 @@ endsOf s v = getD (s .known) v (ends (pos 0) (pos 0))
 
 unfoldable pub placeOf : Known → (value : ℕ) → ℕ
 placeOf s v = getD (s .places) v 0
+
+-- each value lies between its ends
+abbrev pub Within : List Ends → List ℤ → Type 0
+Within [] [] = Unit {0}
+Within [] (v ∷ vs) = ⊥
+Within (e ∷ es) [] = ⊥
+Within (e ∷ es) (v ∷ vs) = (e .E ≤ℤ v) × (v ≤ℤ e .F) × Within es vs
+
+-- the ends lie in the signed range
+abbrev pub Ranged : ℕ → List Ends → Type 0
+Ranged p [] = Unit {0}
+Ranged p (e ∷ es) = (lowest p ≤ℤ e .E) × (e .F ≤ℤ highest p) × Ranged p es
 
 -- ---- the digit rule
 

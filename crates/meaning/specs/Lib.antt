@@ -6,6 +6,7 @@ pub mod Row
 pub mod Gadget
 pub mod Meaning
 pub mod Refusal
+pub mod Kept
 pub mod Work
 pub mod Reply
 pub mod Desk

@@ -54,6 +54,15 @@ unfoldable pub onSome : {A : Type 0} → Option ℕ → (ℕ → A) → A → A
 onSome none f x = x
 onSome (some i) f x = f i
 
+-- a value, or the number of the refusal where there is none
+pub data Result (A : Type 0) : Type 0 where
+  value : A → Result A
+  refusedBy : (number : ℕ) → Result A
+
+unfoldable pub orRefused : {A : Type 0} → (number : ℕ) → Option A → Result A
+orRefused r none = refusedBy r
+orRefused r (some x) = value x
+
 unfoldable pub isField : Word → Bool
 isField field = true
 isField input = false

@@ -40,6 +40,11 @@ unfoldable pub firstFail : {A : Type 0} → (A → Bool) → ℕ → List A → 
 firstFail f n [] = none
 firstFail f n (x ∷ xs) = let later = firstFail f (suc n) xs in cond (f x) later (some n)
 
+-- the refusal at a place, where there is one
+unfoldable pub refusalAt : (number : ℕ) → Option ℕ → Option Reply
+refusalAt r none = none
+refusalAt r (some i) = some (reply r i)
+
 -- the rows of a list, in order
 unfoldable pub rowsFrom : Known → List Line → List Row
 rowsFrom s [] = []

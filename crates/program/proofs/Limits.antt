@@ -8,10 +8,10 @@ use lib.ListN.{length, length-append}
 use Rattle.meaning.specs.Line.{Line}
 use Rattle.meaning.specs.Known.{Known, fresh}
 use Rattle.meaning.specs.Meaning.{gadget, after}
-use Rattle.meaning.specs.Refusal.{valueLimit, cellLimit}
 use Rattle.meaning.specs.Reply.{made}
 use Rattle.meaning.specs.Program.{joined}
-use Rattle.meaning.proofs.Kept.{Kept, Keeps, keeps-all}
+use Rattle.meaning.specs.Kept.{Kept, Keeps}
+use Rattle.meaning.proofs.Kept.{keeps-all}
 use Rattle.meaning.proofs.Reading.{read-kept}
 use Rattle.reader.proofs.Steps.{few}
 use Rattle.service.specs.Walk.{ListRead}

@@ -14,7 +14,8 @@ use Rattle.meaning.specs.Line.{Line}
 use Rattle.meaning.specs.Known.{Ends, ends, Known}
 use Rattle.meaning.specs.Meaning.{gadget, placesFrom, after}
 use Rattle.meaning.specs.Refusal.{valueLimit, onSome, rules, firstBroken}
-use Rattle.meaning.proofs.Kept.{Keeps, keeps-all}
+use Rattle.meaning.specs.Kept.{Keeps}
+use Rattle.meaning.proofs.Kept.{keeps-all}
 use Rattle.reader.specs.State.{endsFrom, stateOf}
 use Rattle.reader.specs.Told.{Told, refuses, makes, toldOf, madeSeen}
 use Rattle.reader.specs.Step.{stops, goes, stepOf, stepSeen, WithinLimits, Grows}

@@ -13,7 +13,8 @@ use Rattle.meaning.specs.Known.{Ends, ends, Known, endsOf}
 use Rattle.meaning.specs.Gadget.Span.{shared, spanLine}
 use Rattle.meaning.specs.Meaning.{byWord, gadget, placesFrom, primeAfter, after}
 use Rattle.meaning.specs.Refusal.{rules, firstBroken, valueLimit}
-use Rattle.meaning.proofs.Kept.{Keeps, keeps-all}
+use Rattle.meaning.specs.Kept.{Keeps}
+use Rattle.meaning.proofs.Kept.{keeps-all}
 use Rattle.meaning.proofs.Lines.{first-named}
 use Rattle.reader.specs.State.{endsFrom, stateOf}
 use Rattle.reader.specs.Told.{spanTold, madeSeen, lineWith}

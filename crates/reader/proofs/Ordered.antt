@@ -19,7 +19,7 @@ use Rattle.meaning.specs.Gadget.Max.{maxLine}
 use Rattle.meaning.specs.Gadget.Root.{rootLine}
 use Rattle.meaning.specs.Meaning.{byWord, gadget, after}
 use Rattle.meaning.proofs.Order.{larger-left, larger-keeps, smaller-left}
-use Rattle.meaning.proofs.Kept.{Keeps}
+use Rattle.meaning.specs.Kept.{Keeps}
 
 -- each value's ends are in order
 abbrev pub Ordered : List Ends → Type 0

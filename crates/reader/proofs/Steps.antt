@@ -27,7 +27,7 @@ use Rattle.meaning.specs.Gadget.Max.{maxLine}
 use Rattle.meaning.specs.Gadget.Root.{rootLine}
 use Rattle.meaning.specs.Meaning.{byWord, gadget, primeAfter, after}
 use Rattle.meaning.specs.Refusal.{all, onSome, isMade, isField, isPlaced, rulesWithin, rules, firstBroken}
-use Rattle.meaning.proofs.Kept.{Keeps}
+use Rattle.meaning.specs.Kept.{Keeps}
 use Rattle.meaning.proofs.Lines.{digits-ranged}
 use Rattle.text.specs.Word.{wordOf}
 use Rattle.text.specs.declared.Word.{Word}

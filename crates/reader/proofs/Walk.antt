@@ -13,16 +13,15 @@ use lib.Seq.{length-take-le, getD-take}
 use lib.IntN.{ℤ, pos, natAbs}
 use Rattle.number.proofs.Bounded.{bounded-range}
 use Rattle.algebra.proofs.Integer.Linear.{linear}
-use Rattle.meaning.specs.Number.{half, lowest, highest}
+use Rattle.meaning.specs.Number.{half, lowest, highest, OddPrime}
 use Rattle.meaning.specs.Text.{isEnded}
 use Rattle.meaning.specs.Line.{Line, lineOf}
-use Rattle.meaning.specs.Known.{Known}
+use Rattle.meaning.specs.Known.{Known, Ranged}
 use Rattle.meaning.specs.Meaning.{gadget, after}
 use Rattle.meaning.specs.Refusal.{valueLimit, cellLimit, Reading, onReading, rules, firstBroken, readLine, readFrom}
-use Rattle.meaning.proofs.Number.{OddPrime}
-use Rattle.meaning.proofs.Law.{Ranged}
-use Rattle.meaning.proofs.Kept.{Keeps, keeps-all}
-use Rattle.meaning.proofs.Lines.{Sound, sound-after}
+use Rattle.meaning.specs.Kept.{Keeps, Sound}
+use Rattle.meaning.proofs.Kept.{keeps-all}
+use Rattle.meaning.proofs.Lines.{sound-after}
 use Rattle.text.specs.Place.{Found, linesFrom}
 use Rattle.text.proofs.Places.{lines-none, line-within, lines-next}
 use Rattle.reader.specs.State.{greatest, endsFrom, stateOf, Ready}

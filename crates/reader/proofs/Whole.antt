@@ -12,7 +12,7 @@ use Rattle.meaning.specs.Line.{Line, lineOf}
 use Rattle.meaning.specs.Known.{Known, fresh}
 use Rattle.meaning.specs.Meaning.{after}
 use Rattle.meaning.specs.Refusal.{textLimit, Reading, onReading, rules, firstBroken, readLine, readFrom, readingBy, reading}
-use Rattle.meaning.proofs.Number.{OddPrime}
+use Rattle.meaning.specs.Number.{OddPrime}
 use Rattle.meaning.proofs.Kept.{keeps-all}
 use Rattle.meaning.proofs.Lines.{sound-after, sound-fresh}
 use Rattle.text.specs.Place.{Found, linesFrom}

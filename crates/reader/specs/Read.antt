@@ -12,7 +12,7 @@ use Rattle.meaning.specs.Refusal.{Reading, onSome, onReading, rules, firstBroke
 use Rattle.meaning.specs.Claims.{Fits, Before}
 use Rattle.meaning.specs.Reply.{reply, counts, refusal}
 use Rattle.meaning.specs.Reply.{Answer as Meant}
-use Rattle.meaning.proofs.Number.{OddPrime}
+use Rattle.meaning.specs.Number.{OddPrime}
 use Rattle.reader.specs.State.{greatest}
 use Rattle.reader.specs.Step.{Step, stops, goes}
 use Rattle.reader.specs.declared.read.First.{First}

@@ -15,7 +15,7 @@ ghost use Rattle.meaning.specs.Line.{lineOf};
 ghost use mathlib.Core.Bool.{true};
 ghost use Rattle.meaning.specs.Text.{isEnded};
 ghost use Rattle.meaning.specs.Refusal.{isField, rules, readFrom, reading};
-ghost use Rattle.meaning.proofs.Number.{OddPrime};
+ghost use Rattle.meaning.specs.Number.{OddPrime};
 ghost use Rattle.text.specs.Place.{linesFrom};
 ghost use Rattle.meaning.specs.Reply.{readReply};
 ghost use Rattle.text.specs.Word.{wordOf};

@@ -10,7 +10,7 @@ ghost use lib.IntN.{pos, natAbs};
 ghost use lib.Signed.{_≤ℤ_};
 ghost use Rattle.meaning.specs.Line.{isCount};
 ghost use Rattle.meaning.specs.Known.{Known};
-ghost use Rattle.meaning.proofs.Kept.{Keeps};
+ghost use Rattle.meaning.specs.Kept.{Keeps};
 ghost use Rattle.text.specs.Word.{wordOf};
 ghost use Rattle.reader.specs.Told.{lineWith};
 ghost use Rattle.reader.specs.Size.{counted, Adds};

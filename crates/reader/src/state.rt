@@ -8,7 +8,7 @@ ghost use Rattle.meaning.specs.Line.{Line, span, sizeAt};
 ghost use mathlib.Core.List.{List};
 ghost use lib.IntN.{ℤ};
 ghost use Rattle.meaning.specs.Known.{Known};
-ghost use Rattle.meaning.proofs.Kept.{Keeps};
+ghost use Rattle.meaning.specs.Kept.{Keeps};
 ghost use Rattle.reader.specs.State.{stateOf};
 ghost use Rattle.reader.specs.Told.{toldOf, spanTold, madeSeen, lineWith};
 ghost use Rattle.reader.specs.Size.{Adds, FewCounts};

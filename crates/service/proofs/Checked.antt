@@ -8,7 +8,7 @@ use native.Mathlib.Omega.{arith}
 use borrow.Author.Tests.{eq-eqb, ne-eqb, lt-ltb, le-ltb}
 use lib.Dec.{T, ltb, leb→le}
 use lib.IntN.{ℤ}
-use lib.ListN.{length, getD, take, drop}
+use lib.ListN.{length, getD}
 use Rattle.algebra.specs.Digits.{Below}
 use Rattle.algebra.proofs.Test.{ltb-iff}
 use Rattle.meaning.specs.Line.{Line}
@@ -17,7 +17,7 @@ use Rattle.meaning.specs.Row.{Row, among, holds}
 use Rattle.meaning.specs.Meaning.{gadget, after}
 use Rattle.meaning.specs.Refusal.{cellLimit, onSome, refused, onReading, reading, valueLimit}
 use Rattle.meaning.specs.Reply.{Reply, reply, firstFail, isCell, rowsFrom, rowsOf, checked, checkReply}
-use Rattle.meaning.proofs.Kept.{Keeps}
+use Rattle.meaning.specs.Kept.{Keeps}
 use Rattle.meaning.proofs.Lists.{all-pass}
 use Rattle.text.specs.Word.{wordOf}
 use Rattle.reader.specs.declared.state.Counts.{Counts}

@@ -11,7 +11,7 @@ use Rattle.meaning.specs.Text.{linesOf, isEnded}
 use Rattle.meaning.specs.Line.{Line}
 use Rattle.meaning.specs.Known.{Known, fresh}
 use Rattle.meaning.specs.Refusal.{textLimit, rules, Reading, refused, read, onReading, readFrom, readingBy, reading}
-use Rattle.meaning.proofs.Number.{OddPrime}
+use Rattle.meaning.specs.Number.{OddPrime}
 use Rattle.reader.specs.State.{greatest}
 use Rattle.reader.specs.Read.{Survey, counted, refusedAt, surveyOf, surveySeen, PrimeFound}
 use Rattle.reader.specs.declared.state.Counts.{Counts}

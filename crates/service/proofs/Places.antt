@@ -17,9 +17,9 @@ use Rattle.meaning.specs.Line.{Line}
 use Rattle.meaning.specs.Known.{Ends, Known, fresh}
 use Rattle.meaning.specs.Gadget.Interface.{Gadget}
 use Rattle.meaning.specs.Meaning.{gadget, placesFrom, after}
-use Rattle.meaning.proofs.Kept.{Keeps}
+use Rattle.meaning.specs.Kept.{Keeps, Sound}
 use Rattle.meaning.proofs.Law.{Law, below-at, below-append}
-use Rattle.meaning.proofs.Lines.{Sound, line-law}
+use Rattle.meaning.proofs.Lines.{line-law}
 use Rattle.reader.specs.declared.state.Counts.{Counts}
 use Rattle.reader.proofs.Steps.{few}
 use Rattle.service.specs.Walk.{Counted, withPlace, Placed}

@@ -14,14 +14,15 @@ use lib.Seq.{take-suc-set, getD-drop, drop-drop}
 use Rattle.algebra.proofs.Test.{≡-test}
 use Rattle.meaning.specs.Number.{inRange}
 use Rattle.meaning.specs.Line.{Line}
-use Rattle.meaning.specs.Known.{Known, fresh}
+use Rattle.meaning.specs.Known.{Known, fresh, Within}
 use Rattle.meaning.specs.Gadget.Interface.{Gadget}
 use Rattle.meaning.specs.Meaning.{gadget, after}
 use Rattle.meaning.specs.Refusal.{valueLimit}
 use Rattle.meaning.specs.Work.{false-at, true-table, withCells, workFrom, work}
 use Rattle.meaning.specs.Work.{Worked as Meant}
-use Rattle.meaning.proofs.Kept.{Kept, keeps-all}
-use Rattle.meaning.proofs.Law.{Within, Law}
+use Rattle.meaning.specs.Kept.{Kept}
+use Rattle.meaning.proofs.Kept.{keeps-all}
+use Rattle.meaning.proofs.Law.{Law}
 use Rattle.meaning.proofs.Induction.{first-law}
 use Rattle.meaning.proofs.Working.{inputs-grow}
 use Rattle.text.specs.Word.{wordOf}

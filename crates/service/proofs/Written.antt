@@ -1,6 +1,6 @@
 -- Writing the cells of a list line by line, for values that were worked before: what holds before each line of the walk.
 use mathlib.Core.Path.{_≡_, refl, sym, ap, ap₂, _∙_}
-use mathlib.Core.Bool.{true, cond}
+use mathlib.Core.Bool.{cond}
 use mathlib.Core.List.{List, [], _∷_, _++_, append-nil, append-assoc}
 use Prim.Native.Nat.{ℕ, suc, _+_, _-_, _≤_, _<_}
 use native.Mathlib.Omega.{arith}
@@ -13,7 +13,7 @@ use lib.Seq.{take-add, take-take, take-at, drop-at, getD-drop, drop-drop, length
 use borrow.Rule.Slice.PartMut.{putMid}
 use Rattle.meaning.specs.Number.{inRange, remainder}
 use Rattle.meaning.specs.Line.{Word, field, input, span, sum, relu, which, max, root, Line}
-use Rattle.meaning.specs.Known.{Known, fresh}
+use Rattle.meaning.specs.Known.{Known, fresh, Within}
 use Rattle.meaning.specs.Gadget.Interface.{Gadget}
 use Rattle.meaning.specs.Gadget.Field.{fieldLine}
 use Rattle.meaning.specs.Gadget.Input.{inputLine}
@@ -25,8 +25,9 @@ use Rattle.meaning.specs.Gadget.Max.{maxLine}
 use Rattle.meaning.specs.Gadget.Root.{rootLine}
 use Rattle.meaning.specs.Meaning.{byWord, gadget, after}
 use Rattle.meaning.specs.Work.{Worked, false-at, true-table, withCells, workFrom, work}
-use Rattle.meaning.proofs.Kept.{Kept, keeps-all}
-use Rattle.meaning.proofs.Law.{Within, Law}
+use Rattle.meaning.specs.Kept.{Kept}
+use Rattle.meaning.proofs.Kept.{keeps-all}
+use Rattle.meaning.proofs.Law.{Law}
 use Rattle.meaning.proofs.Induction.{first-law, cells-grow, valuesIn, cellsIn, split-worked}
 use Rattle.meaning.proofs.Working.{inputs-grow}
 use Rattle.text.specs.Word.{wordOf}

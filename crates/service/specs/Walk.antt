@@ -12,9 +12,8 @@ use Rattle.meaning.specs.Line.{Line, lineOf, isCount}
 use Rattle.meaning.specs.Known.{Known}
 use Rattle.meaning.specs.Meaning.{after}
 use Rattle.meaning.specs.Refusal.{read, reading, cellLimit, valueLimit}
-use Rattle.meaning.proofs.Kept.{Kept}
-use Rattle.meaning.proofs.Number.{OddPrime}
-use Rattle.meaning.proofs.Lines.{Sound}
+use Rattle.meaning.specs.Kept.{Kept, Sound}
+use Rattle.meaning.specs.Number.{OddPrime}
 use Rattle.text.specs.Place.{linesFrom}
 use Rattle.text.specs.Word.{wordOf}
 use Rattle.reader.specs.State.{greatest, Small}

@@ -13,7 +13,7 @@ ghost use lib.ListN.{length, take};
 ghost use Rattle.meaning.specs.Line.{isCount};
 ghost use Rattle.meaning.specs.Known.{Known};
 ghost use Rattle.meaning.specs.Meaning.{after};
-ghost use Rattle.meaning.proofs.Kept.{Keeps};
+ghost use Rattle.meaning.specs.Kept.{Keeps};
 ghost use Rattle.text.specs.Word.{wordOf};
 ghost use Rattle.reader.specs.Told.{lineWith};
 ghost use Rattle.service.specs.Walk.{Counted, Few, AtLine, Took, withPlace};

@@ -8,7 +8,7 @@ use lib.IntN.{ℤ, pos, _-ℤ_}
 use lib.ListN.{length, getD, take, drop}
 use lib.Seq.{drop-cons}
 use Rattle.meaning.specs.Line.{Word, field, input, span, sum, relu, which, max, root}
-use Rattle.meaning.specs.Number.{remainder}
+use Rattle.meaning.specs.Number.{remainder, OddPrime}
 use Rattle.meaning.specs.Known.{Known, larger}
 use Rattle.meaning.specs.Meaning.{byWord, gadget}
 use Rattle.meaning.specs.Refusal.{isField}
@@ -23,7 +23,6 @@ use Rattle.meaning.specs.Gadget.Relu.{reluLine}
 use Rattle.meaning.specs.Gadget.Which.{whichValue, whichLine}
 use Rattle.meaning.specs.Gadget.Max.{maxLine}
 use Rattle.meaning.specs.Gadget.Root.{rootLine}
-use Rattle.meaning.proofs.Number.{OddPrime}
 use Rattle.table.specs.Cells.{maxCells, rootCells, sumOf}
 use Rattle.table.specs.Line.{KeptLine, gadgetOf, knownCount}
 use Rattle.table.specs.LineValues.{CellsAsked, CellsTold}

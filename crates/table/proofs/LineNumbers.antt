@@ -13,10 +13,10 @@ use lib.Seq.{getD-take}
 use lib.Signed.{_≤ℤ_, nonNeg}
 use Rattle.algebra.proofs.Test.{left, right, test-≡}
 use Rattle.algebra.proofs.Integer.Linear.{linear}
-use Rattle.meaning.specs.Number.{half, lowest, highest}
+use Rattle.meaning.specs.Number.{half, lowest, highest, OddPrime}
 use Rattle.meaning.specs.Line.{Word, field, input, span, sum, relu, which, max, root, numberAt, sizeAt}
 use Rattle.meaning.specs.Line.{namesOf, Digits, digitsAt, digitsOf}
-use Rattle.meaning.specs.Known.{Known, endsOf, apart, above, digitRule}
+use Rattle.meaning.specs.Known.{Known, endsOf, apart, above, digitRule, Within}
 use Rattle.meaning.specs.Gadget.Digits.{valueAt}
 use Rattle.meaning.specs.Gadget.Sign.{signShift}
 use Rattle.meaning.specs.Gadget.Span.{spanLine}
@@ -26,10 +26,9 @@ use Rattle.meaning.specs.Gadget.Max.{maxLine}
 use Rattle.meaning.specs.Gadget.Root.{rootLine}
 use Rattle.meaning.specs.Meaning.{byWord, gadget}
 use Rattle.meaning.specs.Refusal.{valueLimit, all, isField, isMade, isDigits}
-use Rattle.meaning.proofs.Number.{OddPrime}
 use Rattle.meaning.proofs.Lines.{made-name, after-field}
 use Rattle.meaning.proofs.Group.{rule-power}
-use Rattle.meaning.proofs.Law.{Within, low-end, high-end, low-ranged, high-ranged}
+use Rattle.meaning.proofs.Law.{low-end, high-end, low-ranged, high-ranged}
 use Rattle.number.specs.Bounded.{Bounded}
 use Rattle.number.proofs.Bounded.{bounded-more, bounded-range}
 use Rattle.reader.specs.State.{greatest}

@@ -1,18 +1,18 @@
 -- What a read list tells of a sum, as `sum_works` asks it: where the ends of every step lie in -M..M, and each value lies between
 -- its ends, no step of the sum is great.
 use mathlib.Core.List.{List, [], _∷_}
-use Prim.Native.Nat.{ℕ, _^_, _≤_}
+use Prim.Native.Nat.{ℕ, _≤_}
 use lib.Dec.{T}
 use lib.IntN.{ℤ}
 use lib.Signed.{≤ℤ-refl}
 use Rattle.algebra.proofs.Test.{left, right}
 use Rattle.algebra.proofs.Integer.Linear.{linear}
 use Rattle.meaning.specs.Number.{half, lowest, highest, inRange}
-use Rattle.meaning.specs.Known.{Known, Ends, ends, endsOf}
+use Rattle.meaning.specs.Known.{Known, Ends, ends, endsOf, Within}
 use Rattle.meaning.specs.Gadget.Digits.{valueAt}
 use Rattle.meaning.specs.Gadget.Sum.{Term, scaled, added, endsInRange, sumFits}
 use Rattle.meaning.proofs.Order.{between-iff}
-use Rattle.meaning.proofs.Law.{Within, low-end, high-end}
+use Rattle.meaning.proofs.Law.{low-end, high-end}
 use Rattle.meaning.proofs.Gadget.Sum.{Named, Between, scaled-between, added-between}
 use Rattle.number.specs.Bounded.{Bounded}
 use Rattle.number.proofs.Bounded.{bounded-more, bounded-range}

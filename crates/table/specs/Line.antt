@@ -10,8 +10,7 @@ use Rattle.meaning.specs.Known.{Known}
 use Rattle.meaning.specs.Meaning.{gadget}
 use Rattle.meaning.specs.Gadget.Interface.{Gadget}
 use Rattle.meaning.specs.Refusal.{isField}
-use Rattle.meaning.proofs.Kept.{Keeps}
-use Rattle.meaning.proofs.Lines.{Sound}
+use Rattle.meaning.specs.Kept.{Keeps, Sound}
 use Rattle.reader.specs.State.{greatest, Small}
 use Rattle.reader.specs.Told.{lineWith}
 use Rattle.text.specs.Parsed.{mostNumbers}

@@ -9,7 +9,7 @@ use lib.ListN.{length, take, drop}
 use Rattle.meaning.specs.Line.{Word}
 use Rattle.meaning.specs.Gadget.Interface.{Gadget}
 use Rattle.meaning.specs.Refusal.{isField, valueLimit}
-use Rattle.meaning.proofs.Law.{Within}
+use Rattle.meaning.specs.Known.{Within}
 use Rattle.table.specs.Line.{KeptLine, gadgetOf, knownCount}
 use Rattle.table.specs.Cells.{workedSeen}
 use Rattle.table.specs.declared.value.Worked.{Worked}

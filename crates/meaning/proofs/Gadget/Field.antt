@@ -3,10 +3,10 @@ use mathlib.Core.Path.{refl}
 use mathlib.Core.List.{[]}
 use Prim.Native.Nat.{ℕ}
 use native.Mathlib.Omega.{arith}
-use Rattle.meaning.specs.Known.{Known}
+use Rattle.meaning.specs.Known.{Known, Ranged}
 use Rattle.meaning.specs.Gadget.Field.{fieldLine}
 use Rattle.meaning.proofs.Cells.{cellsAt-zero}
-use Rattle.meaning.proofs.Law.{Ranged, within-append, ranged-append, Law}
+use Rattle.meaning.proofs.Law.{within-append, ranged-append, Law}
 
 pub field-law : (p : ℕ) (s : Known) → Ranged p (s .known) → Law p s (fieldLine s)
 unfolding fieldLine

@@ -7,12 +7,12 @@ use lib.ListN.{length, getD}
 use lib.Signed.{≤ℤ-refl}
 use Rattle.algebra.specs.Congruence.{remainder}
 use Rattle.algebra.proofs.Congruence.{remainder-below}
-use Rattle.meaning.specs.Number.{lowest, highest}
-use Rattle.meaning.specs.Known.{Known, ends}
+use Rattle.meaning.specs.Number.{lowest, highest, OddPrime}
+use Rattle.meaning.specs.Known.{Known, ends, Ranged}
 use Rattle.meaning.specs.Gadget.Input.{inputLine}
-use Rattle.meaning.proofs.Number.{OddPrime, positive, range-low, range-high, remainder-signed}
+use Rattle.meaning.proofs.Number.{positive, range-low, range-high, remainder-signed}
 use Rattle.meaning.proofs.Cells.{cellsAt-zero, cons-iff}
-use Rattle.meaning.proofs.Law.{Ranged, within-append, ranged-append, below-at, Law}
+use Rattle.meaning.proofs.Law.{within-append, ranged-append, below-at, Law}
 
 pub input-law : (s : Known) → OddPrime (s .p) → Ranged (s .p) (s .known) → Law (s .p) s (inputLine s)
 unfolding inputLine

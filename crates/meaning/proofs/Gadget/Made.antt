@@ -13,12 +13,12 @@ use Rattle.algebra.specs.Congruence.{remainder}
 use Rattle.algebra.specs.Digits.{Below}
 use Rattle.algebra.proofs.Congruence.{remainder-below}
 use Rattle.meaning.specs.Number.{lowest, highest}
-use Rattle.meaning.specs.Known.{Ends, Known}
+use Rattle.meaning.specs.Known.{Ends, Known, Within, Ranged}
 use Rattle.meaning.specs.Row.{Row}
 use Rattle.meaning.specs.Gadget.Interface.{Gadget}
 use Rattle.meaning.proofs.Cells.{cellsAt, cons-iff}
 use Rattle.meaning.proofs.Hold.{Hold}
-use Rattle.meaning.proofs.Law.{Within, Ranged, within-append, ranged-append, Before, Law}
+use Rattle.meaning.proofs.Law.{within-append, ranged-append, Before, Law}
 
 module _ (s : Known) (unambiguous fits overlaps : Bool) (es : Ends) (width more : ℕ) (rows : List Row)
     (statement : List ℤ → Bool) (value : List ℤ → ℤ) (others : List ℤ → List ℕ) where

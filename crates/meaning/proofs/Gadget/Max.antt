@@ -20,12 +20,12 @@ use Rattle.algebra.proofs.Congruence.{congruent-≡, congruent-refl, congruent-
 use Rattle.algebra.proofs.Congruence.{congruent-of-difference, difference-congruent}
 use Rattle.algebra.proofs.Prime.{euclid-integers}
 use Rattle.algebra.proofs.Digits.{power-positive, DigitRule}
-use Rattle.meaning.specs.Number.{lowest, highest}
-use Rattle.meaning.specs.Known.{Known, Ends, ends, endsOf, placeOf, larger, above, digitRule}
+use Rattle.meaning.specs.Number.{lowest, highest, OddPrime}
+use Rattle.meaning.specs.Known.{Known, Ends, ends, endsOf, placeOf, larger, above, digitRule, Within, Ranged}
 use Rattle.meaning.specs.Row.{Form, cell, constant, _⊖_, _⊗_, eval, Row, _≅_, holds, group}
 use Rattle.meaning.specs.Gadget.Digits.{valueAt, groupCells}
 use Rattle.meaning.specs.Gadget.Max.{maxLine}
-use Rattle.meaning.proofs.Number.{OddPrime, positive, told-by-number}
+use Rattle.meaning.proofs.Number.{positive, told-by-number}
 use Rattle.meaning.proofs.Order.{
   larger-left,
   larger-right,
@@ -41,7 +41,7 @@ use Rattle.meaning.proofs.Cells.{cellsAt}
 use Rattle.meaning.proofs.Hold.{Hold, row-holds}
 use Rattle.meaning.proofs.Group.{rule-kept, rule-power, length-group, length-more, group-below, below-more}
 use Rattle.meaning.proofs.Group.{Spanned, Tells, tells-group, tells-more}
-use Rattle.meaning.proofs.Law.{Within, InCells, Ranged, low-end, high-end, low-ranged, high-ranged, value-congruent, below-at, Law}
+use Rattle.meaning.proofs.Law.{InCells, low-end, high-end, low-ranged, high-ranged, value-congruent, below-at, Law}
 use Rattle.meaning.proofs.Gadget.Made.{made-law}
 
 -- ---- over whole numbers

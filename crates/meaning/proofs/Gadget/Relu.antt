@@ -12,15 +12,15 @@ use Rattle.algebra.specs.Congruence.{Congruent}
 use Rattle.algebra.proofs.Integer.Linear.{linear}
 use Rattle.algebra.proofs.Integer.Ring.{var, lit, _⊗_ as _⊠_, ring}
 use Rattle.algebra.proofs.Congruence.{congruent-≡, congruent-sym, congruent-trans, residue-iff}
-use Rattle.meaning.specs.Number.{highest}
-use Rattle.meaning.specs.Known.{Known, Ends, ends, endsOf, placeOf, larger}
+use Rattle.meaning.specs.Number.{highest, OddPrime}
+use Rattle.meaning.specs.Known.{Known, Ends, ends, endsOf, placeOf, larger, Ranged}
 use Rattle.meaning.specs.Row.{Form, cell, _⊗_, eval, Row, _≅_}
 use Rattle.meaning.specs.Gadget.Digits.{valueAt}
 use Rattle.meaning.specs.Gadget.Relu.{reluLine}
-use Rattle.meaning.proofs.Number.{OddPrime, positive, lowest-zero, one-highest}
+use Rattle.meaning.proofs.Number.{positive, lowest-zero, one-highest}
 use Rattle.meaning.proofs.Order.{larger-left, larger-least, larger-keeps, larger-is-left, larger-is-right}
 use Rattle.meaning.proofs.Hold.{row-holds}
-use Rattle.meaning.proofs.Law.{Ranged, low-end, high-end, high-ranged, value-congruent, Law}
+use Rattle.meaning.proofs.Law.{low-end, high-end, high-ranged, value-congruent, Law}
 use Rattle.meaning.proofs.Gadget.Sign.{Flag, sign-law}
 
 -- f·v is the greater of 0 and v, whatever congruent number stands for v

@@ -20,18 +20,18 @@ use Rattle.algebra.proofs.Congruence.{congruent-refl, congruent-sym, congruent-
 use Rattle.algebra.proofs.Congruence.{remainder-below, residue-iff}
 use Rattle.algebra.proofs.Digits.{DigitRule}
 use Rattle.algebra.proofs.Root.{root-square, root-next, root-below, root-unique}
-use Rattle.meaning.specs.Number.{half, lowest, highest, inRange, between, signed}
-use Rattle.meaning.specs.Known.{Known, ends, placeOf}
+use Rattle.meaning.specs.Number.{half, lowest, highest, inRange, between, signed, OddPrime}
+use Rattle.meaning.specs.Known.{Known, ends, placeOf, Within, Ranged}
 use Rattle.meaning.specs.Row.{Form, cell, constant, _⊕_, _⊖_, _⊗_, eval, Row, _≅_, holds, group}
 use Rattle.meaning.specs.Gadget.Digits.{valueAt, groupCells}
 use Rattle.meaning.specs.Gadget.Root.{rootValue, rootLine}
-use Rattle.meaning.proofs.Number.{OddPrime, positive, range-test, range-low, range-high, signed-congruent, signed-range}
+use Rattle.meaning.proofs.Number.{positive, range-test, range-low, range-high, signed-congruent, signed-range}
 use Rattle.meaning.proofs.Number.{told-by-number}
 use Rattle.meaning.proofs.Order.{between-iff}
 use Rattle.meaning.proofs.Cells.{cellsAt, cons-iff}
 use Rattle.meaning.proofs.Hold.{Hold, row-holds}
 use Rattle.meaning.proofs.Group.{length-group, length-more, group-below, below-more, Spanned, Tells, tells-group, tells-more}
-use Rattle.meaning.proofs.Law.{Within, InCells, Ranged, low-end, high-end, low-ranged, high-ranged, value-congruent, below-at, Law}
+use Rattle.meaning.proofs.Law.{InCells, low-end, high-end, low-ranged, high-ranged, value-congruent, below-at, Law}
 use Rattle.meaning.proofs.Gadget.Made.{made-law}
 
 -- ---- over natural numbers

@@ -23,18 +23,18 @@ use Rattle.algebra.proofs.Congruence.{congruent-of-difference, difference-congr
 use Rattle.algebra.proofs.Congruence.{remainder-below, remainder-iff, remainder-of-residue}
 use Rattle.algebra.proofs.Prime.{euclid-integers, congruent-zero-iff, inverse-below, inverse-is, inverse-unique}
 use Rattle.algebra.proofs.Digits.{power-positive, base-below-power, digit-at, top-digit, top-digit-full, DigitRule}
-use Rattle.meaning.specs.Number.{lowest, highest}
-use Rattle.meaning.specs.Known.{Known, Ends, topPart, digitRule}
+use Rattle.meaning.specs.Number.{lowest, highest, OddPrime}
+use Rattle.meaning.specs.Known.{Known, Ends, topPart, digitRule, Within, Ranged}
 use Rattle.meaning.specs.Gadget.Interface.{Gadget}
 use Rattle.meaning.specs.Gadget.Sign.{signShift, signStatement, signRows, signTop, signCells}
-use Rattle.meaning.proofs.Number.{OddPrime, positive}
+use Rattle.meaning.proofs.Number.{positive}
 use Rattle.meaning.specs.Row.{Form, cell, constant, _⊖_, _⊗_, eval, Row, _≅_, holds, group}
 use Rattle.meaning.specs.Gadget.Digits.{groupCells}
 use Rattle.meaning.proofs.Order.{between-iff}
 use Rattle.meaning.proofs.Cells.{cellsAt, cons-iff, append-iff, cellsAt-zero}
 use Rattle.meaning.proofs.Hold.{Hold, hold-append, row-holds}
 use Rattle.meaning.proofs.Group.{group-holds, rule-kept, rule-power, length-group, group-below}
-use Rattle.meaning.proofs.Law.{Within, InCells, Ranged, below-at, below-append, Law}
+use Rattle.meaning.proofs.Law.{InCells, below-at, below-append, Law}
 use Rattle.meaning.proofs.Gadget.Made.{maker, made-law}
 
 -- ---- f and w

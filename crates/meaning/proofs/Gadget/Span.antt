@@ -7,16 +7,16 @@ use lib.Dec.{T}
 use lib.ListN.{length, getD, set}
 use lib.IntN.{ℤ, pos}
 use lib.Signed.{_≤ℤ_}
-use Rattle.meaning.specs.Number.{lowest, highest}
-use Rattle.meaning.specs.Known.{Known, Ends, endsOf, placeOf}
+use Rattle.meaning.specs.Number.{lowest, highest, OddPrime}
+use Rattle.meaning.specs.Known.{Known, Ends, endsOf, placeOf, Within, Ranged}
 use Rattle.meaning.specs.Row.{cell}
 use Rattle.meaning.specs.Gadget.Digits.{valueAt}
 use Rattle.meaning.specs.Gadget.Span.{spanTop, shared, spanLine}
-use Rattle.meaning.proofs.Number.{OddPrime, positive}
+use Rattle.meaning.proofs.Number.{positive}
 use Rattle.algebra.proofs.Integer.Linear.{linear}
 use Rattle.meaning.proofs.Order.{between-iff, larger-left, larger-least, smaller-left, smaller-greatest}
 use Rattle.meaning.proofs.Group.{group-holds, rule-kept, rule-power, length-group, group-below}
-use Rattle.meaning.proofs.Law.{Within, Ranged, within-append, ranged-append, low-end, high-end, low-ranged, high-ranged, value-congruent, Law}
+use Rattle.meaning.proofs.Law.{within-append, ranged-append, low-end, high-end, low-ranged, high-ranged, value-congruent, Law}
 
 -- narrowing the ends of one value
 set-within : (es : List Ends) (vs : List ℤ) (v : ℕ) (e : Ends) → Within es vs → e .E ≤ℤ getD vs v (pos 0) → getD vs v (pos 0) ≤ℤ e .F

@@ -15,16 +15,16 @@ use Rattle.algebra.proofs.Integer.Order.{product-keeps, product-turns}
 use Rattle.algebra.proofs.Integer.Linear.{linear}
 use Rattle.algebra.proofs.Congruence.{congruent-refl, congruent-sym, congruent-trans, congruent-+, congruent-*}
 use Rattle.algebra.proofs.Congruence.{residue-iff}
-use Rattle.meaning.specs.Number.{lowest, highest, inRange}
-use Rattle.meaning.specs.Known.{Known, Ends, ends, endsOf, placeOf}
+use Rattle.meaning.specs.Number.{lowest, highest, inRange, OddPrime}
+use Rattle.meaning.specs.Known.{Known, Ends, ends, endsOf, placeOf, Within, Ranged}
 use Rattle.meaning.specs.Row.{Form, cell, constant, _⊕_, _⊗_, eval, _≅_}
 use Rattle.meaning.specs.Gadget.Digits.{valueAt}
 use Rattle.meaning.specs.Gadget.Sum.{Term, scaled, added, sumEnds, endsInRange, sumFits, sumForm, sumValue, sumLine}
-use Rattle.meaning.proofs.Number.{OddPrime, positive, range-low, range-high}
+use Rattle.meaning.proofs.Number.{positive, range-low, range-high}
 use Rattle.meaning.proofs.Order.{larger-left, larger-right, smaller-left, smaller-right}
 use Rattle.meaning.proofs.Cells.{cellsAt-zero}
 use Rattle.meaning.proofs.Hold.{row-holds}
-use Rattle.meaning.proofs.Law.{Within, InCells, Ranged, low-end, high-end, value-congruent, below-at, Law}
+use Rattle.meaning.proofs.Law.{InCells, low-end, high-end, value-congruent, below-at, Law}
 use Rattle.meaning.proofs.Gadget.Made.{made-law}
 
 -- the values that the terms name are made

@@ -11,13 +11,14 @@ use lib.Signed.{_≤ℤ_, leZ}
 use Rattle.algebra.proofs.Test.{cond-cases, leZ-iff, test-≡, false-leZ}
 use Rattle.algebra.proofs.Integer.Linear.{linear}
 use Rattle.algebra.proofs.Congruence.{congruent-≡, congruent-trans, congruent--, residue-iff}
-use Rattle.meaning.specs.Known.{Known, ends, endsOf, placeOf, apart}
+use Rattle.meaning.specs.Known.{Known, ends, endsOf, placeOf, apart, Ranged}
 use Rattle.meaning.specs.Row.{Form, cell, constant, _⊖_, eval, Row, _≅_}
 use Rattle.meaning.specs.Gadget.Digits.{valueAt}
 use Rattle.meaning.specs.Gadget.Which.{whichValue, whichLine}
-use Rattle.meaning.proofs.Number.{OddPrime, positive, lowest-zero, one-highest}
+use Rattle.meaning.specs.Number.{OddPrime}
+use Rattle.meaning.proofs.Number.{positive, lowest-zero, one-highest}
 use Rattle.meaning.proofs.Hold.{row-holds}
-use Rattle.meaning.proofs.Law.{Ranged, low-end, high-end, value-congruent, Law}
+use Rattle.meaning.proofs.Law.{low-end, high-end, value-congruent, Law}
 use Rattle.meaning.proofs.Gadget.Sign.{Flag, Signs, sign-law}
 
 -- 1-f is the value

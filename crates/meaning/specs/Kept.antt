@@ -1,0 +1,36 @@
+-- What is known of a list that was read, as the contracts of the code say it: its lines keep the rules, and before each line a prime and ends
+-- in its signed range are known.
+use Prim.Native.Nat.{ℕ, zero, suc, _+_, _<_}
+use mathlib.Core.Path.{_≡_}
+use mathlib.Core.List.{List, [], _∷_}
+use mathlib.Core.Option.{none}
+use lib.Dec.{T, leb}
+use lib.ListN.{length}
+use Rattle.meaning.specs.Number.{OddPrime}
+use Rattle.meaning.specs.Line.{Line, namesOf}
+use Rattle.meaning.specs.Known.{Known, fresh, Ranged}
+use Rattle.meaning.specs.Meaning.{gadget, after}
+use Rattle.meaning.specs.Refusal.{valueLimit, cellLimit, all, isPlaced, isOverPrime, isRanged, isMade, rules, firstBroken}
+
+-- what the table of rules asks of line n, in state s: a field for each rule
+pub record Keeps (n : ℕ) (s : Known) (l : Line) : Type 0 where
+  pub placed : T (isPlaced n (l .word))
+  pub over-prime : T (isOverPrime (l .word) (l .numbers))
+  pub ranged : T (isRanged (s .p) (l .word) (l .numbers))
+  pub names-made : T (all (isMade (length (s .known))) (namesOf (l .word) (l .numbers)))
+  pub values-fit : T (leb (length (s .known) + length (gadget s l .made)) valueLimit)
+  pub cells-fit : T (leb (s .cells + gadget s l .width) cellLimit)
+  pub unambiguous : T (gadget s l .unambiguous)
+  pub fits : T (gadget s l .fits)
+  pub overlaps : T (gadget s l .overlaps)
+
+-- all lines keep the rules, from line n in state s to state s′
+abbrev pub Kept : (n : ℕ) (s : Known) (ls : List Line) (s′ : Known) → Type 0
+Kept n s [] s′ = s ≡ s′
+Kept n s (l ∷ ls) s′ = (firstBroken rules n s l ≡ none) × Kept (suc n) (after s l) ls s′
+
+-- what is known before line n: nothing before line 0, and then a prime and ends in its signed range
+pub record Sound (n : ℕ) (s : Known) : Type 0 where
+  pub start : n ≡ 0 → s ≡ fresh
+  pub prime : zero < n → OddPrime (s .p)
+  pub ranged : Ranged (s .p) (s .known)
