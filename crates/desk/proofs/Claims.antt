@@ -39,19 +39,24 @@ code-counts d run fresh few =
     let c = rw (sym after) at (counts (callsOf run) few) in
     (c .0, c .1, c .2, c .3, replies ∙ c .4)
 
--- ---- at the full count
+-- ---- what a call gave is all seen, and all that can be seen can be given
 
--- what a call gave is all seen
+code-of : MeantCalled → Called
+code-of k =
+    record {
+      desk = record { heard = k .desk .heard; accepted = k .desk .accepted; refused = k .desk .refused };
+      reply = record { number = k .answer .number; place = k .answer .place };
+    }
+
+seen-code : (k : MeantCalled) → calledSeen (code-of k) ≡ k
+unfolding calledSeen deskSeen replySeen code-of
+seen-code k = refl
+
 same-called : (c e : Called) → calledSeen c ≡ calledSeen e → c ≡ e
-unfolding calledSeen deskSeen replySeen
-same-called c e q = ap code q
-  where
-    code : MeantCalled → Called
-    code k =
-        record {
-          desk = record { heard = k .desk .heard; accepted = k .desk .accepted; refused = k .desk .refused };
-          reply = record { number = k .answer .number; place = k .answer .place };
-        }
+unfolding calledSeen deskSeen replySeen code-of
+same-called c e q = ap code-of q
+
+-- ---- at the full count
 
 full-call : (d : Desk) (c : Call) (gave : Called) → Agrees d → d .heard ≡ fullCount
     → Answers d (c .list) (c .table) gave → gave ≡ record { desk = d; reply = fullReply c }
@@ -69,17 +74,6 @@ code-stays-full _ (then d c gave h run) agrees full =
     (rest .0 ∙ same, ap₂ _∷_ (ap (λ (k : Called). k .reply) q) (rest .1))
 
 -- ---- every list of calls has a run
-
-code-of : MeantCalled → Called
-code-of k =
-    record {
-      desk = record { heard = k .desk .heard; accepted = k .desk .accepted; refused = k .desk .refused };
-      reply = record { number = k .answer .number; place = k .answer .place };
-    }
-
-seen-code : (k : MeantCalled) → calledSeen (code-of k) ≡ k
-unfolding calledSeen deskSeen replySeen code-of
-seen-code k = refl
 
 pub every-list-runs : EveryListRuns
 unfolding callsOf

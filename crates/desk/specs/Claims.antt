@@ -4,18 +4,18 @@ use mathlib.Core.Path.{_≡_}
 use mathlib.Core.Bool.{not}
 use mathlib.Core.List.{List, map}
 use lib.ListN.{length}
-use Rattle.meaning.specs.Desk.{freshDesk, fullCount, Call}
+use Rattle.meaning.specs.Desk.{fullCount, Call}
 use Rattle.meaning.specs.Claims.{howMany, passes, checkOf}
 use Rattle.service.specs.Reply.{replySeen}
 use Rattle.service.specs.declared.reply.Reply.{Reply}
 use Rattle.desk.specs.declared.Desk.{Desk}
-use Rattle.desk.specs.Desk.{Agrees, deskSeen}
+use Rattle.desk.specs.Desk.{Fresh, Agrees}
 use Rattle.desk.specs.Run.{Run, callsOf, repliesOf, deskOf}
 
 -- from a fresh desk, up to the full count: each count is the number of such calls, and each call is answered by its check
 abbrev pub CodeCounts : Type 0
 CodeCounts =
-    (d : Desk) (run : Run d) → deskSeen d ≡ freshDesk → length (callsOf run) < 2 ^ 64 →
+    (d : Desk) (run : Run d) → Fresh d → length (callsOf run) < 2 ^ 64 →
     Agrees (deskOf run)
     × (deskOf run .heard ≡ length (callsOf run))
     × (deskOf run .accepted ≡ howMany passes (callsOf run))

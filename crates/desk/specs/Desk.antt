@@ -3,7 +3,7 @@ use Prim.Native.Nat.{ℕ, _+_}
 use mathlib.Core.Path.{_≡_}
 use mathlib.Core.List.{List}
 use mathlib.Core.Logic.{_⊎_, _≢_}
-use Rattle.meaning.specs.Desk.{counted, called, deskCall}
+use Rattle.meaning.specs.Desk.{counted, freshDesk, called, deskCall}
 use Rattle.meaning.specs.Desk.{Desk as MeantDesk, Called as MeantCalled}
 use Rattle.service.specs.Reply.{replySeen}
 use Rattle.desk.specs.declared.Desk.{Desk}
@@ -14,6 +14,10 @@ deskSeen d = counted (d .heard) (d .accepted) (d .refused)
 
 unfoldable pub calledSeen : Called → MeantCalled
 calledSeen c = called (deskSeen (c .desk)) (replySeen (c .reply))
+
+-- a fresh desk, as `Desk::fresh` promises it: three counts, all 0
+abbrev pub Fresh : Desk → Type 0
+Fresh d = deskSeen d ≡ freshDesk
 
 -- what a call of this desk gave, with this list and table, is what document 01 says
 abbrev pub Answers : Desk → List ℕ → List ℕ → Called → Type 0

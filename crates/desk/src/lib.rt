@@ -6,10 +6,10 @@ ghost use mathlib.Core.Path.{_≡_};
 ghost use Prim.Native.Nat.{_+_, _<_};
 ghost use lib.Dec.{eqb};
 ghost use Rattle.meaning.specs.Reply.{reply};
-ghost use Rattle.meaning.specs.Desk.{freshDesk, fullCount, called};
+ghost use Rattle.meaning.specs.Desk.{fullCount, called};
 ghost use Rattle.meaning.specs.Desk.{raised as raisedDesk};
 ghost use Rattle.service.specs.Reply.{replySeen};
-ghost use Rattle.desk.specs.Desk.{deskSeen, calledSeen, Answers, Agrees, CountsOne};
+ghost use Rattle.desk.specs.Desk.{deskSeen, calledSeen, Fresh, Answers, Agrees, CountsOne};
 
 const FULL_COUNT: u64 = 18446744073709551615;
 
@@ -28,7 +28,7 @@ pub struct Called {
 
 impl Desk {
     pub fn fresh() -> Desk
-        ensures { λ r. ⌜ deskSeen r ≡ freshDesk ⌝ }
+        ensures { λ r. ⌜ Fresh r ⌝ }
     {
         Desk {
             heard: 0,

@@ -54,17 +54,11 @@ record Raised (d e : Desk) (passed : Bool) : Type 0 where
 
 raises : (d : Desk) (r : Reply) → Agrees d → Raised d (raised d r) (isAccepted r)
 unfolding raised
-raises d r h = by-test (isAccepted r)
+raises d r h = by-test (isAccepted r) (omega arith) (omega arith)
   where
-    accepting : Desk
-    accepting = counted (suc (d .heard)) (suc (d .accepted)) (d .refused)
-
-    refusing : Desk
-    refusing = counted (suc (d .heard)) (d .accepted) (suc (d .refused))
-
-    by-test : (b : Bool) → Raised d (cond b accepting refusing) b
-    by-test true = omega arith
-    by-test false = omega arith
+    by-test : {accepting refusing : Desk} (b : Bool) → Raised d accepting true → Raised d refusing false → Raised d (cond b accepting refusing) b
+    by-test true x y = x
+    by-test false x y = y
 
 -- ---- a list of calls
 

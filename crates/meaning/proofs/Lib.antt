@@ -13,6 +13,7 @@ pub mod Working
 pub mod Reading
 pub mod Rows
 pub mod TrueTables
+pub mod Accepted
 pub mod Desk
 pub mod NotEmpty
 pub mod WorkedTables

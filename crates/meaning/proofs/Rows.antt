@@ -84,12 +84,12 @@ module _ (s : Known) (ls : List Line) (t : List ℕ) where
   unfolding checked onSome
   accepted-well-formed =
       cond-cases (λ o. o ≡ reply 0 0 → WellFormed s t) (eqb (length t) (s .cells)) _ _ (λ long. by-cells long firstCell refl)
-      (λ _ e. absurd (omega (arith, another-number 13 0 0 0 e)))
+      (λ _ e. absurd (omega (arith, another-number _ _ _ _ e)))
     where
       by-cells : T (eqb (length t) (s .cells)) → (o : Option ℕ) → firstCell ≡ o → onSome o (reply 14) (byRow firstRow) ≡ reply 0 0
           → WellFormed s t
       by-cells long none q e = record { long = eqb→eq (length t) (s .cells) long; below = cells-below q }
-      by-cells long (some i) q e = absurd (omega (arith, another-number 14 i 0 0 e))
+      by-cells long (some i) q e = absurd (omega (arith, another-number _ _ _ _ e))
 
 -- ---- checking by a list
 

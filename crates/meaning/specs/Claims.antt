@@ -90,6 +90,14 @@ ChecksRows =
     × ((r : ℕ) → checkReply text t ≡ reply 15 r ↔ ((r < s .rows) × (¬ Holds s ls t r) × ((i : ℕ) → i < r → Holds s ls t i)))
     × ((checkReply text t ≡ reply 0 0) ⊎ ((r : ℕ) × (checkReply text t ≡ reply 15 r)))
 
+-- ---- accepted
+
+-- "An accepted check and a made table return 0, 0": the number alone tells it, by which the desk counts
+abbrev pub AcceptedByNumber : Type 0
+AcceptedByNumber =
+    ((text t : List ℕ) → T (isAccepted (checkReply text t)) ↔ (checkReply text t ≡ reply 0 0))
+    × ((text : List ℕ) (xs : List ℤ) (t : List ℕ) → T (isAccepted (makeReply text xs t .answer)) ↔ (makeReply text xs t .answer ≡ reply 0 0))
+
 -- ---- the digit rule
 
 -- "The digit rule is shown for all b, k and forms together": where it allows a group over a form with ends E..F and shift L, the group's rows

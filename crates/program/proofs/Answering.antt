@@ -13,6 +13,8 @@ use lib.Seq.{length-take-le, take-at}
 use Rattle.algebra.proofs.Test.{≡-test}
 use Rattle.meaning.specs.Reply.{Reply, reply, making, makeReply}
 use Rattle.meaning.specs.Program.{refusalText, tableText, makingText}
+use Rattle.service.specs.Reply.{replySeen, Makes}
+use Rattle.service.specs.declared.reply.Reply.{Reply as Replied}
 use Rattle.program.specs.Written.{Written}
 use Rattle.program.specs.Answered.{Answered, longest}
 
@@ -48,16 +50,16 @@ take-replicate (suc k) zero h = absurd (omega arith)
 take-replicate (suc k) (suc n) h = ap (λ (t : List ℕ). 0 ∷ t) (take-replicate k n (omega arith))
 
 -- a table of so many cells, at the start of a longer one
-pub within-text : (list : List ℕ) (xs : List ℤ) (table last : List ℕ) (cells : ℕ) (r : Reply) → take cells table ≡ replicate cells 0
+pub within-text : (list : List ℕ) (xs : List ℤ) (table last : List ℕ) (cells : ℕ) (r : Replied) → take cells table ≡ replicate cells 0
     → cells ≤ length table → length last ≡ length (take (cells - 0) table)
-    → (r ≡ makeReply list xs (take (cells - 0) table) .answer) × (last ≡ makeReply list xs (take (cells - 0) table) .table)
-    → makingText (making r (take (cells - 0) (putMid 0 (cells - 0) table last))) ≡ makingText (makeReply list xs (replicate cells 0))
+    → Makes list xs (take (cells - 0) table) r last
+    → makingText (making (replySeen r) (take (cells - 0) (putMid 0 (cells - 0) table last))) ≡ makingText (makeReply list xs (replicate cells 0))
 within-text list xs table last cells r zeros inside long told =
     let all : cells - 0 ≡ cells = omega arith in
     let before : take (cells - 0) table ≡ replicate cells 0 = rw all zeros in
     let size : length last ≡ cells - 0 = long ∙ length-take-le (cells - 0) table (omega arith) in
     let after : take (cells - 0) (putMid 0 (cells - 0) table last) ≡ last = take-at last (drop (cells - 0) table) (cells - 0) size in
-    rw after (ap₂ (λ (q : Reply) (t : List ℕ). makingText (making q t)) (rw before at (told .0)) (rw before at (told .1)))
+    rw after (ap₂ (λ (q : Reply) (t : List ℕ). makingText (making q t)) (rw before at (told .replied)) (rw before at (told .left)))
 
 -- ---- what was written is a part of the output
 

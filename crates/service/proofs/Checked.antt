@@ -16,9 +16,9 @@ use Rattle.meaning.specs.Known.{Known, fresh}
 use Rattle.meaning.specs.Row.{Row, among, holds}
 use Rattle.meaning.specs.Meaning.{gadget, after}
 use Rattle.meaning.specs.Refusal.{cellLimit, onSome, refused, onReading, reading, valueLimit}
-use Rattle.meaning.specs.Reply.{Reply, reply, firstFail, isCell, rowsFrom, rowsOf, checked, checkReply}
+use Rattle.meaning.specs.Reply.{Reply, reply, firstFail, refusalAt, isCell, rowsFrom, rowsOf, checked, checkReply}
 use Rattle.meaning.specs.Kept.{Keeps}
-use Rattle.meaning.proofs.Lists.{all-pass}
+use Rattle.meaning.proofs.Lists.{all-pass, refusal-some, refusal-none}
 use Rattle.text.specs.Word.{wordOf}
 use Rattle.reader.specs.declared.state.Counts.{Counts}
 use Rattle.reader.proofs.Steps.{few}
@@ -60,14 +60,14 @@ all-below p t e = each t (λ i h. ltb-iff (getD t i 0) p .0 (passed i h))
     each [] h = tt
     each (x ∷ xs) h = (h 0 (omega arith), each xs (λ i k. h (suc i) (omega arith)))
 
-module _ (t : List ℕ) (p : ℕ) (x : Cells) (told : cellsSeen x ≡ firstFail (isCell p) 0 t) where
+module _ (t : List ℕ) (p : ℕ) (x : Cells) (told : cellsSeen x ≡ refusalAt 14 (firstFail (isCell p) 0 t)) where
   pub large-found : (i : ℕ) → x ≡ Large i → firstFail (isCell p) 0 t ≡ some i
   unfolding cellsSeen
-  large-found i is = sym told ∙ ap cellsSeen is
+  large-found i is = refusal-some 14 _ i (sym told ∙ ap cellsSeen is)
 
   pub none-large : x ≡ AllBelow → firstFail (isCell p) 0 t ≡ none
   unfolding cellsSeen
-  none-large is = sym told ∙ ap cellsSeen is
+  none-large is = refusal-none 14 _ (sym told ∙ ap cellsSeen is)
 
 -- ---- the replies
 

@@ -15,45 +15,39 @@ use Rattle.meaning.specs.Line.{Line}
 use Rattle.meaning.specs.Known.{Known, fresh}
 use Rattle.meaning.specs.Refusal.{onSome, Reading, refused, read, onReading, reading}
 use Rattle.meaning.specs.Work.{Worked, false-at, true-table, work}
-use Rattle.meaning.specs.Reply.{Reply, reply, firstFail, Making, making, filled, made, makeReply, checkReply}
-use Rattle.meaning.specs.Claims.{Fits, too-long, not-ended, no-line, breaks, Column, inputsOf}
-use Rattle.meaning.proofs.Kept.{rule-number}
+use Rattle.meaning.specs.Reply.{reply, firstFail, Making, making, filled, made, makeReply, checkReply}
+use Rattle.meaning.specs.Reply.{Reply as Meant}
+use Rattle.meaning.specs.Claims.{Column, inputsOf}
 use Rattle.meaning.proofs.Lists.{all-pass}
-use Rattle.meaning.proofs.Reading.{reads-exactly}
+use Rattle.meaning.proofs.Accepted.{refused-not-zero, by-reading, zero-accepts, zero-makes}
 use Rattle.meaning.proofs.Rows.{checks-rows}
 use Rattle.meaning.proofs.TrueTables.{accepts-true-tables, makes-the-only}
 use Rattle.service.specs.Reply.{replySeen}
-use Rattle.service.specs.Claims.{RowsAreChecked, OnlyTrueTablesPass, NothingPassesUnread, MakesTrueTables, MadeTablesPass, RefusedMakingChangesNothing}
+use Rattle.service.specs.Claims.{AcceptedByNumber, RowsAreChecked, OnlyTrueTablesPass, NothingPassesUnread, MakesTrueTables, MadeTablesPass, RefusedMakingChangesNothing}
 
--- ---- a refusal of a list is never 0
+-- ---- the list
 
 number-of : {n i m j : ℕ} → reply n i ≡ reply m j → n ≡ m
-number-of e = ap (λ (r : Reply). r .number) e
+number-of e = ap (λ (r : Meant). r .number) e
 
-fits-not-zero : (text : List ℕ) (n i : ℕ) → Fits text n i → 0 < n
-fits-not-zero text n i (too-long e f g) = omega arith
-fits-not-zero text n i (not-ended e f g) = omega arith
-fits-not-zero text n i (no-line e f g) = omega arith
-fits-not-zero text n i (breaks k l h e f g b) = omega (arith, rule-number k h)
-
-refused-not-zero : (text : List ℕ) (n i : ℕ) → reading text ≡ refused n i → 0 < n
-refused-not-zero text n i e = fits-not-zero text n i (reads-exactly text .1 n i .0 e .0)
-
--- a list is read or refused
-module _ (list : List ℕ) {A : Type 0} (if-refused : (n i : ℕ) → reading list ≡ refused n i → A) (if-read : (ls : List Line) (s : Known) → reading list ≡ read ls s → A) where
-  by-reading : A
-  by-reading = by (reading list) refl
-    where
-      by : (r : Reading) → reading list ≡ r → A
-      by (refused n i) e = if-refused n i e
-      by (read ls s) e = if-read ls s e
-
--- and read in one way
+-- a list is read in one way
 read-once : {ls ms : List Line} {s z : Known} → read ls s ≡ read ms z → (ls ≡ ms) × (s ≡ z)
 unfolding onReading
 read-once e = (
   ap (λ (q : Reading). onReading q (λ n i. []) (λ ls s. ls)) e,
   ap (λ (q : Reading). onReading q (λ n i. fresh) (λ ls s. s)) e,
+)
+
+-- ---- accepted
+
+pub accepted-by-number : AcceptedByNumber
+unfolding replySeen
+accepted-by-number = (
+  λ list table r promise. (λ e. promise ∙ zero-accepts list table (sym (ap (λ (q : Meant). q .number) promise) ∙ e), number-of),
+  λ list inputs table r after promise. (
+    λ e. promise .replied ∙ zero-makes list inputs table (sym (ap (λ (q : Meant). q .number) (promise .replied)) ∙ e),
+    number-of,
+  ),
 )
 
 -- ---- checking

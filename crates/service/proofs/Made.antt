@@ -10,11 +10,13 @@ use Rattle.meaning.specs.Number.{inRange}
 use Rattle.meaning.specs.Line.{Line}
 use Rattle.meaning.specs.Known.{Known}
 use Rattle.meaning.specs.Refusal.{onSome, refused, onReading, reading, valueLimit}
-use Rattle.meaning.specs.Work.{false-at, true-table, work}
-use Rattle.meaning.specs.Reply.{Reply, reply, firstFail, Making, making, filled, made, makeReply}
+use Rattle.meaning.specs.Work.{true-table, work}
+use Rattle.meaning.specs.Reply.{reply, firstFail, refusalAt, Making, making, filled, made, makeReply}
 use Rattle.meaning.specs.Claims.{Column}
-use Rattle.meaning.proofs.Lists.{all-pass}
+use Rattle.meaning.proofs.Lists.{all-pass, refusal-some, refusal-none}
 use Rattle.service.specs.Walk.{ListRead}
+use Rattle.service.specs.Reply.{replySeen, Makes}
+use Rattle.service.specs.declared.reply.Reply.{Reply}
 use Rattle.service.specs.Make.{inputsSeen, WorkAsked, WorkDone, WriteAsked}
 use Rattle.service.specs.declared.making.Inputs.{Inputs}
 use Rattle.service.specs.declared.making.Inputs.the-variants.{AllInRange, Outside}
@@ -24,14 +26,14 @@ use Rattle.service.proofs.Listed.{same-lines}
 
 -- ---- the inputs
 
-module _ (xs : List ℤ) (p : ℕ) (r : Inputs) (told : inputsSeen r ≡ firstFail (inRange p) 0 xs) where
+module _ (xs : List ℤ) (p : ℕ) (r : Inputs) (told : inputsSeen r ≡ refusalAt 17 (firstFail (inRange p) 0 xs)) where
   pub outside-found : (i : ℕ) → r ≡ Outside i → firstFail (inRange p) 0 xs ≡ some i
   unfolding inputsSeen
-  outside-found i is = sym told ∙ ap inputsSeen is
+  outside-found i is = refusal-some 17 _ i (sym told ∙ ap inputsSeen is)
 
   pub none-outside : r ≡ AllInRange → firstFail (inRange p) 0 xs ≡ none
   unfolding inputsSeen
-  none-outside is = sym told ∙ ap inputsSeen is
+  none-outside is = refusal-none 17 _ (sym told ∙ ap inputsSeen is)
 
 pub column-of : (s : Known) (xs : List ℤ) → length xs ≡ s .inputs → firstFail (inRange (s .p)) 0 xs ≡ none → Column s xs
 column-of s xs count e = record { count = count; within = all-pass (inRange (s .p)) (pos 0) 0 xs .0 e }
@@ -66,18 +68,18 @@ module _ (list : List ℕ) (xs : List ℤ) (t : List ℕ) where
   unfolding makeReply onReading
   make-read l = rw (l .is-read) refl
 
--- a reply and a table, told together, are told apart
-pub told-apart : {r : Reply} {t : List ℕ} {m : Making} → making r t ≡ m → (r ≡ m .answer) × (t ≡ m .table)
-told-apart e = (ap (λ (q : Making). q .answer) e, ap (λ (q : Making). q .table) e)
+-- a reply and a table, told together, keep the promise of `make`
+pub makes-by : {list : List ℕ} {xs : List ℤ} {t after : List ℕ} {r : Reply} → making (replySeen r) after ≡ makeReply list xs t → Makes list xs t r after
+makes-by e = record { replied = ap (λ (q : Making). q .answer) e; left = ap (λ (q : Making). q .table) e }
 
 -- ---- the lines, worked
 
 module _ (ls : List Line) (s : Known) (xs values : List ℤ) (x : Working) (done : WorkDone ls s xs values x) where
   pub false-made : (n : ℕ) (t : List ℕ) → x ≡ FalseAt n → making (reply 18 n) t ≡ filled (work ls xs) t
-  unfolding WorkDone filled
+  unfolding WorkDone
   false-made n t is =
-      let worked : work ls xs ≡ false-at n = subst (WorkDone ls s xs values) is done in
-      rw worked refl
+      let worked : (t : List ℕ) → filled (work ls xs) t ≡ making (reply 18 n) t = subst (WorkDone ls s xs values) is done in
+      sym (worked t)
 
   all-worked : x ≡ AllTrue → (cells : List ℕ) × (work ls xs ≡ true-table (take (length (s .known)) values) cells)
   unfolding WorkDone

@@ -20,6 +20,7 @@ use Rattle.meaning.specs.Meaning.{gadget, after}
 use Rattle.meaning.specs.Refusal.{valueLimit}
 use Rattle.meaning.specs.Work.{false-at, true-table, withCells, workFrom, work}
 use Rattle.meaning.specs.Work.{Worked as Meant}
+use Rattle.meaning.specs.Reply.{filled}
 use Rattle.meaning.specs.Kept.{Kept}
 use Rattle.meaning.proofs.Kept.{keeps-all}
 use Rattle.meaning.proofs.Law.{Law}
@@ -170,10 +171,12 @@ module _ {list : List ℕ} {inputs numbers values : List ℤ} {c : Counts} {at n
     from-here = w .so-far ∙ rw (left-is, next-is) refl
 
     pub working-false : isTrue r ≡ false → (m : ListRead list) (final : List ℤ) → WorkDone (m .lines) (m .last) inputs final (FalseAt n)
-    unfolding WorkDone withCells
-    working-false is m final =
+    unfolding WorkDone withCells filled
+    working-false is m final t =
+        let false-here : work (m .lines) inputs ≡ false-at n =
         ap (λ (ls : List Line). work ls inputs) (sym (same-lines (w .asked .listed) m)) ∙ from-here
-        ∙ rw (sym (true-is r (g .statement before) (g .values before next) told) ∙ is) refl
+        ∙ rw (sym (true-is r (g .statement before) (g .values before next) told) ∙ is) refl in
+        ap (λ (x : Meant). filled x t) false-here
 
     module _ (true-here : isTrue r ≡ true) (kept : Kept n (w .state) (l ∷ rest) (w .asked .listed .last)) where
       statement-true : g .statement before ≡ true

@@ -14,10 +14,10 @@ use Rattle.service.specs.Walk.{ListRead}
 use Rattle.service.specs.declared.checking.Cells.{Cells}
 use Rattle.service.specs.declared.checking.Cells.the-variants.{AllBelow, Large}
 
--- the place of the first cell of p or more
-unfoldable pub cellsSeen : Cells → Option ℕ
+-- the refusal at the first cell of p or more: "14, cell"
+unfoldable pub cellsSeen : Cells → Option Reply
 cellsSeen AllBelow = none
-cellsSeen (Large i) = some i
+cellsSeen (Large i) = some (reply 14 i)
 
 -- a table of the list's length with all cells below p
 pub record TableAsked (list table : List ℕ) (p : ℕ) : Type 0 where

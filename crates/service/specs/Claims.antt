@@ -1,5 +1,5 @@
 -- What is claimed of the code's own replies, as types: for every list, table and column, whoever wrote the table. Each speaks of a reply
--- that keeps the promise of `check` or `make` (src/checking.rt, src/making.rt), and of the table that `make` leaves.
+-- that keeps the promise of `check` or `make` (`Checks`, `Makes`), and of the table that `make` leaves.
 -- The proofs are terms of these types, in proofs/Claims.antt. Document 01 and crates/meaning/specs say what the words mean.
 use Prim.Native.Nat.{ℕ, _<_}
 use mathlib.Core.Path.{_≡_}
@@ -11,23 +11,20 @@ use Rattle.meaning.specs.Line.{Line}
 use Rattle.meaning.specs.Known.{Known}
 use Rattle.meaning.specs.Refusal.{read, reading}
 use Rattle.meaning.specs.Work.{false-at, true-table, work}
-use Rattle.meaning.specs.Reply.{reply, checkReply, makeReply}
+use Rattle.meaning.specs.Reply.{reply}
 use Rattle.meaning.specs.Claims.{WellFormed, Holds, Column, inputsOf, valuesOf}
-use Rattle.service.specs.Reply.{replySeen}
+use Rattle.service.specs.Reply.{replySeen, Checks, Makes}
 use Rattle.service.specs.declared.reply.Reply.{Reply}
-
--- what `check` promises of its reply
-abbrev pub Checks : (list table : List ℕ) → Reply → Type 0
-Checks list table r = replySeen r ≡ checkReply list table
-
--- what `make` promises of its reply and of the table afterwards
-pub record Makes (list : List ℕ) (inputs : List ℤ) (table : List ℕ) (r : Reply) (after : List ℕ) : Type 0 where
-  pub replied : replySeen r ≡ makeReply list inputs table .answer
-  pub left : after ≡ makeReply list inputs table .table
 
 -- "0, 0"
 abbrev pub Accepts : Reply → Type 0
 Accepts r = replySeen r ≡ reply 0 0
+
+-- the number alone tells it, of a check and of a making: by it the desk counts, and a caller by the C ABI knows
+abbrev pub AcceptedByNumber : Type 0
+AcceptedByNumber =
+    ((list table : List ℕ) (r : Reply) → Checks list table r → (r .number ≡ 0) ↔ Accepts r)
+    × ((list : List ℕ) (inputs : List ℤ) (table : List ℕ) (r : Reply) (after : List ℕ) → Makes list inputs table r after → (r .number ≡ 0) ↔ Accepts r)
 
 -- ---- demand 2: rows
 

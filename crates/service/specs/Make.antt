@@ -8,7 +8,8 @@ use lib.IntN.{ℤ}
 use lib.ListN.{length, take, set}
 use Rattle.meaning.specs.Line.{Line}
 use Rattle.meaning.specs.Known.{Known}
-use Rattle.meaning.specs.Work.{false-at, true-table, work}
+use Rattle.meaning.specs.Work.{true-table, work}
+use Rattle.meaning.specs.Reply.{Reply, reply, making, filled}
 use Rattle.meaning.specs.Claims.{Column}
 use Rattle.table.specs.declared.value.Worked.{Worked}
 use Rattle.table.specs.declared.value.Worked.the-variants.{Value, NoValue, False}
@@ -19,10 +20,10 @@ use Rattle.service.specs.declared.working.Working.{Working}
 use Rattle.service.specs.declared.working.Working.the-variants.{AllTrue, FalseAt}
 use Rattle.meaning.specs.Refusal.{valueLimit}
 
--- the place of the first input outside the signed range
-unfoldable pub inputsSeen : Inputs → Option ℕ
+-- the refusal at the first input outside the signed range: "17, input"
+unfoldable pub inputsSeen : Inputs → Option Reply
 inputsSeen AllInRange = none
-inputsSeen (Outside i) = some i
+inputsSeen (Outside i) = some (reply 17 i)
 
 -- the values with the one that a line makes, where it makes one
 unfoldable pub withValue : List ℤ → ℕ → Worked → List ℤ
@@ -40,9 +41,10 @@ pub record WorkAsked (list : List ℕ) (inputs : List ℤ) : Type 0 where
   pub listed : ListRead list
   pub column : Column (listed .last) inputs
 
--- the first line whose statement is false; or none is, and the values stand in the array
+-- the refusal at the first line whose statement is false, "18, line", which leaves any table as it was; or none is false, and the values
+-- stand in the array
 unfoldable pub WorkDone : List Line → Known → (inputs values : List ℤ) → Working → Type 0
-WorkDone ls s xs values (FalseAt n) = work ls xs ≡ false-at n
+WorkDone ls s xs values (FalseAt n) = (t : List ℕ) → filled (work ls xs) t ≡ making (reply 18 n) t
 WorkDone ls s xs values AllTrue = (cells : List ℕ) × (work ls xs ≡ true-table (take (length (s .known)) values) cells)
 
 -- the values of a column whose statements are true, and a table of the list's length

@@ -1,7 +1,21 @@
--- How a reply of the code is read as one of the definitions.
-use Rattle.meaning.specs.Reply.{reply}
+-- How a reply of the code is read as one of the definitions, and what `check` and `make` promise of theirs. The contracts in src/checking.rt
+-- and src/making.rt are these very names, so that the claims of Claims.antt speak of what the code keeps.
+use mathlib.Core.Path.{_≡_}
+use mathlib.Core.List.{List}
+use Prim.Native.Nat.{ℕ}
+use lib.IntN.{ℤ}
+use Rattle.meaning.specs.Reply.{reply, checkReply, makeReply}
 use Rattle.meaning.specs.Reply.{Reply as Meant}
 use Rattle.service.specs.declared.reply.Reply.{Reply}
 
 unfoldable pub replySeen : Reply → Meant
 replySeen r = reply (r .number) (r .place)
+
+-- what `check` promises of its reply
+abbrev pub Checks : (list table : List ℕ) → Reply → Type 0
+Checks list table r = replySeen r ≡ checkReply list table
+
+-- what `make` promises of its reply and of the table afterwards
+pub record Makes (list : List ℕ) (inputs : List ℤ) (table : List ℕ) (r : Reply) (after : List ℕ) : Type 0 where
+  pub replied : replySeen r ≡ makeReply list inputs table .answer
+  pub left : after ≡ makeReply list inputs table .table

@@ -9,8 +9,8 @@ use reader::state::Counts;
 use table::Rows;
 use table::line_rows::line_rows;
 ghost use mathlib.Core.Path.{_≡_};
-ghost use Rattle.meaning.specs.Reply.{isCell, firstFail, checked, checkReply};
-ghost use Rattle.service.specs.Reply.{replySeen};
+ghost use Rattle.meaning.specs.Reply.{isCell, firstFail, refusalAt, checked};
+ghost use Rattle.service.specs.Reply.{replySeen, Checks};
 ghost use Rattle.service.specs.Walk.{ListRead, Listed};
 ghost use Rattle.service.specs.Check.{cellsSeen, TableAsked, rowsReply};
 
@@ -22,7 +22,7 @@ enum Cells {
 
 // The public call: for every list and table the reply of document 01.
 pub fn check(list: &[u8], table: &[u32]) -> Reply
-    ensures { λ r. ⌜ replySeen r ≡ checkReply (now (list .entry)) (now (table .entry)) ⌝ }
+    ensures { λ r. ⌜ Checks (now (list .entry)) (now (table .entry)) r ⌝ }
 {
     let found = survey(list);
     match found {
@@ -56,7 +56,7 @@ fn check_table(list: &[u8], table: &[u32], p: u32, counts: Counts) -> Reply
 }
 
 fn first_large(table: &[u32], p: u32) -> Cells
-    ensures { λ r. ⌜ cellsSeen r ≡ firstFail (isCell p) 0 (now (table .entry)) ⌝ }
+    ensures { λ r. ⌜ cellsSeen r ≡ refusalAt 14 (firstFail (isCell p) 0 (now (table .entry))) ⌝ }
 {
     let mut i: usize = 0;
     while i < table.len() {

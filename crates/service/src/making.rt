@@ -14,8 +14,8 @@ ghost use Prim.Native.Nat.{_<_};
 ghost use lib.ListN.{length};
 ghost use Rattle.meaning.specs.Number.{inRange};
 ghost use Rattle.meaning.specs.Work.{work};
-ghost use Rattle.meaning.specs.Reply.{firstFail, making, filled, made, makeReply};
-ghost use Rattle.service.specs.Reply.{replySeen};
+ghost use Rattle.meaning.specs.Reply.{firstFail, refusalAt, making, filled, made};
+ghost use Rattle.service.specs.Reply.{replySeen, Makes};
 ghost use Rattle.service.specs.Walk.{ListRead, Listed};
 ghost use Rattle.service.specs.Make.{inputsSeen, WorkAsked};
 
@@ -27,8 +27,7 @@ enum Inputs {
 
 // The public call: for every list, column and table the reply of document 01, and the table that it leaves.
 pub fn make(list: &[u8], inputs: &[i64], table: &mut [u32]) -> Reply
-    ensures replied { λ r. ⌜ replySeen r ≡ makeReply (now (list .entry)) (now (inputs .entry)) (now (table .entry)) .answer ⌝ }
-    ensures left { λ _. ⌜ now (table .exit) ≡ makeReply (now (list .entry)) (now (inputs .entry)) (now (table .entry)) .table ⌝ }
+    ensures { λ r. ⌜ Makes (now (list .entry)) (now (inputs .entry)) (now (table .entry)) r (now (table .exit)) ⌝ }
 {
     let found = survey(list);
     match found {
@@ -70,7 +69,7 @@ fn make_table(list: &[u8], p: u32, counts: Counts, inputs: &[i64], table: &mut [
 
 fn first_outside(inputs: &[i64], p: u32) -> Inputs
     requires { ⌜ 0 < p ⌝ }
-    ensures { λ r. ⌜ inputsSeen r ≡ firstFail (inRange p) 0 (now (inputs .entry)) ⌝ }
+    ensures { λ r. ⌜ inputsSeen r ≡ refusalAt 17 (firstFail (inRange p) 0 (now (inputs .entry))) ⌝ }
 {
     let mut i: usize = 0;
     while i < inputs.len() {

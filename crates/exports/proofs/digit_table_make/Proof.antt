@@ -16,7 +16,7 @@ returns : tie.Need-returns
 unfolding replySeen
 returns c =
     let given = c .before .before .make .ensures in
-    ap₂ making (given .0) (given .1)
+    ap₂ making (given .replied) (given .left)
 
 pub digit-table-make-spec : {M : Type 1} → statement M
 digit-table-make-spec = tie.close (tie.spec make-requires same-length returns)

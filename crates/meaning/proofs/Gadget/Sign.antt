@@ -26,7 +26,7 @@ use Rattle.algebra.proofs.Digits.{power-positive, base-below-power, digit-at, t
 use Rattle.meaning.specs.Number.{lowest, highest, OddPrime}
 use Rattle.meaning.specs.Known.{Known, Ends, topPart, digitRule, Within, Ranged}
 use Rattle.meaning.specs.Gadget.Interface.{Gadget}
-use Rattle.meaning.specs.Gadget.Sign.{signShift, signStatement, signRows, signTop, signCells}
+use Rattle.meaning.specs.Gadget.Sign.{signShift, signStatement, flagRows, signRows, signTop, signCells}
 use Rattle.meaning.proofs.Number.{positive}
 use Rattle.meaning.specs.Row.{Form, cell, constant, _⊖_, _⊗_, eval, Row, _≅_, holds, group}
 use Rattle.meaning.specs.Gadget.Digits.{groupCells}
@@ -210,24 +210,18 @@ module _ {p : ℕ} (P : OddPrime p) (t : List ℕ) (below : Below p t) (form : F
 
   -- the three rows about t, as congruences
   abbrev flags : List Row
-  flags = (cell (at + (k′ - 1)) ⊖ constant (pos (b - 1))) ⊗ cell (at + suc k′) ≅ constant (pos 1) ⊖ cell (at + k′)
-      ∷ (cell (at + (k′ - 1)) ⊖ constant (pos (b - 1))) ⊗ cell (at + k′) ≅ constant (pos 0)
-      ∷ cell (at + suc k′) ⊗ cell (at + k′) ≅ constant (pos 0) ∷ []
+  flags = flagRows (cell (at + (k′ - 1)) ⊖ constant (pos (b - 1))) (cell (at + k′)) (cell (at + suc k′))
 
   flags-hold : Hold p t flags ↔ ((flag ≡ cond (eqb (remainder p (pos top -ℤ pos (b - 1))) 0) 1 0)
       × (witness ≡ cond (eqb (remainder p (pos top -ℤ pos (b - 1))) 0) 0 (inverse p (remainder p (pos top -ℤ pos (b - 1))))))
   unfolding eval
   flags-hold =
-      let τ : Form = cell (at + (k′ - 1)) ⊖ constant (pos (b - 1)) in
-      let f : Form = cell (at + k′) in
-      let w : Form = cell (at + suc k′) in
-      let first = row-holds p t (τ ⊗ w) (constant (pos 1) ⊖ f) (positive P) in
-      let second = row-holds p t (τ ⊗ f) (constant (pos 0)) (positive P) in
-      let third = row-holds p t (w ⊗ f) (constant (pos 0)) (positive P) in
       let rows = flag-rows P (pos top -ℤ pos (b - 1)) flag witness
       (below-at p t (at + k′) below (omega arith)) (below-at p t (at + suc k′) below (omega arith)) in (
-        λ h. rows .0 (first .0 (h .0), second .0 (h .1 .0), third .0 (h .1 .1 .0)),
-        λ h. let r = rows .1 h in (first .1 (r .0), (second .1 (r .1), (third .1 (r .2), tt))),
+        λ h. rows .0 (row-holds p t _ _ (positive P) .0 (h .0), row-holds p t _ _ (positive P) .0 (h .1 .0), row-holds p t _ _ (positive P) .0 (h .1 .1 .0)),
+        λ h.
+            let r = rows .1 h in
+            (row-holds p t _ _ (positive P) .1 (r .0), (row-holds p t _ _ (positive P) .1 (r .1), (row-holds p t _ _ (positive P) .1 (r .2), tt))),
       )
 
   -- the stretch of the group, f and w, part by part

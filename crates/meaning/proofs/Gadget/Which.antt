@@ -7,8 +7,8 @@ use native.Mathlib.Omega.{arith}
 use lib.Dec.{T}
 use lib.ListN.{length, getD}
 use lib.IntN.{ℤ, pos, _-ℤ_}
-use lib.Signed.{_≤ℤ_, leZ}
-use Rattle.algebra.proofs.Test.{cond-cases, leZ-iff, test-≡, false-leZ}
+use lib.Signed.{_≤ℤ_, _<ℤ_, leZ}
+use Rattle.algebra.proofs.Test.{cond-cases, leZ-iff, leZ-false}
 use Rattle.algebra.proofs.Integer.Linear.{linear}
 use Rattle.algebra.proofs.Congruence.{congruent-≡, congruent-trans, congruent--, residue-iff}
 use Rattle.meaning.specs.Known.{Known, ends, endsOf, placeOf, apart, Ranged}
@@ -24,9 +24,13 @@ use Rattle.meaning.proofs.Gadget.Sign.{Flag, Signs, sign-law}
 -- 1-f is the value
 flag-value : (u v : ℤ) (f : ℕ) → Flag (u -ℤ v) f → pos 1 -ℤ pos f ≡ whichValue u v
 unfolding whichValue
-flag-value u v f = ⊎-elim
-    (λ h. rw (h .0, test-≡ (leZ v u) (leZ-iff v u .1 (omega (linear, h .1)))) refl)
-    (λ h. rw (h .0, false-leZ v u (omega (linear, h .1))) refl)
+flag-value u v f flag = cond-cases (λ z. pos 1 -ℤ pos f ≡ z) _ _ _ (λ t. not-less (leZ-iff _ _ .0 t)) (λ t. less (leZ-false _ _ t))
+  where
+    not-less : v ≤ℤ u → pos 1 -ℤ pos f ≡ pos 0
+    not-less l = ⊎-elim (λ h. rw (h .0) refl) (λ h. absurd (omega (linear, h .1))) flag
+
+    less : u <ℤ v → pos 1 -ℤ pos f ≡ pos 1
+    less l = ⊎-elim (λ h. absurd (omega (linear, h .1))) (λ h. rw (h .0) refl) flag
 
 value-low : (u v : ℤ) → pos 0 ≤ℤ whichValue u v
 unfolding whichValue

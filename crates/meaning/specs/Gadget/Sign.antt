@@ -20,14 +20,17 @@ signShift b k = negℤ (pos (topPart b k))
 unfoldable pub signStatement : (b k : ℕ) → ℤ → Bool
 signStatement b k x = between (signShift b k) x (pos (b ^ (k - 1)) -ℤ pos 1)
 
+-- "t·w ≡ 1-f, t·f ≡ 0, w·f ≡ 0"
+abbrev pub flagRows : (t f w : Form) → List Row
+flagRows t f w = t ⊗ w ≅ constant (pos 1) ⊖ f ∷ t ⊗ f ≅ constant (pos 0) ∷ w ⊗ f ≅ constant (pos 0) ∷ []
+
 -- the group at the k cells from the one called at, then f and w; last is the row that ties the line's value to f
 unfoldable pub signRows : Form → (at b k : ℕ) → (Form → Row) → List Row
 signRows form at b k last =
     let t : Form = cell (at + (k - 1)) ⊖ constant (pos (b - 1)) in
     let f : Form = cell (at + k) in
     let w : Form = cell (at + suc k) in
-    group form (signShift b k) at b k
-    ++ t ⊗ w ≅ constant (pos 1) ⊖ f ∷ t ⊗ f ≅ constant (pos 0) ∷ w ⊗ f ≅ constant (pos 0) ∷ last f ∷ []
+    group form (signShift b k) at b k ++ (flagRows t f w ++ last f ∷ [])
 
 -- t modulo p, where the group's cells are the digits of x + B
 unfoldable pub signTop : (p b k : ℕ) → ℤ → ℕ

@@ -1,8 +1,9 @@
 -- `service::checking::first_large`: the cells are looked at from the first on.
+use mathlib.Core.Path.{ap}
 use Prim.Native.Nat.{_-_}
 use lib.ListN.{length}
 use borrow.Author.Needs.{needs}
-use Rattle.meaning.specs.Reply.{isCell}
+use Rattle.meaning.specs.Reply.{isCell, refusalAt}
 use Rattle.service.specs.Check.{cellsSeen}
 use Rattle.service.proofs.Scan.{Scanned, scanned-none, scan-end, scan-here, scan-next}
 use Rattle.service.proofs.Checked.{cell-large, cell-below}
@@ -29,8 +30,8 @@ shared-slice-read-if1 c = search needs
 
 -- src/checking.rt:67:13
 returns : tie.Need-returns Inv-loop μ-loop
-unfolding cellsSeen
-returns c = scan-here _ _ _ _ (c .before .before .before .loop .inv) (c .before .before .loop-test .taken) (cell-large _ _ (c .if1 .taken))
+unfolding cellsSeen refusalAt
+returns c = ap (refusalAt 14) (scan-here _ _ _ _ (c .before .before .before .loop .inv) (c .before .before .loop-test .taken) (cell-large _ _ (c .if1 .taken)))
 
 -- src/checking.rt:69:9
 add-i : tie.Need-add-i Inv-loop μ-loop
@@ -46,8 +47,8 @@ loop-again c = scan-next _ _ _ _ (c .before .before .before .loop .inv) (c .befo
 
 -- src/checking.rt:61:1
 returns-2 : tie.Need-returns-2 Inv-loop μ-loop
-unfolding cellsSeen
-returns-2 c = scan-end _ _ _ _ (c .before .loop .inv) (c .loop-test .left)
+unfolding cellsSeen refusalAt
+returns-2 c = ap (refusalAt 14) (scan-end _ _ _ _ (c .before .loop .inv) (c .loop-test .left))
 
 pub first-large-spec : {M : Type 1} → statement M
 first-large-spec =

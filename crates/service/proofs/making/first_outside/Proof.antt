@@ -1,5 +1,5 @@
 -- `service::making::first_outside`: the inputs are looked at from the first on.
-use mathlib.Core.Path.{sym, _∙_}
+use mathlib.Core.Path.{sym, ap, _∙_}
 use Prim.Native.Nat.{_-_}
 use lib.IntN.{pos}
 use lib.ListN.{length, getD}
@@ -9,6 +9,7 @@ use denote.Ref.{now}
 use borrow.Author.Needs.{needs}
 use borrow.Author.Tests.{not-true, not-false}
 use Rattle.meaning.specs.Number.{inRange}
+use Rattle.meaning.specs.Reply.{refusalAt}
 use Rattle.number.proofs.Word.{back}
 use Rattle.service.specs.Make.{inputsSeen}
 use Rattle.service.proofs.Scan.{Scanned, scanned-none, scan-end, scan-here, scan-next}
@@ -39,10 +40,10 @@ in-range-requires c κs = search needs
 
 -- src/making.rt:90:13
 returns : tie.Need-returns Inv-loop μ-loop
-unfolding inputsSeen
+unfolding inputsSeen refusalAt
 returns c =
     let f : SFits w64 (getD (now (c .before .before .before .before .before .args .inputs)) (c .before .before .before .before .loop .i) (pos 0)) = search needs in
-    scan-here (inRange (c .before .before .before .before .before .args .p)) (pos 0) (now (c .before .before .before .before .before .args .inputs)) _ (c .before .before .before .before .loop .inv) (c .before .before .before .loop-test .taken) (rw (back f) at (sym (c .before .in-range .ensures) ∙ not-true _ (c .if1 .taken)))
+    ap (refusalAt 17) (scan-here (inRange (c .before .before .before .before .before .args .p)) (pos 0) (now (c .before .before .before .before .before .args .inputs)) _ (c .before .before .before .before .loop .inv) (c .before .before .before .loop-test .taken) (rw (back f) at (sym (c .before .in-range .ensures) ∙ not-true _ (c .if1 .taken))))
 
 -- src/making.rt:92:9
 add-i : tie.Need-add-i Inv-loop μ-loop
@@ -60,8 +61,8 @@ loop-again c =
 
 -- src/making.rt:83:1
 returns-2 : tie.Need-returns-2 Inv-loop μ-loop
-unfolding inputsSeen
-returns-2 c = scan-end (inRange (c .before .before .args .p)) (pos 0) (now (c .before .before .args .inputs)) _ (c .before .loop .inv) (c .loop-test .left)
+unfolding inputsSeen refusalAt
+returns-2 c = ap (refusalAt 17) (scan-end (inRange (c .before .before .args .p)) (pos 0) (now (c .before .before .args .inputs)) _ (c .before .loop .inv) (c .loop-test .left))
 
 pub first-outside-spec : {M : Type 1} → statement M
 first-outside-spec =

@@ -3,7 +3,7 @@ use mathlib.Core.Path.{_∙_}
 use denote.Ref.{now}
 use Rattle.service.specs.Reply.{replySeen}
 use Rattle.service.proofs.Listed.{survey-refused, survey-counted}
-use Rattle.service.proofs.Made.{make-refused, make-read, told-apart}
+use Rattle.service.proofs.Made.{make-refused, make-read, makes-by}
 use borrow.Author.Needs.{needs}
 use Rattle.service.proofs.making.make.Statement.{statement}
 use Rattle.service.proofs.making.make.Tie as tie
@@ -30,7 +30,7 @@ returns : tie.Need-returns
 unfolding replySeen
 returns c =
     let S = c .before .before .before .before .before .before in
-    told-apart (make-refused (now (S .args .list)) (now (S .args .inputs)) (now (S .args .table)) _ _
+    makes-by (make-refused (now (S .args .list)) (now (S .args .inputs)) (now (S .args .table)) _ _
     (survey-refused _ _ (c .before .before .before .survey .ensures .0) _ _ (c .before .found .given .1)))
 
 -- src/making.rt:41:1
@@ -43,7 +43,7 @@ unfolding replySeen
 returns-2 c =
     let S = c .before .before .before .before .before .before .before .before .before .before in
     let l = survey-counted (now (S .args .list)) _ (c .before .before .before .before .before .before .before .survey .ensures .0) (c .before .before .before .before .before .before .before .survey .ensures .1) _ _ (c .before .before .before .before .before .found2 .given .1) .listed in
-    told-apart (c .before .before .make-table .ensures l ∙ make-read (now (S .args .list)) (now (S .args .inputs)) (now (S .args .table)) l)
+    makes-by (c .before .before .make-table .ensures l ∙ make-read (now (S .args .list)) (now (S .args .inputs)) (now (S .args .table)) l)
 
 pub make-spec : {M : Type 1} → statement M
 make-spec =
