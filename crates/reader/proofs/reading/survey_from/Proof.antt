@@ -101,7 +101,7 @@ loop-again c =
     let stepped = c .before .before .before .before .before .before .before .step-line .ensures in
     let is = c .before .stepped2 .given .1 in
     walk-next w (S .pre .0) (c .before .before .before .before .before .before .before .before .before .before .before .before .before .before .loop-test .taken) (c .before .before .before .before .before .before .before .before .before .before .before .before .before .line-end .ensures)
-    _ (c .before .stepped2 .given .0 .0) _ _ _ _ is (stepped .0 _ refl) (stepped .1 .0) (stepped .1 .1) (stepped .1 .2) (stepped .1 .3) (stepped .1 .4)
+    _ (c .before .stepped2 .given .0 .0) _ _ _ _ is (stepped .0 _ refl) (stepped .1 .0) (stepped .1 .1) (stepped .1 .2 .long) (stepped .1 .3 .long) (stepped .1 .4 .long)
 
 -- src/reading.rt:94:1
 returns-2 : tie.Need-returns-2 Inv-loop μ-loop
