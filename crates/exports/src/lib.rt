@@ -4,8 +4,8 @@
 // answering, which return a count.
 use desk::Desk;
 use program::respond;
-use reader::read::Answer;
-use reader::read::read;
+use reader::Answer;
+use reader::read;
 use service::check;
 use service::make;
 use service::show;

@@ -1,6 +1,6 @@
 -- A base and a digit count: what rule 6 says of them as whole numbers, what the code's answer says, and the digit rule, whose shift -B
 -- the code takes from c = b^k.
-use mathlib.Core.Path.{_≡_, refl, _∙_}
+use mathlib.Core.Path.{_≡_, refl, ap, _∙_}
 use mathlib.Core.Bool.{Bool, true, false, cond, _&&_}
 use mathlib.Core.List.{[], _∷_}
 use Prim.Native.Nat.{ℕ, zero, suc, _+_, _-_, _*_, _/_, _^_, _≤_, _<_}
@@ -12,14 +12,16 @@ use lib.Signed.{leZ, nonNeg}
 use borrow.Author.Tests.{le-leb, lt-leb}
 use Rattle.algebra.proofs.Test.{≡-test, left, right}
 use Rattle.meaning.specs.Number.{half}
+use Rattle.meaning.specs.Line.{Digits as Meant}
 use Rattle.meaning.specs.Known.{Ends, ends, digitRule, topPart}
-use Rattle.meaning.specs.Refusal.{isDigits}
+use Rattle.meaning.specs.Refusal.{value, refusedBy, isDigits}
 use Rattle.number.specs.Power.{cappedPower}
 use Rattle.number.specs.declared.power.Power.the-variants.{Of as PowerOf}
 use Rattle.number.proofs.CappedPower.{of-capped}
+use Rattle.reader.specs.declared.rule.Digits.{Digits as DigitsRead}
 use Rattle.reader.specs.declared.rule.Digits.the-variants.{Of, NoDigits}
 use Rattle.reader.specs.Told.{refuses, makes}
-use Rattle.reader.specs.Rule.{digitsRead, rootTold}
+use Rattle.reader.specs.Rule.{digitsAllowed, digitsSeen, rootTold}
 use Rattle.reader.proofs.Tests.{and-false}
 
 -- ---- what rule 6 says
@@ -50,13 +52,13 @@ digits-allowed b k e = allowed b k (≡-test (isDigits (record { b = b; k = k })
 
 -- ---- what the code's answer says
 
-of-cond : (t : Bool) (n m b k : ℕ) → Of b k ≡ cond t (Of n m) NoDigits → (t ≡ true) × (b ≡ n) × (k ≡ m)
-of-cond true n m b k e = (refl, (cc), (cc))
-of-cond false n m b k e = let z : _≡_ {A = ℕ} 0 1 = cc in absurd (omega arith)
+value-cond : {A : Type 0} (t : Bool) (n : ℕ) (x y : A) → value x ≡ cond t (value y) (refusedBy n) → (t ≡ true) × (x ≡ y)
+value-cond true n x y e = (refl, (cc))
+value-cond false n x y e = let z : _≡_ {A = ℕ} 0 1 = cc in absurd (omega arith)
 
-none-cond : (t : Bool) (n m : ℕ) → NoDigits ≡ cond t (Of n m) NoDigits → t ≡ false
-none-cond true n m e = let z : _≡_ {A = ℕ} 0 1 = cc in absurd (omega arith)
-none-cond false n m e = refl
+refused-cond : {A : Type 0} (t : Bool) (n m : ℕ) (y : A) → refusedBy n ≡ cond t (value y) (refusedBy m) → t ≡ false
+refused-cond true n m y e = let z : _≡_ {A = ℕ} 0 1 = cc in absurd (omega arith)
+refused-cond false n m y e = refl
 
 pub record Read (x y : ℤ) (b k : ℕ) : Type 0 where
   pub digits : isDigits (record { b = x; k = y }) ≡ true
@@ -66,16 +68,18 @@ pub record Read (x y : ℤ) (b k : ℕ) : Type 0 where
   pub count-one : 1 ≤ k
   pub count-most : k ≤ 31
 
-pub digits-read : (x y : ℤ) {b k : ℕ} → Of b k ≡ digitsRead x y → Read x y b k
-unfolding digitsRead
-digits-read x y {b} {k} e =
-    let w = of-cond (isDigits (record { b = x; k = y })) (natAbs x) (natAbs y) b k e in
+pub digits-read : (x y : ℤ) {r : DigitsRead} {b k : ℕ} → r ≡ Of b k → digitsSeen r ≡ digitsAllowed x y → Read x y b k
+unfolding digitsSeen digitsAllowed
+digits-read x y {r} {b} {k} q e =
+    let w = value-cond (isDigits (record { b = x; k = y })) 6 (record { b = pos b; k = pos k }) (record { b = x; k = y }) (rw q at e) in
+    let base-is : b ≡ natAbs x = ap (λ (d : Meant). natAbs (d .b)) (w .1) in
+    let count-is : k ≡ natAbs y = ap (λ (d : Meant). natAbs (d .k)) (w .1) in
     let a = digits-allowed x y (w .0) in
-    record { digits = w .0; base-is = w .1; count-is = w .2; base-two = omega arith; count-one = omega arith; count-most = omega arith }
+    record { digits = w .0; base-is = base-is; count-is = count-is; base-two = omega arith; count-one = omega arith; count-most = omega arith }
 
-pub digits-none : (x y : ℤ) → NoDigits ≡ digitsRead x y → isDigits (record { b = x; k = y }) ≡ false
-unfolding digitsRead
-digits-none x y e = none-cond (isDigits (record { b = x; k = y })) (natAbs x) (natAbs y) e
+pub digits-none : (x y : ℤ) {r : DigitsRead} → r ≡ NoDigits → digitsSeen r ≡ digitsAllowed x y → isDigits (record { b = x; k = y }) ≡ false
+unfolding digitsSeen digitsAllowed
+digits-none x y q e = refused-cond (isDigits (record { b = x; k = y })) 6 6 (record { b = x; k = y }) (rw q at e)
 
 -- ---- c = b^k
 

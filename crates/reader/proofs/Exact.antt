@@ -10,8 +10,8 @@ use Rattle.meaning.specs.Reply.{Answer, reply, counts, refusal, readReply}
 use Rattle.meaning.proofs.Reading.{reads-exactly}
 use Rattle.reader.specs.Read.{surveyOf, surveySeen, replyOf, Exact}
 use Rattle.reader.specs.declared.state.Counts.{Counts}
-use Rattle.reader.specs.declared.read.Surveyed.{Surveyed}
-use Rattle.reader.specs.declared.read.Surveyed.the-variants.{Counted, NotRead}
+use Rattle.reader.specs.declared.reading.Surveyed.{Surveyed}
+use Rattle.reader.specs.declared.reading.Surveyed.the-variants.{Counted, NotRead}
 
 -- ---- the reply to what was found
 

@@ -1,5 +1,5 @@
--- A line's answer taken into the arrays: what reading tells of the line is what stepping over it does, and an array with one more
--- entry stands for the state after the line.
+-- A line's answer taken into the arrays: what reading tells of the line is what stepping over it does, an array with one more entry stands
+-- for the state after the line, and the arrays are left as they were past the values, or all of them where the line is refused.
 use mathlib.Core.Path.{_≡_, refl, sym, ap, ap₂, _∙_, subst}
 use mathlib.Core.List.{List, [], _∷_, _++_}
 use mathlib.Core.Option.{Option, none, some}
@@ -7,8 +7,8 @@ use Prim.Native.Nat.{ℕ, _+_, _<_}
 use native.Mathlib.Omega.{arith}
 use native.Mathlib.Numerals.{add-one}
 use lib.Dec.{leb→le}
-use lib.ListN.{length, take, set}
-use lib.Seq.{take-suc-set, length-take-le}
+use lib.ListN.{length, take, set, length-set}
+use lib.Seq.{take-suc-set, drop-set-lt, length-take-le}
 use lib.IntN.{ℤ}
 use Rattle.meaning.specs.Line.{Line}
 use Rattle.meaning.specs.Known.{Ends, ends, Known}
@@ -18,10 +18,11 @@ use Rattle.meaning.specs.Kept.{Keeps}
 use Rattle.meaning.proofs.Kept.{keeps-all}
 use Rattle.reader.specs.State.{endsFrom, stateOf}
 use Rattle.reader.specs.Told.{Told, refuses, makes, toldOf, madeSeen}
-use Rattle.reader.specs.Step.{stops, goes, stepOf, stepSeen, WithinLimits, Grows}
+use Rattle.reader.specs.Step.{stops, goes, stepOf, stepSeen, answered, entered, untouched, Left, WithinLimits, Grows}
 use Rattle.reader.specs.declared.rule.Made.{Made}
 use Rattle.reader.specs.declared.rule.Made.the-variants.{EndsOf, Breaks}
 use Rattle.reader.specs.declared.state.Counts.{Counts}
+use Rattle.reader.specs.declared.state.Stepped.{Stepped}
 use Rattle.reader.specs.declared.state.Stepped.the-variants.{Next, Refused}
 use Rattle.reader.proofs.Values.{known-long}
 
@@ -98,6 +99,19 @@ values-are {s} {c} p lows highs places is sized =
     known-long s (c .values) lows highs (ap (λ (q : Known). q .known) is) (omega (arith, sized .values-most, sized .lows-long))
     (omega (arith, sized .values-most, sized .highs-long))
 
+-- ---- what is left of the arrays
+
+left-entered : {A : Type 0} (made : Made) (at : ℕ) (c : Counts) (entry : ℤ → ℤ → A) (xs : List A)
+    → ((low high : ℤ) → made ≡ EndsOf low high → at < c .values) → Left (answered made c) xs (entered made at entry xs)
+unfolding answered entered untouched
+left-entered (EndsOf low high) at c entry xs h = record { long = length-set xs at (entry low high); same = drop-set-lt (c .values) xs at (entry low high) (h low high refl) }
+left-entered (Breaks n) at c entry xs h = record { long = refl; same = refl }
+
+-- an entry that stands among the values leaves what is past them
+pub left-by-entry : {A : Type 0} {r : Stepped} {after : List A} (made : Made) (at : ℕ) (c : Counts) (entry : ℤ → ℤ → A) (before : List A)
+    → ((low high : ℤ) → made ≡ EndsOf low high → at < c .values) → r ≡ answered made c → after ≡ entered made at entry before → Left r before after
+left-by-entry made at c entry before h e f = rw (e, f) (left-entered made at c entry before h)
+
 -- ---- the ways out of taking in a line
 
 module _ (p : ℕ) (s : Known) (l : Line) (c : Counts) (lows highs : List ℤ) (places : List ℕ) (is : s ≡ stateOf p c lows highs places)
@@ -123,16 +137,21 @@ module _ (p : ℕ) (s : Known) (l : Line) (c : Counts) (lows highs : List ℤ) (
     room =
         omega (arith, leb→le (length (s .known) + length (gadget s l .made)) valueLimit (kept .values-fit), values-are p lows highs places is sized, one)
 
+    values-one : (size : Counts) → (Keeps 1 s l → Grows s l size) → size .values ≡ 1
+    values-one size grows-if = sym (grows-if kept .adds .values-are) ∙ one
+
+    pub entry-counted : (size : Counts) → (Keeps 1 s l → Grows s l size) → c .values < c .values + size .values
+    entry-counted size grows-if = omega (arith, values-one size grows-if)
+
     pub grown : (size : Counts) → (Keeps 1 s l → Grows s l size)
         → stepSeen p (Next (record { values = c .values + size .values; inputs = c .inputs + size .inputs; cells = c .cells + size .cells; rows = c .rows + size .rows }))
         (set lows (c .values) low) (set highs (c .values) high) (set places (c .values) (c .cells)) ≡ stepOf s l
     unfolding stepSeen stateOf after placesFrom
     grown size grows-if =
         let grows = grows-if kept in
-        let values-is : size .values ≡ 1 = sym (grows .adds .values-are) ∙ one in
         let made-is = ends-made s l (ends low high ∷ []) told in
         let there = kept-step s l (no-rule-broken s l (ends low high ∷ []) told) in
-        rw values-is (ap goes (same-state
+        rw (values-one size grows-if) (ap goes (same-state
         (ap (λ (z : Known). z .p) (sym is) ∙ sym (grows .prime-is))
         (ends-grown (c .values) lows highs low high (omega (arith, room, sized .lows-long)) (omega (arith, room, sized .highs-long))
         ∙ ap₂ (λ (xs ys : List Ends). xs ++ ys) (sym (grows .narrowed-is ∙ ap (λ (z : Known). z .known) is)) (sym made-is))

@@ -59,7 +59,7 @@ module _ (p : ℕ) (s : Known) (ns : List ℤ) (c : Counts) (lows highs : List �
 
     module _ (at : ℕ) (at-is : Keeps 1 s line → sizeAt ns 0 ≡ at) where
       -- a value that is not made is refused by the line's own rules
-      named : at < c .values
+      pub named : at < c .values
       unfolding namesOf
       named = omega (arith, first-named (length (s .known)) 0 ns [] (kept .names-made), values-are p lows highs places is sized, at-is kept)
 

@@ -18,8 +18,8 @@ use Rattle.meaning.proofs.Lines.{sound-after, sound-fresh}
 use Rattle.text.specs.Place.{Found, linesFrom}
 use Rattle.text.proofs.Places.{line-within, lines-next}
 use Rattle.reader.specs.Read.{only, firstOption, firstSeen, refusedAt, surveyOf}
-use Rattle.reader.specs.declared.read.First.{First}
-use Rattle.reader.specs.declared.read.First.the-variants.{Prime, NotFirst}
+use Rattle.reader.specs.declared.reading.First.{First}
+use Rattle.reader.specs.declared.reading.First.the-variants.{Prime, NotFirst}
 use Rattle.reader.proofs.Stopping.{step-first, stopped-at, gone-at}
 
 ended-some : (text : List ℕ) → isEnded text ≡ true → 0 < length text

@@ -15,12 +15,12 @@ use Rattle.meaning.specs.Reply.{Answer as Meant}
 use Rattle.meaning.specs.Number.{OddPrime}
 use Rattle.reader.specs.State.{greatest}
 use Rattle.reader.specs.Step.{Step, stops, goes}
-use Rattle.reader.specs.declared.read.First.{First}
-use Rattle.reader.specs.declared.read.First.the-variants.{Prime, NotFirst}
-use Rattle.reader.specs.declared.read.Surveyed.{Surveyed}
-use Rattle.reader.specs.declared.read.Surveyed.the-variants.{Counted, NotRead}
-use Rattle.reader.specs.declared.read.Answer.{Answer}
-use Rattle.reader.specs.declared.read.Answer.the-variants.{Read, Refused}
+use Rattle.reader.specs.declared.reading.First.{First}
+use Rattle.reader.specs.declared.reading.First.the-variants.{Prime, NotFirst}
+use Rattle.reader.specs.declared.reading.Surveyed.{Surveyed}
+use Rattle.reader.specs.declared.reading.Surveyed.the-variants.{Counted, NotRead}
+use Rattle.reader.specs.declared.reading.Answer.{Answer}
+use Rattle.reader.specs.declared.reading.Answer.the-variants.{Read, Refused}
 
 -- line 0
 unfoldable pub firstOption : Option Line → Step

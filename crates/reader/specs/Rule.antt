@@ -7,10 +7,11 @@ use lib.Dec.{leb}
 use lib.ListN.{getD}
 use lib.IntN.{ℤ, pos, natAbs, _-ℤ_}
 use lib.Signed.{leZ}
+use Rattle.meaning.specs.Line.{Digits as Meant}
 use Rattle.meaning.specs.Known.{ends, larger, smaller}
 use Rattle.meaning.specs.Known.{Ends as KnownEnds}
 use Rattle.meaning.specs.Number.{half}
-use Rattle.meaning.specs.Refusal.{isDigits, valueLimit, cellLimit}
+use Rattle.meaning.specs.Refusal.{Result, value, refusedBy, isDigits, valueLimit, cellLimit}
 use Rattle.number.specs.Bounded.{Bounded}
 use Rattle.reader.specs.declared.rule.Digits.{Digits as DigitsRead}
 use Rattle.reader.specs.declared.rule.Digits.the-variants.{Of, NoDigits}
@@ -20,9 +21,14 @@ use Rattle.reader.specs.declared.rule.Ends.{Ends}
 use Rattle.reader.specs.State.{greatest, greatestApart}
 use Rattle.reader.specs.Told.{Told, refuses, makes}
 
--- a base and a digit count as the code has them, where rule 6 lets them through
-unfoldable pub digitsRead : (b k : ℤ) → DigitsRead
-digitsRead b k = cond (isDigits (record { b = b; k = k })) (Of (natAbs b) (natAbs k)) NoDigits
+-- a base and a digit count where rule 6 lets them through, and else refusal 6
+unfoldable pub digitsAllowed : (b k : ℤ) → Result Meant
+digitsAllowed b k = let d : Meant = record { b = b; k = k } in cond (isDigits d) (value d) (refusedBy 6)
+
+-- the same as the code has it
+unfoldable pub digitsSeen : DigitsRead → Result Meant
+digitsSeen (Of b k) = value (record { b = pos b; k = pos k })
+digitsSeen NoDigits = refusedBy 6
 
 -- the first that is broken of the rules 7 to 9, or 0
 unfoldable pub earlyBroken : (named : Bool) (values new cells width : ℕ) → ℕ

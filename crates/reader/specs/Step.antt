@@ -3,6 +3,7 @@ use mathlib.Core.Path.{_≡_}
 use Prim.Native.Nat.{ℕ, _*_, _≤_, _<_}
 use mathlib.Core.List.{List}
 use mathlib.Core.Option.{Option, none, some}
+use lib.ListN.{length, drop, set}
 use lib.IntN.{ℤ}
 use Rattle.meaning.specs.Line.{Line, lineOf}
 use Rattle.meaning.specs.Known.{Known}
@@ -11,7 +12,7 @@ use Rattle.meaning.specs.Refusal.{onSome, rules, firstBroken, cellLimit, valueL
 use Rattle.reader.specs.State.{stateOf}
 use Rattle.reader.specs.Size.{Adds}
 use Rattle.reader.specs.declared.rule.Made.{Made}
-use Rattle.reader.specs.declared.rule.Made.the-variants.{EndsOf}
+use Rattle.reader.specs.declared.rule.Made.the-variants.{EndsOf, Breaks}
 use Rattle.reader.specs.declared.state.Counts.{Counts}
 use Rattle.reader.specs.declared.state.Stepped.{Stepped}
 use Rattle.reader.specs.declared.state.Stepped.the-variants.{Next, Refused}
@@ -35,6 +36,26 @@ stepBytes s line = stepOption s (lineOf line)
 unfoldable pub stepSeen : ℕ → Stepped → (lows highs : List ℤ) (places : List ℕ) → Step
 stepSeen p (Next c) lows highs places = goes (stateOf p c lows highs places)
 stepSeen p (Refused n) lows highs places = stops n
+
+-- what taking in a line answers: the counts after it, or its refusal
+unfoldable pub answered : Made → Counts → Stepped
+answered (EndsOf low high) c = Next c
+answered (Breaks n) c = Refused n
+
+-- a lent array after that: it has the line's entry at a place, and is as it was where the line is refused
+unfoldable pub entered : {A : Type 0} → Made → (at : ℕ) → (entry : (low high : ℤ) → A) → List A → List A
+entered (EndsOf low high) at entry xs = set xs at (entry low high)
+entered (Breaks n) at entry xs = xs
+
+-- the part of a lent array that a line leaves as it was: all of it where the line is refused, and else what stands past the values
+unfoldable pub untouched : {A : Type 0} → Stepped → List A → List A
+untouched (Next c) xs = drop (c .values) xs
+untouched (Refused n) xs = xs
+
+-- a lent array before and after a line. What it has for the values is in the state that `stepSeen` reads, so that the two say all of it
+pub record Left {A : Type 0} (r : Stepped) (before after : List A) : Type 0 where
+  pub long : length after ≡ length before
+  pub same : untouched r after ≡ untouched r before
 
 unfoldable pub valuesIn : Stepped → ℕ
 valuesIn (Next c) = c .values

@@ -18,7 +18,7 @@ ghost use Rattle.meaning.specs.Refusal.{isMade, cellLimit, valueLimit};
 ghost use Rattle.meaning.specs.Gadget.Sign.{signShift};
 ghost use Rattle.number.specs.Bounded.{Bounded};
 ghost use Rattle.reader.specs.Told.{madeSeen, makes};
-ghost use Rattle.reader.specs.Rule.{digitsRead, endsSeen, earlyBroken, begun, Field, EndsRead, BoundedEnds, Apart};
+ghost use Rattle.reader.specs.Rule.{digitsAllowed, digitsSeen, endsSeen, earlyBroken, begun, Field, EndsRead, BoundedEnds, Apart};
 ghost use Rattle.reader.specs.State.{greatestApart, greatest};
 
 // The ends of the value that a line makes, or the number of the first rule that it breaks.
@@ -50,7 +50,7 @@ pub fn made_of(e: Ends) -> Made
 // The base at a place and the digit count after it.
 pub fn digits_at(numbers: &[i64], at: usize) -> Digits
     requires { ⌜ at + 1 < length (now numbers) ⌝ }
-    ensures { λ r. ⌜ r ≡ digitsRead (getD (now (numbers .entry)) at (pos 0)) (getD (now (numbers .entry)) (at + 1) (pos 0)) ⌝ }
+    ensures { λ r. ⌜ digitsSeen r ≡ digitsAllowed (getD (now (numbers .entry)) at (pos 0)) (getD (now (numbers .entry)) (at + 1) (pos 0)) ⌝ }
 {
     let b = numbers[at];
     let k = numbers[at + 1];
@@ -59,7 +59,7 @@ pub fn digits_at(numbers: &[i64], at: usize) -> Digits
 
 // b and k, where 2 <= b and 1 <= k <= 31.
 fn digits_of(b: i64, k: i64) -> Digits
-    ensures { λ r. ⌜ r ≡ digitsRead b k ⌝ }
+    ensures { λ r. ⌜ digitsSeen r ≡ digitsAllowed b k ⌝ }
 {
     if b < 2 {
         return Digits::NoDigits;

@@ -2,7 +2,7 @@
 // are in arrays beside it, which the outermost call lends: the first ones, as many as there are values.
 use super::rule::Made;
 ghost use mathlib.Core.Path.{_≡_};
-ghost use Prim.Native.Nat.{ℕ, _≤_};
+ghost use Prim.Native.Nat.{ℕ, _+_, _≤_};
 ghost use lib.ListN.{length};
 ghost use Rattle.meaning.specs.Line.{Line, span, sizeAt};
 ghost use mathlib.Core.List.{List};
@@ -11,8 +11,8 @@ ghost use Rattle.meaning.specs.Known.{Known};
 ghost use Rattle.meaning.specs.Kept.{Keeps};
 ghost use Rattle.reader.specs.State.{stateOf};
 ghost use Rattle.reader.specs.Told.{toldOf, spanTold, madeSeen, lineWith};
-ghost use Rattle.reader.specs.Size.{Adds, FewCounts};
-ghost use Rattle.reader.specs.Step.{Grows, Placed, WithinLimits, valuesIn, stepSeen, stepOf};
+ghost use Rattle.reader.specs.Size.{counted, Adds, FewCounts};
+ghost use Rattle.reader.specs.Step.{Grows, Placed, WithinLimits, answered, entered, valuesIn, stepSeen, stepOf};
 ghost use Rattle.meaning.specs.Refusal.{valueLimit};
 
 pub struct Counts {
@@ -41,8 +41,11 @@ pub fn grow(
     ensures told { λ r. ⌜ ((p : ℕ) (s : Known) (l : Line) → s ≡ stateOf p counts (now (lows .entry)) (now (highs .entry)) (now (places .entry))
         → (Keeps 1 s l → Grows s l size) → madeSeen made ≡ toldOf s l
         → stepSeen p r (now (lows .exit)) (now (highs .exit)) (now (places .exit)) ≡ stepOf s l) ⌝ }
-    ensures long { λ r. ⌜ (valuesIn r ≤ valueLimit) × (length (now (lows .exit)) ≡ length (now (lows .entry))) × (length (now (highs .exit)) ≡ length (now (highs .entry)))
-        × (length (now (places .exit)) ≡ length (now (places .entry))) ⌝ }
+    ensures held { λ r. ⌜ (valuesIn r ≤ valueLimit)
+        × (r ≡ answered made (counted (counts .values + size .values) (counts .inputs + size .inputs) (counts .cells + size .cells) (counts .rows + size .rows)))
+        × (now (lows .exit) ≡ entered made (counts .values) (λ low high. low) (now (lows .entry)))
+        × (now (highs .exit) ≡ entered made (counts .values) (λ low high. high) (now (highs .entry)))
+        × (now (places .exit) ≡ entered made (counts .values) (λ low high. counts .cells) (now (places .entry))) ⌝ }
 {
     match made {
         Made::Breaks(n) => Stepped::Refused(n),
@@ -76,7 +79,10 @@ pub fn narrow(
         → (Keeps 1 s (lineWith span ns) → (sizeAt ns 0 ≡ at) × Adds s (lineWith span ns) size)
         → madeSeen made ≡ spanTold s (lineWith span ns)
         → stepSeen p r (now (lows .exit)) (now (highs .exit)) (now (places .entry)) ≡ stepOf s (lineWith span ns)) ⌝ }
-    ensures long { λ r. ⌜ (valuesIn r ≤ valueLimit) × (length (now (lows .exit)) ≡ length (now (lows .entry))) × (length (now (highs .exit)) ≡ length (now (highs .entry))) ⌝ }
+    ensures held { λ r. ⌜ (valuesIn r ≤ valueLimit)
+        × (r ≡ answered made (counted (counts .values) (counts .inputs) (counts .cells + size .cells) (counts .rows + size .rows)))
+        × (now (lows .exit) ≡ entered made at (λ low high. low) (now (lows .entry)))
+        × (now (highs .exit) ≡ entered made at (λ low high. high) (now (highs .entry))) ⌝ }
 {
     match made {
         Made::Breaks(n) => Stepped::Refused(n),

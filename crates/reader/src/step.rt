@@ -26,7 +26,7 @@ ghost use Rattle.meaning.specs.Known.{Known};
 ghost use Rattle.text.specs.Word.{wordOf};
 ghost use Rattle.reader.specs.State.{Small, Ready, Seen, stateOf};
 ghost use Rattle.reader.specs.Told.{lineTold, madeSeen, lineWith};
-ghost use Rattle.reader.specs.Step.{WithinLimits, valuesIn, stepSeen, stepOf, stepBytes};
+ghost use Rattle.reader.specs.Step.{WithinLimits, Left, valuesIn, stepSeen, stepOf, stepBytes};
 ghost use Rattle.text.specs.Parsed.{mostNumbers};
 ghost use Rattle.meaning.specs.Refusal.{valueLimit};
 
@@ -73,8 +73,8 @@ pub fn step(
         × (length (now numbers) ≡ mostNumbers) × (isCount (wordOf word) count ≡ true) × (count ≤ mostNumbers) × Small count (now numbers) ⌝ }
     ensures told { λ r. ⌜ ((s : Known) → s ≡ stateOf p counts (now (lows .entry)) (now (highs .entry)) (now (places .entry))
         → stepSeen p r (now (lows .exit)) (now (highs .exit)) (now (places .exit)) ≡ stepOf s (lineWith (wordOf word) (take count (now (numbers .entry))))) ⌝ }
-    ensures long { λ r. ⌜ (valuesIn r ≤ valueLimit) × (length (now (lows .exit)) ≡ length (now (lows .entry))) × (length (now (highs .exit)) ≡ length (now (highs .entry)))
-        × (length (now (places .exit)) ≡ length (now (places .entry))) ⌝ }
+    ensures held { λ r. ⌜ (valuesIn r ≤ valueLimit) × Left r (now (lows .entry)) (now (lows .exit)) × Left r (now (highs .entry)) (now (highs .exit))
+        × Left r (now (places .entry)) (now (places .exit)) ⌝ }
 {
     let made = read_ends(
         word,
@@ -108,8 +108,8 @@ pub fn step_line(
         × (length (now numbers) ≡ mostNumbers) ⌝ }
     ensures told { λ r. ⌜ ((s : Known) → s ≡ stateOf p counts (now (lows .entry)) (now (highs .entry)) (now (places .entry))
         → stepSeen p r (now (lows .exit)) (now (highs .exit)) (now (places .exit)) ≡ stepBytes s (now (line .entry))) ⌝ }
-    ensures long { λ r. ⌜ (valuesIn r ≤ valueLimit) × (length (now (numbers .exit)) ≡ mostNumbers) × (length (now (lows .exit)) ≡ length (now (lows .entry)))
-        × (length (now (highs .exit)) ≡ length (now (highs .entry))) × (length (now (places .exit)) ≡ length (now (places .entry))) ⌝ }
+    ensures held { λ r. ⌜ (valuesIn r ≤ valueLimit) × (length (now (numbers .exit)) ≡ mostNumbers) × Left r (now (lows .entry)) (now (lows .exit))
+        × Left r (now (highs .entry)) (now (highs .exit)) × Left r (now (places .entry)) (now (places .exit)) ⌝ }
 {
     let Parsed::Line(word, count) = line_of(line, numbers) else {
         return Stepped::Refused(3);

@@ -15,8 +15,8 @@ use Rattle.meaning.specs.Number.{OddPrime}
 use Rattle.reader.specs.State.{greatest}
 use Rattle.reader.specs.Read.{Survey, counted, refusedAt, surveyOf, surveySeen, PrimeFound}
 use Rattle.reader.specs.declared.state.Counts.{Counts}
-use Rattle.reader.specs.declared.read.Surveyed.{Surveyed}
-use Rattle.reader.specs.declared.read.Surveyed.the-variants.{Counted, NotRead}
+use Rattle.reader.specs.declared.reading.Surveyed.{Surveyed}
+use Rattle.reader.specs.declared.reading.Surveyed.the-variants.{Counted, NotRead}
 use Rattle.service.specs.Walk.{ListRead, Listed}
 
 abbrev IsRead : Reading → Type 0

@@ -1,8 +1,8 @@
 // Showing a line: the part of the lent table that holds its cells.
 use super::walk::take_line;
-use reader::read::Surveyed;
-use reader::read::survey;
-use reader::state::Counts;
+use reader::Counts;
+use reader::Surveyed;
+use reader::survey;
 ghost use mathlib.Core.Path.{_≡_};
 ghost use Prim.Native.Nat.{_+_, _*_};
 ghost use denote.Ref.{ptr};

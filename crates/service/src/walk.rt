@@ -1,7 +1,7 @@
 // Walking a list that was read once more: the line at a place, the counts after it, and the cells of the values that the lines make. Every
 // walk of the crate goes by `take_line`.
-use reader::size::line_size;
-use reader::state::Counts;
+use reader::Counts;
+use reader::line_size;
 use text::Parsed;
 use text::Word;
 use text::line_end;

@@ -1,6 +1,6 @@
 // Working a list for a column of inputs: the values of its lines, or the first line whose statement is false.
 use super::walk::take_line;
-use reader::state::Counts;
+use reader::Counts;
 use table::Worked;
 use table::line_works::line_works;
 ghost use mathlib.Core.Path.{_≡_};

@@ -1,6 +1,6 @@
 // Writing the table of a list whose lines are worked: each line's cells through the part of the lent table that starts at its first cell.
 use super::walk::take_line;
-use reader::state::Counts;
+use reader::Counts;
 use table::line_cells::line_cells;
 ghost use mathlib.Core.Path.{_≡_};
 ghost use Rattle.service.specs.Make.{WriteAsked};

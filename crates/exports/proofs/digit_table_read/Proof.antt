@@ -1,7 +1,7 @@
 -- `exports::digit_table_read`: the six numbers are those of `read`'s answer.
 use mathlib.Core.Path.{sym, ap, _∙_}
 use Rattle.reader.specs.Read.{answerSeen}
-use Rattle.reader.specs.declared.read.Answer.{Answer}
+use Rattle.reader.specs.declared.reading.Answer.{Answer}
 use Rattle.exports.specs.Read.{numbersAfter}
 use denote.Ref.{now}
 use borrow.Author.Needs.{needs}

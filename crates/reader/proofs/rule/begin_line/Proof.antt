@@ -1,13 +1,12 @@
 -- Each way out is one case of the definition.
-use mathlib.Core.Path.{_≡_, sym, _∙_}
+use mathlib.Core.Path.{sym}
 use Prim.Native.Nat.{_+_, _*_, _≤_}
 use native.Mathlib.Omega.{arith}
 use native.Mathlib.Nat.{mul-le-mul}
 use lib.IntN.{pos}
 use lib.ListN.{getD}
 use borrow.Author.Tests.{not-true, not-false}
-use Rattle.reader.specs.declared.rule.Digits.the-variants.{Of}
-use Rattle.reader.specs.Rule.{digitsRead, earlyBroken, begun, begunUnless}
+use Rattle.reader.specs.Rule.{earlyBroken, begun, begunUnless}
 use Rattle.reader.proofs.Tests.{and-false}
 use Rattle.reader.proofs.Digits.{Read, digits-read, digits-none}
 use Rattle.reader.proofs.Rules.{begun-stops}
@@ -19,7 +18,7 @@ use Rattle.reader.proofs.rule.begin_line.Tie as tie
 read : (c : tie.After-known-told)
     → let a = c .before .before .before .before .args in
     Read (getD (a .numbers .now) (a .at) (pos 0)) (getD (a .numbers .now) (a .at + 1) (pos 0)) (c .before .b .given .0 .0) (c .before .b .given .0 .1 .0)
-read c = digits-read _ _ (sym (c .before .b .given .1) ∙ c .before .before .before .digits-at .ensures)
+read c = digits-read _ _ (c .before .b .given .1) (c .before .before .before .digits-at .ensures)
 
 -- the count of cells is small
 small : (c : tie.After-known-told) → let a = c .before .before .before .before .args in a .each * c .before .b .given .0 .1 .0 ≤ 4 * 31
@@ -36,7 +35,7 @@ enum-told c = search needs
 
 returns : tie.Need-returns
 unfolding begun
-returns c = rw (digits-none _ _ (sym (c .enum-told .given .1) ∙ c .before .before .digits-at .ensures))
+returns c = rw (digits-none _ _ (c .enum-told .given .1) (c .before .before .digits-at .ensures))
 
 returns-2 : tie.Need-returns-2
 unfolding begun

@@ -4,10 +4,10 @@ use mathlib.Core.Path.{_≡_}
 use mathlib.Core.Bool.{true}
 use native.Mathlib.Omega.{arith}
 use lib.IntN.{pos}
-use lib.Signed.{leZ}
+use lib.Signed.{leZ, pos-natAbs}
 use Rattle.meaning.specs.Refusal.{isDigits}
 use Rattle.number.proofs.Word.{back}
-use Rattle.reader.specs.Rule.{digitsRead}
+use Rattle.reader.specs.Rule.{digitsAllowed, digitsSeen}
 use Rattle.reader.proofs.Tests.{less, not-less, counts-below}
 use Rattle.reader.proofs.Digits.{digits-allowed}
 use Rattle.reader.proofs.rule.digits_of.Statement.{statement}
@@ -32,17 +32,17 @@ all-passed c =
     )
 
 returns : tie.Need-returns
-unfolding digitsRead isDigits
+unfolding digitsAllowed digitsSeen isDigits
 returns c = let start = c .before in rw (less (start .args .b) (pos 2) (rw (back (start .fits .b)) at (c .if1 .taken)))
 
 returns-2 : tie.Need-returns-2
-unfolding digitsRead isDigits
+unfolding digitsAllowed digitsSeen isDigits
 returns-2 c =
     let start = c .before .before in
     rw (base-two (c .before), less (start .args .k) (pos 1) (rw (back (start .fits .k)) at (c .if2 .taken)))
 
 returns-3 : tie.Need-returns-3
-unfolding digitsRead isDigits
+unfolding digitsAllowed digitsSeen isDigits
 returns-3 c =
     let start = c .before .before .before in
     rw (base-two (c .before .before), count-one (c .before), less (pos 31) (start .args .k) (rw (back (start .fits .k)) at (c .if3 .taken)))
@@ -66,10 +66,17 @@ cast-t5 c =
     rw (back (start .fits .k)) (allowed .count-counts, record { fits = omega arith })
 
 returns-4 : tie.Need-returns-4
-unfolding digitsRead
+unfolding digitsAllowed digitsSeen
 returns-4 c =
     let start = c .before .before .before in
-    rw (back (start .fits .b), back (start .fits .k), all-passed c)
+    let allowed = digits-allowed (start .args .b) (start .args .k) (all-passed c) in
+    rw (
+      back (start .fits .b),
+      back (start .fits .k),
+      all-passed c,
+      pos-natAbs (start .args .b) (allowed .base-counts),
+      pos-natAbs (start .args .k) (allowed .count-counts),
+    )
 
 pub digits-of-spec : {M : Type 1} → statement M
 digits-of-spec = tie.close (tie.spec returns returns-2 returns-3 cast-t4 cast-t5 returns-4)

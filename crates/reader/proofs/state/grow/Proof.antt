@@ -1,12 +1,11 @@
 -- `reader::state::grow`: a refusal is handed on, and else the line's ends and its first cell come behind those before it.
-use mathlib.Core.Path.{refl}
 use native.Mathlib.Omega.{arith}
 use denote.Ref.{now}
-use lib.ListN.{length-set}
 use mir.Syntax.{w64}
 use mir.Val.{SFits}
 use mir.ValLaws.{toZ-ofZ}
-use Rattle.reader.specs.Step.{valuesIn}
+use Rattle.reader.specs.Size.{counted}
+use Rattle.reader.specs.Step.{answered, entered, valuesIn}
 use Rattle.reader.proofs.Growth.{grown-refused, grown}
 use borrow.Author.Needs.{needs}
 use Rattle.reader.proofs.state.grow.Statement.{statement}
@@ -70,13 +69,13 @@ add-t18 c = search needs
 
 -- src/state.rt:31:1
 returns : tie.Need-returns
-unfolding valuesIn
+unfolding valuesIn answered entered counted
 returns c =
     let S = c .before .before .before in
     let a = S .args in (
       λ p s l is g e. grown-refused p s l (a .counts) (now (a .lows)) (now (a .highs)) (now (a .places)) is (S .pre .0) (a .made) e (c .before .made .given .0 .0) _ _ _
           (c .before .made .given .1),
-      (omega arith, refl, refl, refl),
+      (omega arith, rw (c .before .made .given .1), rw (c .before .made .given .1), rw (c .before .made .given .1), rw (c .before .made .given .1)),
     )
 
 -- src/state.rt:31:1
@@ -93,7 +92,7 @@ same-length-3 c = search needs
 
 -- src/state.rt:31:1
 returns-2 : tie.Need-returns-2
-unfolding valuesIn
+unfolding valuesIn answered entered counted
 returns-2 c =
     let S = c .before .before .before .before .before .before .before .before .before .before in
     let a = S .args in
@@ -104,9 +103,10 @@ returns-2 c =
           (grown p s l (a .counts) (now (a .lows)) (now (a .highs)) (now (a .places)) is (S .pre .0) (a .made) e low high made-is (a .size) g),
       (
         omega (arith, S .pre .2 low high made-is, S .pre .1 .0),
-        length-set (now (a .lows)) (a .counts .values) _,
-        length-set (now (a .highs)) (a .counts .values) _,
-        length-set (now (a .places)) (a .counts .values) _,
+        rw made-is,
+        rw (toZ-ofZ w64 low (low-fits (c .before .before .before .before .before .before .before)), made-is),
+        rw (toZ-ofZ w64 high (high-fits (c .before .before .before .before .before .before .before)), made-is),
+        rw made-is,
       ),
     )
 

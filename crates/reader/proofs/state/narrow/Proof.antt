@@ -1,12 +1,11 @@
 -- `reader::state::narrow`: a refusal is handed on, and else the ends of the value at the place are the line's.
-use mathlib.Core.Path.{refl}
 use native.Mathlib.Omega.{arith}
 use denote.Ref.{now}
-use lib.ListN.{length-set}
 use mir.Syntax.{w64}
 use mir.Val.{SFits}
 use mir.ValLaws.{toZ-ofZ}
-use Rattle.reader.specs.Step.{valuesIn}
+use Rattle.reader.specs.Size.{counted}
+use Rattle.reader.specs.Step.{answered, entered, valuesIn}
 use Rattle.reader.proofs.Narrowing.{narrowed-refused, narrowed}
 use borrow.Author.Needs.{needs}
 use Rattle.reader.proofs.state.narrow.Statement.{statement}
@@ -54,13 +53,13 @@ add-t15 c = search needs
 
 -- src/state.rt:64:1
 returns : tie.Need-returns
-unfolding valuesIn
+unfolding valuesIn answered entered counted
 returns c =
     let S = c .before .before .before in
     let a = S .args in (
       λ p s ns is g e. narrowed-refused p s ns (a .counts) (now (a .lows)) (now (a .highs)) (now (a .places)) is (S .pre .0) (a .made) e
           (c .before .made .given .0 .0) _ _ (c .before .made .given .1),
-      (omega arith, refl, refl),
+      (omega arith, rw (c .before .made .given .1), rw (c .before .made .given .1), rw (c .before .made .given .1)),
     )
 
 -- src/state.rt:64:1
@@ -73,16 +72,22 @@ same-length-2 c = search needs
 
 -- src/state.rt:64:1
 returns-2 : tie.Need-returns-2
-unfolding valuesIn
+unfolding valuesIn answered entered counted
 returns-2 c =
     let S = c .before .before .before .before .before .before .before in
     let a = S .args in
     let low = c .before .before .before .before .before .made2 .given .0 .0 in
-    let high = c .before .before .before .before .before .made2 .given .0 .1 .0 in (
+    let high = c .before .before .before .before .before .made2 .given .0 .1 .0 in
+    let made-is = c .before .before .before .before .before .made2 .given .1 in (
       λ p s ns is g e. rw (toZ-ofZ w64 low (low-fits (c .before .before .before .before)), toZ-ofZ w64 high (high-fits (c .before .before .before .before)))
-          (narrowed p s ns (a .counts) (now (a .lows)) (now (a .highs)) (now (a .places)) is (S .pre .0) (a .made) e low high (c .before .before .before .before .before .made2 .given .1) (a .at) (λ k. g k .0)
+          (narrowed p s ns (a .counts) (now (a .lows)) (now (a .highs)) (now (a .places)) is (S .pre .0) (a .made) e low high made-is (a .at) (λ k. g k .0)
           (a .size) (λ k. g k .1)),
-      (S .pre .0 .values-most, length-set (now (a .lows)) (a .at) _, length-set (now (a .highs)) (a .at) _),
+      (
+        S .pre .0 .values-most,
+        rw made-is,
+        rw (toZ-ofZ w64 low (low-fits (c .before .before .before .before)), made-is),
+        rw (toZ-ofZ w64 high (high-fits (c .before .before .before .before)), made-is),
+      ),
     )
 
 pub narrow-spec : {M : Type 1} → statement M

@@ -1,18 +1,24 @@
 -- `reader::step::step`: what reading tells of the line, taken in by `grow`, or by `narrow` where it is a span line.
-use mathlib.Core.Path.{refl, _∙_}
+use mathlib.Core.Path.{_≡_, refl, _∙_}
+use Prim.Native.Nat.{_+_, _<_}
 use native.Mathlib.Omega.{arith}
 use denote.Ref.{now}
 use lib.ListN.{take, getD}
-use lib.IntN.{pos}
+use lib.IntN.{ℤ, pos}
 use mir.Syntax.{w64}
 use mir.Val.{SFits}
 use Rattle.number.proofs.Word.{back}
-use Rattle.meaning.specs.Line.{isCount}
+use Rattle.meaning.specs.Line.{span, isCount, sizeAt}
+use Rattle.meaning.specs.Known.{Known}
+use Rattle.meaning.specs.Kept.{Keeps}
 use Rattle.text.specs.Word.{wordOf}
 use Rattle.reader.specs.State.{stateOf}
-use Rattle.reader.specs.Told.{toldBy, lineTold, lineWith}
-use Rattle.reader.proofs.Growth.{room}
-use Rattle.reader.proofs.Narrowing.{named-within}
+use Rattle.reader.specs.Told.{toldOf, spanTold, toldBy, lineTold, madeSeen, lineWith}
+use Rattle.reader.specs.Size.{counted}
+use Rattle.reader.specs.Step.{Grows}
+use Rattle.reader.specs.declared.rule.Made.the-variants.{EndsOf}
+use Rattle.reader.proofs.Growth.{room, entry-counted, left-by-entry}
+use Rattle.reader.proofs.Narrowing.{named, named-within}
 use Rattle.reader.proofs.Sizes.{count-is}
 use Rattle.reader.proofs.Steps.{seen-state, not-span, told-by-word, grows-by-word, span-word, name-counted}
 use borrow.Author.Needs.{needs}
@@ -55,16 +61,30 @@ same-length-3 c = search needs
 
 -- src/step.rt:80:9
 returns : tie.Need-returns
+unfolding counted
 returns c =
     let S = c .before .before .before .before .before .before .before .before .before .before .before .before .before .before in
     let a = S .args in
     let w = wordOf (a .word) in
     let ns = take (a .count) (now (a .numbers)) in
-    let other = not-span (a .word) (c .before .before .before .before .before .before .before .before .match .keys2) in (
-      λ s is. c .before .before .before .before .grow .ensures .0 (a .p) s (lineWith w ns) is
-          (λ kept. grows-by-word s _ w ns other kept (c .before .before .before .before .before .before .before .before .before .line-size .ensures .0 1 (a .count) s (S .pre .3) kept))
-          (c .before .before .before .before .before .before .before .before .before .before .read-ends .ensures s (seen-state (a .p) (a .counts) (now (a .lows)) (now (a .highs)) (now (a .places)) is) ∙ told-by-word s w ns other),
-      c .before .before .before .before .grow .ensures .1,
+    let other = not-span (a .word) (c .before .before .before .before .before .before .before .before .match .keys2) in
+    let made = c .before .before .before .before .before .before .before .before .before .before .read-ends .result in
+    let size = c .before .before .before .before .before .before .before .before .before .line-size .result in
+    let grows : (s : Known) → Keeps 1 s (lineWith w ns) → Grows s (lineWith w ns) size =
+    λ s kept. grows-by-word s size w ns other kept (c .before .before .before .before .before .before .before .before .before .line-size .ensures .0 1 (a .count) s (S .pre .3) kept) in
+    let told : (s : Known) → s ≡ stateOf (a .p) (a .counts) (now (a .lows)) (now (a .highs)) (now (a .places)) → madeSeen made ≡ toldOf s (lineWith w ns) =
+    λ s is. c .before .before .before .before .before .before .before .before .before .before .read-ends .ensures s (seen-state (a .p) (a .counts) (now (a .lows)) (now (a .highs)) (now (a .places)) is) ∙ told-by-word s w ns other in
+    let s = stateOf (a .p) (a .counts) (now (a .lows)) (now (a .highs)) (now (a .places)) in
+    let counted-in : (low high : ℤ) → made ≡ EndsOf low high → a .counts .values < a .counts .values + size .values =
+    λ low high q. entry-counted (a .p) s (lineWith w ns) (a .counts) (now (a .lows)) (now (a .highs)) (now (a .places)) refl (S .pre .1) made (told s refl) low high q size (grows s) in
+    let grown = c .before .before .before .before .grow .ensures in (
+      λ s is. grown .0 (a .p) s (lineWith w ns) is (grows s) (told s is),
+      (
+        grown .1 .0,
+        left-by-entry made (a .counts .values) _ _ _ counted-in (grown .1 .1) (grown .1 .2),
+        left-by-entry made (a .counts .values) _ _ _ counted-in (grown .1 .1) (grown .1 .3),
+        left-by-entry made (a .counts .values) _ _ _ counted-in (grown .1 .1) (grown .1 .4),
+      ),
     )
 
 -- src/step.rt:82:22
@@ -84,13 +104,13 @@ narrow-requires c κs =
     let s = stateOf (a .p) (a .counts) (now (a .lows)) (now (a .highs)) (now (a .places)) in
     let ns = take (a .count) (now (a .numbers)) in
     let word-is = c .before .before .before .before .before .enum-told .given .1 in
-    let counted = count-is 4 (a .count) word-is refl (S .pre .3) in
+    let four = count-is 4 (a .count) word-is refl (S .pre .3) in
     let at-fits : SFits w64 (getD (now (a .numbers)) 0 (pos 0)) = search needs in
     let told = rw (span-word word-is) at (c .before .before .before .before .before .before .before .before .read-ends .ensures s (seen-state (a .p) (a .counts) (now (a .lows)) (now (a .highs)) (now (a .places)) refl)) in (
       S .pre .1,
       c .before .before .before .before .before .before .before .line-size .ensures .1,
       λ low high q. named-within (a .p) s ns (a .counts) (now (a .lows)) (now (a .highs)) (now (a .places)) refl (S .pre .1) _ told low high q (c .before .before .before .natural .result)
-          (name-counted s (now (a .numbers)) (a .count) _ (omega (arith, counted)) (rw (back at-fits) at (c .before .before .before .natural .ensures))),
+          (name-counted s (now (a .numbers)) (a .count) _ (omega (arith, four)) (rw (back at-fits) at (c .before .before .before .natural .ensures))),
     )
 
 -- src/step.rt:60:1
@@ -107,22 +127,33 @@ same-length-6 c = search needs
 
 -- src/step.rt:60:1
 returns-2 : tie.Need-returns-2
-unfolding isCount wordOf toldBy lineTold
+unfolding counted isCount wordOf toldBy lineTold
 returns-2 c =
     let S = c .before .before .before .before .before .before .before .before .before .before .before .before .before .before .before in
     let a = S .args in
     let ns = take (a .count) (now (a .numbers)) in
     let word-is = c .before .before .before .before .before .before .before .before .enum-told .given .1 in
-    let counted = count-is 4 (a .count) word-is refl (S .pre .3) in
+    let four = count-is 4 (a .count) word-is refl (S .pre .3) in
     let at-fits : SFits w64 (getD (now (a .numbers)) 0 (pos 0)) = search needs in
+    let made = c .before .before .before .before .before .before .before .before .before .before .before .read-ends .result in
+    let at = c .before .before .before .before .before .before .natural .result in
+    let at-is : (s : Known) → Keeps 1 s (lineWith span ns) → sizeAt ns 0 ≡ at =
+    λ s kept. name-counted s (now (a .numbers)) (a .count) _ (omega (arith, four)) (rw (back at-fits) at (c .before .before .before .before .before .before .natural .ensures)) kept in
+    let told : (s : Known) → s ≡ stateOf (a .p) (a .counts) (now (a .lows)) (now (a .highs)) (now (a .places)) → madeSeen made ≡ spanTold s (lineWith span ns) =
+    λ s is. rw (span-word word-is) at (c .before .before .before .before .before .before .before .before .before .before .before .read-ends .ensures s (seen-state (a .p) (a .counts) (now (a .lows)) (now (a .highs)) (now (a .places)) is)) in
+    let s = stateOf (a .p) (a .counts) (now (a .lows)) (now (a .highs)) (now (a .places)) in
+    let counted-in : (low high : ℤ) → made ≡ EndsOf low high → at < a .counts .values =
+    λ low high q. named (a .p) s ns (a .counts) (now (a .lows)) (now (a .highs)) (now (a .places)) refl (S .pre .1) made (told s refl) low high q at (at-is s) in
     let narrowed = c .before .before .narrow .ensures in (
       λ s is. rw (span-word word-is) (narrowed .0 (a .p) s ns is
-          (λ kept. (
-            name-counted s (now (a .numbers)) (a .count) _ (omega (arith, counted)) (rw (back at-fits) at (c .before .before .before .before .before .before .natural .ensures)) kept,
-            (rw (span-word word-is) at (c .before .before .before .before .before .before .before .before .before .before .line-size .ensures .0 1 (a .count) s (S .pre .3))) kept,
-          ))
-          (rw (span-word word-is) at (c .before .before .before .before .before .before .before .before .before .before .before .read-ends .ensures s (seen-state (a .p) (a .counts) (now (a .lows)) (now (a .highs)) (now (a .places)) is)))),
-      (narrowed .1 .0, narrowed .1 .1, narrowed .1 .2, refl),
+          (λ kept. (at-is s kept, (rw (span-word word-is) at (c .before .before .before .before .before .before .before .before .before .before .line-size .ensures .0 1 (a .count) s (S .pre .3))) kept))
+          (told s is)),
+      (
+        narrowed .1 .0,
+        left-by-entry made at _ _ _ counted-in (narrowed .1 .1) (narrowed .1 .2),
+        left-by-entry made at _ _ _ counted-in (narrowed .1 .1) (narrowed .1 .3),
+        record { long = refl; same = refl },
+      ),
     )
 
 pub step-spec : {M : Type 1} → statement M

@@ -4,7 +4,7 @@ use native.Mathlib.Omega.{arith}
 use denote.Ref.{now}
 use Rattle.text.proofs.Answers.{no-line-seen, line-seen, line-most, line-counted, line-small}
 use Rattle.reader.specs.State.{greatest}
-use Rattle.reader.specs.Step.{valuesIn, stepSeen}
+use Rattle.reader.specs.Step.{untouched, valuesIn, stepSeen}
 use Rattle.reader.proofs.Steps.{no-line-step, line-step}
 use borrow.Author.Needs.{needs}
 use Rattle.reader.proofs.step.step_line.Statement.{statement}
@@ -28,10 +28,10 @@ same-length c = search needs
 
 -- src/step.rt:176:9
 returns : tie.Need-returns
-unfolding stepSeen valuesIn
+unfolding stepSeen valuesIn untouched
 returns c =
     let read = c .before .before .before .line-of .ensures in
-    (λ s is. no-line-step s (now (c .before .before .before .before .before .before .before .args .line)) (no-line-seen read (c .enum-told .given .1)), (omega arith, read .kept ∙ c .before .before .before .before .before .before .before .pre .2, refl, refl, refl))
+    (λ s is. no-line-step s (now (c .before .before .before .before .before .before .before .args .line)) (no-line-seen read (c .enum-told .given .1)), (omega arith, read .kept ∙ c .before .before .before .before .before .before .before .pre .2, record { long = refl; same = refl }, record { long = refl; same = refl }, record { long = refl; same = refl }))
 
 -- src/step.rt:178:5
 step-requires : tie.Need-step-requires

@@ -1,4 +1,4 @@
--- `reader::read::read`: the reply to what `survey` found.
+-- `reader::reading::read`: the reply to what `survey` found.
 use mathlib.Core.Path.{_≡_}
 use mathlib.Core.List.{List}
 use Prim.Native.Nat.{ℕ}
@@ -7,18 +7,18 @@ use Rattle.meaning.specs.Reply.{Answer, readReply}
 use Rattle.reader.specs.Read.{answerSeen, Exact}
 use Rattle.reader.proofs.Exact.{refused-replied, counts-replied, reads-exactly-as-replied}
 use borrow.Author.Needs.{needs}
-use Rattle.reader.proofs.read.read.Statement.{statement}
-use Rattle.reader.proofs.read.read.Tie as tie
+use Rattle.reader.proofs.reading.read.Statement.{statement}
+use Rattle.reader.proofs.reading.read.Tie as tie
 
--- src/read.rt:86:9
+-- src/reading.rt:86:9
 survey-requires : tie.Need-survey-requires
 survey-requires c κs = search needs
 
--- src/read.rt:88:27
+-- src/reading.rt:88:27
 enum-known-found : tie.Need-enum-known-found
 enum-known-found c = search needs
 
--- src/read.rt:89:27
+-- src/reading.rt:89:27
 enum-known-found-2 : tie.Need-enum-known-found-2
 enum-known-found-2 c = search needs
 

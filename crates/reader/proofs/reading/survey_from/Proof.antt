@@ -1,4 +1,4 @@
--- `reader::read::survey_from`: the walk over the lines, with what holds before each of them as the invariant.
+-- `reader::reading::survey_from`: the walk over the lines, with what holds before each of them as the invariant.
 use mathlib.Core.Path.{refl}
 use Prim.Native.Nat.{_-_}
 use lib.ListN.{length}
@@ -6,8 +6,8 @@ use denote.Ref.{now}
 use borrow.Author.Needs.{needs}
 use Rattle.reader.specs.Read.{surveySeen, PrimeFound}
 use Rattle.reader.proofs.Walk.{Walked, walk-ready, walk-start, walk-end, walk-stopped, walk-next}
-use Rattle.reader.proofs.read.survey_from.Statement.{statement}
-use Rattle.reader.proofs.read.survey_from.Tie as tie
+use Rattle.reader.proofs.reading.survey_from.Statement.{statement}
+use Rattle.reader.proofs.reading.survey_from.Tie as tie
 
 abbrev Inv-loop : tie.InvT-loop
 Inv-loop list start p numbers₀ lows₀ highs₀ places₀ counts₀ at₀ n₀ numbers lows highs places counts at n =
@@ -17,56 +17,56 @@ abbrev μ-loop : tie.MeasureT-loop
 μ-loop list start p numbers₀ lows₀ highs₀ places₀ counts₀ at₀ n₀ numbers lows highs places counts at n =
     length list - at
 
--- src/read.rt:107:5
+-- src/reading.rt:107:5
 loop-holds : tie.Need-loop-holds Inv-loop μ-loop
 loop-holds c =
     let S = c .before in
     walk-start (now (S .args .list)) (S .args .start) (S .args .p) _ _ _ _ (S .pre .1) (S .pre .2) (S .pre .3) refl refl refl refl
 
--- src/read.rt:108:13
+-- src/reading.rt:108:13
 line-end-requires : tie.Need-line-end-requires Inv-loop μ-loop
 line-end-requires c κs = search needs
 
--- src/read.rt:110:13
+-- src/reading.rt:110:13
 sub-step-line : tie.Need-sub-step-line Inv-loop μ-loop
 sub-step-line c = search needs
 
--- src/read.rt:110:13
+-- src/reading.rt:110:13
 part-step-line-start : tie.Need-part-step-line-start Inv-loop μ-loop
 part-step-line-start c = search needs
 
--- src/read.rt:110:13
+-- src/reading.rt:110:13
 part-step-line-end : tie.Need-part-step-line-end Inv-loop μ-loop
 part-step-line-end c = search needs
 
--- src/read.rt:111:13
+-- src/reading.rt:111:13
 slice-aggregate-step-line : tie.Need-slice-aggregate-step-line Inv-loop μ-loop
 slice-aggregate-step-line c = search needs
 
--- src/read.rt:114:13
+-- src/reading.rt:114:13
 slice-aggregate-step-line-2 : tie.Need-slice-aggregate-step-line-2 Inv-loop μ-loop
 slice-aggregate-step-line-2 c = search needs
 
--- src/read.rt:115:13
+-- src/reading.rt:115:13
 slice-aggregate-step-line-3 : tie.Need-slice-aggregate-step-line-3 Inv-loop μ-loop
 slice-aggregate-step-line-3 c = search needs
 
--- src/read.rt:116:13
+-- src/reading.rt:116:13
 slice-aggregate-step-line-4 : tie.Need-slice-aggregate-step-line-4 Inv-loop μ-loop
 slice-aggregate-step-line-4 c = search needs
 
--- src/read.rt:109:13
+-- src/reading.rt:109:13
 step-line-requires : tie.Need-step-line-requires Inv-loop μ-loop
 step-line-requires c κs =
     let S = c .before .before .before .before .before .before .before .before .before in
     let w = c .before .before .before .before .before .before .before .loop .inv in
     (walk-ready (S .args .p) _ _ _ _ (w .sized) _ (w .later) (S .pre .4) (w .sound) (w .ordered), w .sized, w .numbers-long)
 
--- src/read.rt:119:30
+-- src/reading.rt:119:30
 enum-known-stepped : tie.Need-enum-known-stepped Inv-loop μ-loop
 enum-known-stepped c = search needs
 
--- src/read.rt:120:17
+-- src/reading.rt:120:17
 returns : tie.Need-returns Inv-loop μ-loop
 unfolding surveySeen PrimeFound
 returns c =
@@ -77,23 +77,23 @@ returns c =
       tt,
     )
 
--- src/read.rt:122:27
+-- src/reading.rt:122:27
 enum-known-stepped-2 : tie.Need-enum-known-stepped-2 Inv-loop μ-loop
 enum-known-stepped-2 c = search needs
 
--- src/read.rt:126:14
+-- src/reading.rt:126:14
 add-at : tie.Need-add-at Inv-loop μ-loop
 add-at c = search needs
 
--- src/read.rt:127:9
+-- src/reading.rt:127:9
 add-n : tie.Need-add-n Inv-loop μ-loop
 add-n c = search needs
 
--- src/read.rt:107:5
+-- src/reading.rt:107:5
 loop-less : tie.Need-loop-less Inv-loop μ-loop
 loop-less c = search needs
 
--- src/read.rt:107:5
+-- src/reading.rt:107:5
 loop-again : tie.Need-loop-again Inv-loop μ-loop
 loop-again c =
     let S = c .before .before .before .before .before .before .before .before .before .before .before .before .before .before .before .before .before in
@@ -101,9 +101,9 @@ loop-again c =
     let stepped = c .before .before .before .before .before .before .before .step-line .ensures in
     let is = c .before .stepped2 .given .1 in
     walk-next w (S .pre .0) (c .before .before .before .before .before .before .before .before .before .before .before .before .before .before .loop-test .taken) (c .before .before .before .before .before .before .before .before .before .before .before .before .before .line-end .ensures)
-    _ (c .before .stepped2 .given .0 .0) _ _ _ _ is (stepped .0 _ refl) (stepped .1 .0) (stepped .1 .1) (stepped .1 .2) (stepped .1 .3) (stepped .1 .4)
+    _ (c .before .stepped2 .given .0 .0) _ _ _ _ is (stepped .0 _ refl) (stepped .1 .0) (stepped .1 .1) (stepped .1 .2 .long) (stepped .1 .3 .long) (stepped .1 .4 .long)
 
--- src/read.rt:94:1
+-- src/reading.rt:94:1
 returns-2 : tie.Need-returns-2 Inv-loop μ-loop
 unfolding surveySeen PrimeFound
 returns-2 c = (walk-end (c .before .loop .inv) (c .loop-test .left), (c .before .before .before .pre .3, c .before .before .before .pre .4))
