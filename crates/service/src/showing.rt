@@ -4,11 +4,10 @@ use reader::Counts;
 use reader::Surveyed;
 use reader::survey;
 ghost use mathlib.Core.Path.{_≡_};
-ghost use Prim.Native.Nat.{_+_, _*_};
 ghost use denote.Ref.{ptr};
 ghost use Rattle.meaning.specs.Reply.{shown, shownFrom};
 ghost use Rattle.service.specs.Walk.{ListRead};
-ghost use Rattle.service.specs.Show.{IsStretch};
+ghost use Rattle.service.specs.Show.{cellPlace, IsStretch};
 
 // The cells from one up to another, which is not among them.
 struct Stretch {
@@ -20,7 +19,7 @@ struct Stretch {
 // wrong table length.
 pub fn show<'a>(list: &[u8], table: &'a [u32], line: usize) -> &'a [u32]
     ensures cells { λ r. ⌜ now r ≡ shown (now (list .entry)) (now (table .entry)) line ⌝ }
-    ensures place { λ r. ⌜ ptr r ≡ (ptr (table .entry) .0, shownFrom (now (list .entry)) (now (table .entry)) line * 4 + ptr (table .entry) .1) ⌝ }
+    ensures place { λ r. ⌜ ptr r ≡ cellPlace (ptr (table .entry)) (shownFrom (now (list .entry)) (now (table .entry)) line) ⌝ }
 {
     let found = survey(list);
     match found {

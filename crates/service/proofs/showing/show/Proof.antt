@@ -1,10 +1,10 @@
 -- `service::showing::show`: the part of the table that `stretch_of` names, where the list is read and the length is right.
-use mathlib.Core.Path.{ap, _∙_}
-use Prim.Native.Nat.{ℕ, _+_, _*_, _≤_}
+use mathlib.Core.Path.{_≡_, ap, _∙_}
+use Prim.Native.Nat.{_≤_}
 use native.Mathlib.Omega.{arith}
 use lib.ListN.{length}
-use mathlib.Core.Path.{_≡_}
 use denote.Ref.{now, ptr}
+use Rattle.service.specs.Show.{cellPlace}
 use Rattle.service.proofs.Listed.{survey-refused, survey-counted}
 use Rattle.service.proofs.Shown.{shown-refused, shown-wrong-length, shown-stretch, from-refused, from-wrong-length, from-stretch}
 use borrow.Author.Needs.{needs}
@@ -54,7 +54,7 @@ returns c =
     let l = survey-counted (now (S .args .list)) _ (c .before .before .before .before .before .survey .ensures .0) (c .before .before .before .before .before .survey .ensures .1) _ _ (c .before .before .before .found .given .1) in
     let other : (length (now (S .args .table)) ≡ l .listed .last .cells → ⊥) = λ e. c .before .if1 .taken (e ∙ l .counts-are .cells-are) in (
       shown-wrong-length _ (now (S .args .table)) (S .args .line) (l .listed) other,
-      ap (λ (i : ℕ). (ptr (S .args .table) .0, i * 4 + ptr (S .args .table) .1)) (from-wrong-length _ (now (S .args .table)) (S .args .line) (l .listed) other),
+      ap (cellPlace (ptr (S .args .table))) (from-wrong-length _ (now (S .args .table)) (S .args .line) (l .listed) other),
     )
 
 -- src/showing.rt:33:17
@@ -103,7 +103,7 @@ returns-2 c =
     let S = c .before .before .before .before .before .before in
     let e = survey-refused _ _ (c .before .before .before .survey .ensures .0) _ _ (c .before .enum-told .given .1) in (
       shown-refused (now (S .args .list)) (now (S .args .table)) (S .args .line) _ _ e,
-      ap (λ (i : ℕ). (ptr (S .args .table) .0, i * 4 + ptr (S .args .table) .1)) (from-refused (now (S .args .list)) (now (S .args .table)) (S .args .line) _ _ e),
+      ap (cellPlace (ptr (S .args .table))) (from-refused (now (S .args .list)) (now (S .args .table)) (S .args .line) _ _ e),
     )
 
 -- src/showing.rt:22:1
@@ -113,7 +113,7 @@ returns-3 c =
     let l = survey-counted (now (S .args .list)) _ (c .before .before .before .before .before .before .survey .ensures .0) (c .before .before .before .before .before .before .survey .ensures .1) _ _ (c .before .before .before .before .found .given .1) in
     let long : length (now (S .args .table)) ≡ l .listed .last .cells = omega (arith, l .counts-are .cells-are, c .before .before .if1 .left) in (
       shown-stretch _ (now (S .args .table)) (S .args .line) (l .listed) long _ (c .before .stretch-of .ensures (l .listed)),
-      ap (λ (i : ℕ). (ptr (S .args .table) .0, i * 4 + ptr (S .args .table) .1)) (from-stretch _ (now (S .args .table)) (S .args .line) (l .listed) long _ (c .before .stretch-of .ensures (l .listed))),
+      ap (cellPlace (ptr (S .args .table))) (from-stretch _ (now (S .args .table)) (S .args .line) (l .listed) long _ (c .before .stretch-of .ensures (l .listed))),
     )
 
 pub show-spec : {M : Type 1} → statement M
