@@ -1,4 +1,5 @@
 pub mod Lists
+pub mod Results
 pub mod Number
 pub mod Order
 pub mod Cells

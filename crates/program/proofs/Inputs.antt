@@ -2,7 +2,7 @@
 use mathlib.Core.Path.{_≡_, refl, sym, ap, _∙_}
 use mathlib.Core.Bool.{true}
 use mathlib.Core.List.{List, [], _∷_, _++_, append-nil}
-use mathlib.Core.Option.{some}
+use mathlib.Core.Option.{none, some}
 use Prim.Native.Nat.{ℕ, _+_, _-_, _≤_, _<_}
 use native.Mathlib.Decide.{decLt}
 use native.Mathlib.Omega.{arith}
@@ -12,8 +12,10 @@ use lib.ListN.{length, take, drop, set, length-append, length-set}
 use lib.Seq.{take-all, take-append-le, take-suc-set, set-out}
 use Rattle.meaning.specs.Text.{isEnded, number}
 use Rattle.meaning.specs.Line.{numbersOf}
-use Rattle.meaning.specs.Reply.{firstFail}
+use Rattle.meaning.specs.Refusal.{orRefused}
+use Rattle.meaning.specs.Reply.{reply, firstFail, refusalAt}
 use Rattle.meaning.specs.Program.{isSome, orNone}
+use Rattle.meaning.proofs.Results.{refused-none, value-some}
 use Rattle.text.specs.declared.Number.{Number}
 use Rattle.text.specs.declared.Number.the-variants.{Of, NoNumber}
 use Rattle.text.specs.Number.{numberSeen}
@@ -81,22 +83,25 @@ module _ {input : List ℕ} {start : ℕ} {stored : List ℤ} {at count : ℕ} (
           ap orNone read ∙ append-nil (r .numbers)
 
   module _ (ended : isEnded input ≡ true) (h : at < length input) {end : ℕ} (found : Found 10 input at end) {x : Number}
-      (seen : numberSeen x ≡ number (take (end - at) (drop at input))) where
-    pub reading-stops : x ≡ NoNumber → firstFail (λ l. isSome (number l)) 0 (linesFrom input start) ≡ some count
-    unfolding firstFail isSome numberSeen
-    reading-stops q = r .fails-left ∙ rw (lines-next input ended h found, sym seen ∙ ap numberSeen q)
+      (seen : numberSeen x ≡ orRefused 3 (number (take (end - at) (drop at input)))) where
+    pub reading-stops : x ≡ NoNumber → refusalAt 3 (firstFail (λ l. isSome (number l)) 0 (linesFrom input start)) ≡ some (reply 3 count)
+    unfolding firstFail isSome numberSeen refusalAt
+    reading-stops q =
+        let no-number : number (take (end - at) (drop at input)) ≡ none = refused-none 3 _ (sym seen ∙ ap numberSeen q) in
+        ap (refusalAt 3) (r .fails-left) ∙ rw (lines-next input ended h found, no-number)
 
     pub reading-turn : {n : ℤ} → x ≡ Of n → Reading input start (set stored count n) (end + 1) (count + 1)
     unfolding firstFail isSome numberSeen numbersOf
-    reading-turn {n} q = record {
-      numbers = r .numbers ++ n ∷ [];
-      inside = omega (arith, line-within input ended h found);
-      few = omega (arith, r .few, found .low);
-      counted = omega (arith, r .counted, length-append (r .numbers) (n ∷ []));
-      room = length-set stored count n ∙ r .room;
-      stands = stored-more (r .numbers) stored n count (r .counted) (r .room) (r .stands);
-      fails-left = r .fails-left ∙ rw (lines-next input ended h found, sym seen ∙ ap numberSeen q, add-one count);
-      numbers-left =
-          r .numbers-left ∙ rw (lines-next input ended h found, sym seen ∙ ap numberSeen q)
-          (after-next (r .numbers) n (numbersOf (linesFrom input (end + 1))));
-    }
+    reading-turn {n} q =
+        let is : number (take (end - at) (drop at input)) ≡ some n = value-some 3 _ (sym seen ∙ ap numberSeen q) in record {
+          numbers = r .numbers ++ n ∷ [];
+          inside = omega (arith, line-within input ended h found);
+          few = omega (arith, r .few, found .low);
+          counted = omega (arith, r .counted, length-append (r .numbers) (n ∷ []));
+          room = length-set stored count n ∙ r .room;
+          stands = stored-more (r .numbers) stored n count (r .counted) (r .room) (r .stands);
+          fails-left = r .fails-left ∙ rw (lines-next input ended h found, is, add-one count);
+          numbers-left =
+              r .numbers-left ∙ rw (lines-next input ended h found, is)
+              (after-next (r .numbers) n (numbersOf (linesFrom input (end + 1))));
+        }

@@ -11,9 +11,10 @@ use lib.ListN.{length, take, drop, replicate, length-drop, length-replicate}
 use lib.Seq.{take-all, length-take-le}
 use Rattle.meaning.specs.Text.{linesOf, isEnded, number}
 use Rattle.meaning.specs.Line.{numbersOf}
-use Rattle.meaning.specs.Refusal.{textLimit, onSome, refused, read, onReading, reading}
+use Rattle.meaning.specs.Refusal.{onSome, refused, read, onReading, reading}
 use Rattle.meaning.specs.Reply.{reply, firstFail, made, makeReply}
 use Rattle.meaning.specs.Program.{refusalText, makingText, Parts, partsOf, joined, isSome, orNone, answerParts, onParts, respond}
+use Rattle.meaning.proofs.Results.{refused-none, refusal-place}
 use Rattle.text.specs.Place.{linesFrom}
 use Rattle.reader.specs.declared.state.Counts.{Counts}
 use Rattle.service.specs.Walk.{ListRead, Listed}
@@ -123,7 +124,7 @@ module _ {input : List ℕ} {end lines : ℕ} (asked : ListAsked input end lines
 module _ (ls : List (List ℕ)) (stored : List ℤ) {x : Inputs} (told : InputsRead ls stored x) where
   pub inputs-no-number : {i : ℕ} → x ≡ NoNumber i → firstFail isNumber 0 ls ≡ some i
   unfolding InputsRead
-  inputs-no-number e = subst (InputsRead ls stored) e told
+  inputs-no-number e = refusal-place 3 _ (subst (InputsRead ls stored) e told)
 
   pub inputs-numbers : {count : ℕ} → x ≡ Numbers count → NumbersRead ls stored count
   unfolding InputsRead
@@ -149,7 +150,7 @@ module _ (input : List ℕ) where
       module _ {x : Ending} (found : EndFound input x) where
         pub respond-missing : x ≡ Missing → refusalText (reply 2 0) ≡ respond input
         unfolding EndFound onParts
-        respond-missing e = sym (ap onParts (subst (EndFound input) e found)) ∙ respond-parts
+        respond-missing e = sym (ap onParts (refused-none 2 _ (subst (EndFound input) e found))) ∙ respond-parts
 
         pub list-asked : {end lines : ℕ} → x ≡ At end lines → ListAsked input end lines
         unfolding EndFound

@@ -1,4 +1,5 @@
--- How the input's parts, which the code finds as places and counts, are those of the definitions.
+-- How the input's parts, which the code finds as places and counts, are those of the definitions. A missing line `end` is refusal 2, and
+-- a line after it that is no number refusal 3.
 use mathlib.Core.Path.{_≡_}
 use mathlib.Core.List.{List}
 use mathlib.Core.Option.{none, some}
@@ -7,7 +8,8 @@ use lib.IntN.{ℤ}
 use lib.ListN.{length, take}
 use Rattle.meaning.specs.Text.{linesOf, number}
 use Rattle.meaning.specs.Line.{numbersOf}
-use Rattle.meaning.specs.Reply.{firstFail}
+use Rattle.meaning.specs.Refusal.{refusedBy, orRefused}
+use Rattle.meaning.specs.Reply.{reply, firstFail, refusalAt}
 use Rattle.meaning.specs.Program.{Parts, partsOf, joined, isSome, orNone}
 use Rattle.text.specs.Place.{linesFrom}
 use Rattle.program.specs.declared.input.Ending.{Ending}
@@ -26,7 +28,7 @@ pub record EndsAt (input : List ℕ) (at lines : ℕ) : Type 0 where
 
 unfoldable pub EndFound : List ℕ → Ending → Type 0
 EndFound input (At at lines) = EndsAt input at lines
-EndFound input Missing = partsOf (linesOf input) ≡ none
+EndFound input Missing = orRefused 2 (partsOf (linesOf input)) ≡ refusedBy 2
 
 -- all lines are numbers, so many; the first of them are stored, as many as have room
 pub record NumbersRead (lines : List (List ℕ)) (stored : List ℤ) (count : ℕ) : Type 0 where
@@ -37,4 +39,4 @@ pub record NumbersRead (lines : List (List ℕ)) (stored : List ℤ) (count : �
 
 unfoldable pub InputsRead : List (List ℕ) → List ℤ → Inputs → Type 0
 InputsRead lines stored (Numbers count) = NumbersRead lines stored count
-InputsRead lines stored (NoNumber i) = firstFail (λ l. isSome (number l)) 0 lines ≡ some i
+InputsRead lines stored (NoNumber i) = refusalAt 3 (firstFail (λ l. isSome (number l)) 0 lines) ≡ some (reply 3 i)

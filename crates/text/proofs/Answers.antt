@@ -11,6 +11,7 @@ use lib.Seq.{length-take-le, getD-take}
 use Rattle.meaning.specs.Text.{fieldsOf, number, largest}
 use Rattle.meaning.specs.Line.{words, wordAmong, isCount, consNumber, numbersOf, assemble, lineOfFields, lineOf}
 use Rattle.meaning.specs.Line.{Word as MeantWord, Line as MeantLine}
+use Rattle.meaning.proofs.Results.{refused-none, value-some}
 use Rattle.text.specs.declared.Word.{Word}
 use Rattle.text.specs.declared.Parsed.{Parsed}
 use Rattle.text.specs.declared.Parsed.the-variants.{Line, NoLine}
@@ -65,12 +66,12 @@ good-line line {l} q = good-fields (fieldsOf line) l q
 module _ {line : List ℕ} {before after : List ℤ} {r : Parsed} (read : LineRead line before after r) where
   pub no-line-seen : r ≡ NoLine → lineOf line ≡ none
   unfolding parsedSeen
-  no-line-seen q = sym (read .seen) ∙ rw q
+  no-line-seen q = refused-none 3 _ (sym (read .seen) ∙ rw q)
 
   module _ {w : Word} {n : ℕ} (q : r ≡ Line w n) where
     pub line-seen : lineOf line ≡ some (record { word = wordOf w; numbers = take n after })
     unfolding parsedSeen
-    line-seen = sym (read .seen) ∙ rw q
+    line-seen = value-some 3 _ (sym (read .seen) ∙ rw q)
 
     pub line-most : n ≤ mostNumbers
     unfolding countSeen

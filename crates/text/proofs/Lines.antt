@@ -14,16 +14,17 @@ use lib.Seq.{length-take-le, take-suc-set}
 use Rattle.meaning.specs.Text.{fieldsOf}
 use Rattle.meaning.specs.Line.{field, input, span, sum, relu, which, max, root, words, wordAmong, isCount, consNumber, numbersOf, assemble, lineOfFields, lineOf}
 use Rattle.meaning.specs.Line.{Word as MeantWord, Line as MeantLine}
+use Rattle.meaning.specs.Refusal.{orRefused}
+use Rattle.meaning.proofs.Results.{refused-none, value-some}
 use Rattle.text.specs.declared.NumberAt.{NumberAt}
 use Rattle.text.specs.declared.NumberAt.the-variants.{Of, NoNumber}
 use Rattle.text.specs.declared.Word.{Word}
 use Rattle.text.specs.declared.Spelled.{Spelled}
 use Rattle.text.specs.declared.Spelled.the-variants.{Known, NoWord}
-use Rattle.text.specs.declared.Parsed.the-variants.{Line}
 use Rattle.text.specs.Number.{NumberRead}
 use Rattle.text.specs.Word.{wordOf, wordSeen}
 use Rattle.text.specs.Place.{Found}
-use Rattle.text.specs.Parsed.{parsedSeen, mostNumbers}
+use Rattle.text.specs.Parsed.{mostNumbers}
 use Rattle.text.proofs.Bytes.{and-false}
 use Rattle.text.proofs.Numbers.{number-is-none, number-is, number-ends}
 use Rattle.text.proofs.Places.{partsAfter, parts-from, parts-none, fields-some, fields-next}
@@ -72,18 +73,24 @@ unfolding afterNumbers
 before-all none = refl
 before-all (some ns) = refl
 
-module _ (line : List ℕ) {end : ℕ} (found : Found 9 line 0 end) (r : Spelled) (seen : wordSeen r ≡ wordAmong words (take (end - 0) (drop 0 line))) where
-  first-field : lineOf line ≡ assemble (wordSeen r) (numbersOf (partsAfter 9 line end))
-  unfolding lineOf lineOfFields fieldsOf
-  first-field = rw (parts-from 9 line found, seen)
+module _ (line : List ℕ) {end : ℕ} (found : Found 9 line 0 end) (r : Spelled)
+    (seen : wordSeen r ≡ orRefused 3 (wordAmong words (take (end - 0) (drop 0 line)))) where
+  pub no-word : r ≡ NoWord → wordAmong words (take (end - 0) (drop 0 line)) ≡ none
+  unfolding wordSeen
+  no-word q = refused-none 3 _ (sym seen ∙ ap wordSeen q)
+
+  pub some-word : {w : Word} → r ≡ Known w → wordAmong words (take (end - 0) (drop 0 line)) ≡ some (wordOf w)
+  unfolding wordSeen
+  some-word q = value-some 3 _ (sym seen ∙ ap wordSeen q)
 
   pub line-no-word : r ≡ NoWord → lineOf line ≡ none
-  unfolding wordSeen assemble
-  line-no-word q = first-field ∙ rw q
+  unfolding lineOf lineOfFields fieldsOf assemble
+  line-no-word q = rw (parts-from 9 line found, no-word q)
 
   pub line-word : {w : Word} → r ≡ Known w → lineOf line ≡ lineAfter w [] (partsAfter 9 line end)
-  unfolding wordSeen lineAfter
-  line-word {w} q = first-field ∙ rw q (ap (assemble (some (wordOf w))) (before-all (numbersOf (partsAfter 9 line end))))
+  unfolding lineOf lineOfFields fieldsOf lineAfter
+  line-word {w} q =
+      rw (parts-from 9 line found, some-word q) (ap (assemble (some (wordOf w))) (before-all (numbersOf (partsAfter 9 line end))))
 
 -- ---- the numbers: a law for each turn of the loop and each way out
 
@@ -110,8 +117,7 @@ module _ (line : List ℕ) (w : Word) (numbers : List ℤ) (end count : ℕ) (ro
     unfolding lineAfter numbersOf afterNumbers assemble
     counted = rw (parts-none 9 line end h, append-nil (take count numbers), length-take-le count numbers (omega arith), sym q)
 
-    pub line-is : right ≡ true → lineAfter w (take count numbers) (partsAfter 9 line end) ≡ parsedSeen (Line w count) numbers
-    unfolding parsedSeen
+    pub line-is : right ≡ true → lineAfter w (take count numbers) (partsAfter 9 line end) ≡ some (record { word = wordOf w; numbers = take count numbers })
     line-is holds = counted ∙ rw holds
 
     pub line-wrong-count : right ≡ false → lineAfter w (take count numbers) (partsAfter 9 line end) ≡ none

@@ -14,6 +14,8 @@ use mir.Syntax.{w64}
 use mir.Val.{SFits, toZ, ofZ}
 use mir.ValLaws.{toZ-pos, toZ-ofZ}
 use Rattle.meaning.specs.Text.{sameBytes, isDigit, allDigits, decimal, isPlain, largest, sized, number}
+use Rattle.meaning.specs.Refusal.{orRefused}
+use Rattle.meaning.proofs.Results.{none-refused, some-value, refused-none}
 use Rattle.text.specs.declared.Number.the-variants.{Of, NoNumber}
 use Rattle.text.specs.declared.NumberAt.{NumberAt}
 use Rattle.text.specs.declared.NumberAt.the-variants.{Of as OfAt, NoNumber as NoNumberAt}
@@ -129,7 +131,7 @@ sized-none-at false n sign q = refl
 module _ (line : List ℕ) (at : ℕ) {r : Size} (read : SizeRead line at r) where
   size-is-none : r ≡ NoSize → plainSize (fieldAt line at) ≡ none
   unfolding SizeRead
-  size-is-none q = rw q at read
+  size-is-none q = refused-none 3 _ (rw q at read)
 
   sized-none : (sign : ℕ → ℤ) → r ≡ NoSize → sized (fieldAt line at) sign ≡ none
   unfolding sized plainSize
@@ -181,7 +183,7 @@ number-plain-at false x xs no-zero no-minus = simp (ne-eqb x 48 no-zero, ne-eqb 
 module _ (line : List ℕ) (at : ℕ) where
   pub number-end : length line ≤ at → NumberRead line at NoNumberAt
   unfolding NumberRead number
-  number-end h = rw (field-empty line at (index-end 9 line at h))
+  number-end h = none-refused 3 (rw (field-empty line at (index-end 9 line at h)))
 
   module _ (h : at < length line) where
     module _ (zero-byte : getD line at 0 ≡ 48) {next : ℕ} (found : Found 9 line (at + 1) next) where
@@ -196,7 +198,8 @@ module _ (line : List ℕ) (at : ℕ) where
       pub zero-none : (next ≡ at + 1 → ⊥) → NumberRead line at NoNumberAt
       unfolding NumberRead
       zero-none q =
-          rw zero-more (number-zero-more (fieldAt line (at + 1)) (λ e. q (omega (arith, found .low, field-length line (at + 1) found))))
+          let more = number-zero-more (fieldAt line (at + 1)) (λ e. q (omega (arith, found .low, field-length line (at + 1) found))) in
+          none-refused 3 (rw zero-more more)
 
     module _ (minus : getD line at 0 ≡ 45) where
       minus-sized : number (fieldAt line at) ≡ sized (fieldAt line (at + 1)) (λ n. negℤ (pos n))
@@ -205,7 +208,7 @@ module _ (line : List ℕ) (at : ℕ) where
       module _ {r : Size} (read : SizeRead line (at + 1) r) where
         pub minus-none : r ≡ NoSize → NumberRead line at NoNumberAt
         unfolding NumberRead
-        minus-none q = minus-sized ∙ sized-none line (at + 1) read _ q
+        minus-none q = none-refused 3 (minus-sized ∙ sized-none line (at + 1) read _ q)
 
         pub minus-number : {n place : ℕ} → r ≡ Small n place → NumberRead line at (OfAt (toZ w64 (ofZ w64 (pos 0 -ℤ toZ w64 n))) place)
         unfolding NumberRead
@@ -222,7 +225,7 @@ module _ (line : List ℕ) (at : ℕ) where
       module _ {r : Size} (read : SizeRead line at r) where
         pub plain-none : r ≡ NoSize → NumberRead line at NoNumberAt
         unfolding NumberRead
-        plain-none q = plain-sized ∙ sized-none line at read _ q
+        plain-none q = none-refused 3 (plain-sized ∙ sized-none line at read _ q)
 
         pub plain-number : {n place : ℕ} → r ≡ Small n place → NumberRead line at (OfAt (toZ w64 (ofZ w64 (pos n))) place)
         unfolding NumberRead
@@ -233,7 +236,7 @@ module _ (line : List ℕ) (at : ℕ) where
 module _ (line : List ℕ) (at : ℕ) {r : NumberAt} (read : NumberRead line at r) where
   pub number-is-none : r ≡ NoNumberAt → number (fieldAt line at) ≡ none
   unfolding NumberRead
-  number-is-none q = rw q at read
+  number-is-none q = refused-none 3 _ (rw q at read)
 
   module _ {z : ℤ} {place : ℕ} (q : r ≡ OfAt z place) where
     pub number-is : number (fieldAt line at) ≡ some z
@@ -283,20 +286,20 @@ module _ (field : List ℕ) {r : NumberAt} (read : NumberRead field 0 r) where
   whole-none-at true p q = tab-number field (ltb-true _ _ p)
   whole-none-at false p q = ap number (sym (field-whole field (ltb-false _ _ p))) ∙ number-is-none field 0 read q
 
-  pub whole-none : r ≡ NoNumberAt → numberSeen NoNumber ≡ number field
+  pub whole-none : r ≡ NoNumberAt → numberSeen NoNumber ≡ orRefused 3 (number field)
   unfolding numberSeen
-  whole-none q = sym (whole-none-at _ refl q)
+  whole-none q = sym (none-refused 3 (whole-none-at _ refl q))
 
   module _ {z : ℤ} {end : ℕ} (q : r ≡ OfAt z end) where
-    pub whole-tab : end < length field → numberSeen NoNumber ≡ number field
+    pub whole-tab : end < length field → numberSeen NoNumber ≡ orRefused 3 (number field)
     unfolding numberSeen
-    whole-tab h = sym (tab-number field (omega (arith, number-ends field 0 read q .is)))
+    whole-tab h = sym (none-refused 3 (tab-number field (omega (arith, number-ends field 0 read q .is))))
 
-    pub whole-number : length field ≤ end → SFits w64 z → numberSeen (Of (toZ w64 (ofZ w64 z))) ≡ number field
+    pub whole-number : length field ≤ end → SFits w64 z → numberSeen (Of (toZ w64 (ofZ w64 z))) ≡ orRefused 3 (number field)
     unfolding numberSeen
     whole-number h fits =
         let all : fieldAt field 0 ≡ field = field-whole field (omega (arith, number-ends field 0 read q .is)) in
-        rw (toZ-ofZ w64 z fits) (sym (ap number (sym all) ∙ number-is field 0 read q))
+        rw (toZ-ofZ w64 z fits) (sym (some-value 3 (ap number (sym all) ∙ number-is field 0 read q)))
 
 -- ---- no number is larger than the limit
 

@@ -1,4 +1,4 @@
--- How the number readers' answers are read as values of the definitions.
+-- How the number readers' answers are read as values of the definitions. A field that spells no number is refusal 3.
 use mathlib.Core.Path.{_≡_}
 use Prim.Native.Nat.{ℕ}
 use mathlib.Core.Bool.{cond, _&&_}
@@ -7,6 +7,7 @@ use mathlib.Core.Option.{Option, none, some}
 use lib.Dec.{leb}
 use lib.IntN.{ℤ}
 use Rattle.meaning.specs.Text.{decimal, isPlain, largest, number}
+use Rattle.meaning.specs.Refusal.{Result, value, refusedBy, orRefused}
 use Rattle.text.specs.declared.Number.{Number}
 use Rattle.text.specs.declared.Number.the-variants.{Of, NoNumber}
 use Rattle.text.specs.declared.NumberAt.{NumberAt}
@@ -15,14 +16,14 @@ use Rattle.text.specs.declared.Size.{Size}
 use Rattle.text.specs.declared.Size.the-variants.{Small, NoSize}
 use Rattle.text.specs.Place.{Found, fieldAt}
 
-unfoldable pub numberSeen : Number → Option ℤ
-numberSeen (Of z) = some z
-numberSeen NoNumber = none
+unfoldable pub numberSeen : Number → Result ℤ
+numberSeen (Of z) = value z
+numberSeen NoNumber = refusedBy 3
 
 -- the answer is the number of the field at a place, and the place where that field ends
 unfoldable pub NumberRead : List ℕ → ℕ → NumberAt → Type 0
 NumberRead line at (OfAt z place) = (number (fieldAt line at) ≡ some z) × Found 9 line at place
-NumberRead line at NoNumberAt = number (fieldAt line at) ≡ none
+NumberRead line at NoNumberAt = orRefused 3 (number (fieldAt line at)) ≡ refusedBy 3
 
 -- the size of the number above 0 that these bytes spell: what the definition of a number asks of the bytes after its sign
 unfoldable pub plainSize : List ℕ → Option ℕ
@@ -31,4 +32,4 @@ plainSize xs = cond (isPlain xs && leb (decimal 0 xs) largest) (some (decimal 0 
 -- the answer is the size that the field at a place spells, and the place where that field ends
 unfoldable pub SizeRead : List ℕ → ℕ → Size → Type 0
 SizeRead line at (Small n place) = (plainSize (fieldAt line at) ≡ some n) × Found 9 line at place
-SizeRead line at NoSize = plainSize (fieldAt line at) ≡ none
+SizeRead line at NoSize = orRefused 3 (plainSize (fieldAt line at)) ≡ refusedBy 3

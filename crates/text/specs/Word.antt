@@ -1,5 +1,5 @@
--- How the word reader's answers are read as values of the definitions.
-use mathlib.Core.Option.{Option, none, some}
+-- How the word reader's answers are read as values of the definitions. A field that is no word is refusal 3.
+use Rattle.meaning.specs.Refusal.{Result, value, refusedBy}
 use Rattle.meaning.specs.Line.{field, input, span, sum, relu, which, max, root}
 use Rattle.meaning.specs.Line.{Word as Meant}
 use Rattle.text.specs.declared.Word.{Word}
@@ -17,6 +17,6 @@ wordOf Which = which
 wordOf Max = max
 wordOf Root = root
 
-unfoldable pub wordSeen : Spelled → Option Meant
-wordSeen (Known w) = some (wordOf w)
-wordSeen NoWord = none
+unfoldable pub wordSeen : Spelled → Result Meant
+wordSeen (Known w) = value (wordOf w)
+wordSeen NoWord = refusedBy 3

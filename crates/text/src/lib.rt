@@ -1,12 +1,13 @@
 // Reads the text format: numbers, words, fields and lines, each as its definition in `meaning` says, for every byte string.
 //
-// A reader answers with an enum. `specs/` says how each answer is read as a value of the definitions, and a contract says that this
-// value is the definition's. Nothing is read past a slice's end and no sum overflows, however long the bytes are.
+// A reader answers with an enum. `specs/` says how each answer is read as a value of the definitions or as a refusal's number, and a
+// contract says that it is the definition's. Nothing is read past a slice's end and no sum overflows, however long the bytes are.
 ghost use mathlib.Core.Path.{_≡_};
 ghost use Prim.Native.Nat.{_≤_};
 ghost use lib.ListN.{length};
 ghost use Rattle.meaning.specs.Text.{sameBytes, isEnded, isDigit, number};
 ghost use Rattle.meaning.specs.Line.{words, wordAmong, isCount};
+ghost use Rattle.meaning.specs.Refusal.{orRefused};
 ghost use Rattle.text.specs.Number.{numberSeen, SizeRead, NumberRead};
 ghost use Rattle.text.specs.Word.{wordOf, wordSeen};
 ghost use Rattle.text.specs.Place.{Found};
@@ -138,7 +139,7 @@ fn number_at(line: &[u8], at: usize) -> NumberAt
 
 // The number that all of these bytes spell. With a tab among them they are more than one field, and no number.
 pub fn number_of(field: &[u8]) -> Number
-    ensures { λ r. ⌜ numberSeen r ≡ number (now (field .entry)) ⌝ }
+    ensures { λ r. ⌜ numberSeen r ≡ orRefused 3 (number (now (field .entry))) ⌝ }
 {
     let NumberAt::Of(n, end) = number_at(field, 0) else {
         return Number::NoNumber;
@@ -169,7 +170,7 @@ enum Spelled {
 
 // The word that a field spells.
 fn word_of(field: &[u8]) -> Spelled
-    ensures { λ r. ⌜ wordSeen r ≡ wordAmong words (now (field .entry)) ⌝ }
+    ensures { λ r. ⌜ wordSeen r ≡ orRefused 3 (wordAmong words (now (field .entry))) ⌝ }
 {
     if is_same(b"field", field) {
         return Spelled::Known(Word::Field);
@@ -294,7 +295,8 @@ pub enum Parsed {
     NoLine,
 }
 
-// The line that the bytes spell: its word, and how many numbers follow it, which are then the first in `numbers`.
+// The line that the bytes spell: its word, and how many numbers follow it, which are then the first in `numbers`. Where they spell none,
+// `numbers` begins with those that were read before that was seen.
 // `end` is where the last field that was read ends, so that a field follows just where a byte, its tab, is there.
 pub fn line_of(line: &[u8], numbers: &mut [i64]) -> Parsed
     requires { ⌜ length (now numbers) ≡ mostNumbers ⌝ }

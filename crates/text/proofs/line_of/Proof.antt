@@ -1,14 +1,17 @@
 -- The fields up to `end` gave the word and the first `count` numbers: with the fields that are left they say what the whole line says.
+-- The numbers after these are as they were.
 use mathlib.Core.Path.{_≡_, sym, _∙_}
 use Prim.Native.Nat.{_≤_, _-_}
 use mir.Syntax.{w64}
 use mir.ValLaws.{toZ-ofZ}
 use lib.ListN.{length, take}
 use Rattle.meaning.specs.Line.{lineOf}
+use Rattle.meaning.proofs.Results.{none-refused, some-value}
 use Rattle.text.specs.Parsed.{parsedSeen, countSeen, mostNumbers}
 use Rattle.text.proofs.Places.{partsAfter}
 use Rattle.text.proofs.Numbers.{number-ends}
-use Rattle.text.proofs.Lines.{lineAfter, line-no-word, line-word, line-full, line-no-number, line-number, line-is, line-wrong-count}
+use Rattle.text.proofs.Lines.{lineAfter, no-word, some-word, line-no-word, line-word, line-full, line-no-number, line-number, line-is, line-wrong-count}
+use Rattle.text.proofs.Storing.{Storing, stored-no-word, storing-start, storing-turn, stored-full, stored-no-field, stored-no-number}
 use borrow.Author.Needs.{needs}
 use native.Mathlib.Omega.{arith}
 use Rattle.text.proofs.line_of.Statement.{statement}
@@ -17,7 +20,7 @@ use Rattle.text.proofs.line_of.Tie as tie
 abbrev Inv-loop : tie.InvT-loop
 Inv-loop line numbers₀ end₀ word count₀ numbers end count =
     (end ≤ length line) × (count ≤ mostNumbers) × (length numbers ≡ mostNumbers)
-    × (lineOf line ≡ lineAfter word (take count numbers) (partsAfter 9 line end))
+    × (lineOf line ≡ lineAfter word (take count numbers) (partsAfter 9 line end)) × Storing line numbers₀ numbers end count
 
 abbrev μ-loop : tie.MeasureT-loop
 μ-loop line numbers₀ end₀ word count₀ numbers end count = length line - end
@@ -49,16 +52,25 @@ returns c =
     let at-word-of = c .before .before in
     let at-field-end = at-word-of .before .before in
     record {
-      seen = sym (line-no-word _ (at-field-end .field-end .ensures) _ (at-word-of .word-of .ensures) (c .enum-told .given .1));
+      seen = sym (none-refused 3 (line-no-word _ (at-field-end .field-end .ensures) _ (at-word-of .word-of .ensures) (c .enum-told .given .1)));
       most = search needs;
+      left =
+          stored-no-word _ (at-field-end .field-end .ensures) _
+          (no-word _ (at-field-end .field-end .ensures) _ (at-word-of .word-of .ensures) (c .enum-told .given .1));
       kept = search needs;
     }
 
 loop-holds : tie.Need-loop-holds Inv-loop μ-loop
 loop-holds c =
     let at-word-of = c .before .before .before in
-    let at-field-end = at-word-of .before .before in
-    (search needs, search needs, search needs, line-word _ (at-field-end .field-end .ensures) _ (at-word-of .word-of .ensures) (c .before .word .given .1))
+    let at-field-end = at-word-of .before .before in (
+      search needs,
+      search needs,
+      search needs,
+      line-word _ (at-field-end .field-end .ensures) _ (at-word-of .word-of .ensures) (c .before .word .given .1),
+      storing-start _ (at-field-end .field-end .ensures) _
+          (some-word _ (at-field-end .field-end .ensures) _ (at-word-of .word-of .ensures) (c .before .word .given .1)),
+    )
 
 same-length : tie.Need-same-length Inv-loop μ-loop
 same-length c = search needs
@@ -69,8 +81,9 @@ returns-2 c =
     let at-loop = c .before .before in
     let start = at-loop .before .before .before .before .before .before .before .before in
     record {
-      seen = sym (at-loop .loop .inv .3 ∙ line-full (start .args .line .now) _ _ _ _ (at-loop .loop .inv .2) (at-loop .loop .inv .1) (c .before .loop-test .taken) (c .if1 .taken));
+      seen = sym (none-refused 3 (at-loop .loop .inv .3 ∙ line-full (start .args .line .now) _ _ _ _ (at-loop .loop .inv .2) (at-loop .loop .inv .1) (c .before .loop-test .taken) (c .if1 .taken)));
       most = search needs;
+      left = stored-full _ _ _ _ _ (at-loop .loop .inv .4) (at-loop .loop .inv .2) (at-loop .loop .inv .1) (c .if1 .taken);
       kept = search needs;
     }
 
@@ -97,8 +110,9 @@ returns-3 c =
     let at-loop = at-test .before in
     let start = at-loop .before .before .before .before .before .before .before .before in
     record {
-      seen = sym (at-loop .loop .inv .3 ∙ line-no-number (start .args .line .now) _ _ (at-test .loop-test .taken) (at-number-at .number-at .ensures) _ (c .enum-told2 .given .1));
+      seen = sym (none-refused 3 (at-loop .loop .inv .3 ∙ line-no-number (start .args .line .now) _ _ (at-test .loop-test .taken) (at-number-at .number-at .ensures) _ (c .enum-told2 .given .1)));
       most = search needs;
+      left = stored-no-number _ _ _ _ _ (at-loop .loop .inv .4) (at-loop .loop .inv .2) (at-loop .loop .inv .1) (at-test .loop-test .taken) (at-number-at .number-at .ensures) (c .enum-told2 .given .1);
       kept = search needs;
     }
 
@@ -129,6 +143,8 @@ loop-again c =
       search needs,
       rw (toZ-ofZ w64 (c .before .n .given .0 .0) (search needs))
           (at-loop .loop .inv .3 ∙ line-number (start .args .line .now) _ _ (at-test .loop-test .taken) (at-number-at .number-at .ensures) (at-loop .loop .numbers) (at-loop .loop .count) (c .before .n .given .1) (search needs)),
+      rw (toZ-ofZ w64 (c .before .n .given .0 .0) (search needs))
+          (storing-turn _ _ _ _ _ (at-loop .loop .inv .4) (at-loop .loop .inv .2) (at-test .loop-test .taken) (at-number-at .number-at .ensures) (c .before .n .given .1) (search needs)),
     )
 
 is-count-requires : tie.Need-is-count-requires Inv-loop μ-loop
@@ -138,14 +154,15 @@ same-length-3 : tie.Need-same-length-3 Inv-loop μ-loop
 same-length-3 c = search needs
 
 returns-4 : tie.Need-returns-4 Inv-loop μ-loop
-unfolding countSeen
+unfolding parsedSeen countSeen
 returns-4 c =
     let at-test = c .before .before in
     let at-loop = at-test .before in
     let start = at-loop .before .before .before .before .before .before .before .before in
     record {
-      seen = sym (at-loop .loop .inv .3 ∙ line-is (start .args .line .now) _ _ _ _ (at-loop .loop .inv .2) (at-loop .loop .inv .1) (at-test .loop-test .left) (c .before .is-count .ensures) (c .if2 .taken));
+      seen = sym (some-value 3 (at-loop .loop .inv .3 ∙ line-is (start .args .line .now) _ _ _ _ (at-loop .loop .inv .2) (at-loop .loop .inv .1) (at-test .loop-test .left) (c .before .is-count .ensures) (c .if2 .taken)));
       most = search needs;
+      left = stored-no-field _ _ _ _ _ (at-loop .loop .inv .4) (at-loop .loop .inv .2) (at-loop .loop .inv .1) (at-test .loop-test .left);
       kept = search needs;
     }
 
@@ -159,8 +176,9 @@ returns-5 c =
     let at-loop = at-test .before in
     let start = at-loop .before .before .before .before .before .before .before .before in
     record {
-      seen = sym (at-loop .loop .inv .3 ∙ line-wrong-count (start .args .line .now) _ _ _ _ (at-loop .loop .inv .2) (at-loop .loop .inv .1) (at-test .loop-test .left) (c .before .is-count .ensures) (c .if2 .left));
+      seen = sym (none-refused 3 (at-loop .loop .inv .3 ∙ line-wrong-count (start .args .line .now) _ _ _ _ (at-loop .loop .inv .2) (at-loop .loop .inv .1) (at-test .loop-test .left) (c .before .is-count .ensures) (c .if2 .left)));
       most = search needs;
+      left = stored-no-field _ _ _ _ _ (at-loop .loop .inv .4) (at-loop .loop .inv .2) (at-loop .loop .inv .1) (at-test .loop-test .left);
       kept = search needs;
     }
 

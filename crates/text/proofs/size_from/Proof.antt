@@ -4,6 +4,7 @@ use mathlib.Core.Bool.{true}
 use Prim.Native.Nat.{_≤_, _+_, _*_, _-_}
 use lib.ListN.{length, getD, drop}
 use Rattle.meaning.specs.Text.{isDigit, largest}
+use Rattle.meaning.proofs.Results.{none-refused}
 use Rattle.text.specs.Number.{plainSize, SizeRead}
 use Rattle.text.specs.Place.{indexOf, fieldAt}
 use Rattle.text.proofs.Places.{index-here, index-past, index-end}
@@ -24,7 +25,7 @@ abbrev μ-loop : tie.MeasureT-loop
 
 returns : tie.Need-returns Inv-loop μ-loop
 unfolding SizeRead
-returns c = size-empty _ _ (c .if1 .taken)
+returns c = none-refused 3 (size-empty _ _ (c .if1 .taken))
 
 shared-slice-read-if2 : tie.Need-shared-slice-read-if2 Inv-loop μ-loop
 shared-slice-read-if2 c = search needs
@@ -34,7 +35,7 @@ unfolding SizeRead
 returns-2 c =
     let at-if1 = c .before .before in
     let start = at-if1 .before .before in
-    size-low (start .args .line .now) (start .args .at) (at-if1 .if1 .left) (omega arith)
+    none-refused 3 (size-low (start .args .line .now) (start .args .at) (at-if1 .if1 .left) (omega arith))
 
 loop-holds : tie.Need-loop-holds Inv-loop μ-loop
 loop-holds c =
@@ -65,7 +66,7 @@ returns-4 c =
     let at-is-digit = c .before .before in
     let at-test = at-is-digit .before .before in
     let at-loop = at-test .before in
-    at-loop .loop .inv .4 ∙ digits-not _ _ _ (at-test .loop-test .taken) (sym (at-is-digit .is-digit .ensures) ∙ not-true _ (c .before .if3 .taken)) (c .if4 .left)
+    none-refused 3 (at-loop .loop .inv .4 ∙ digits-not _ _ _ (at-test .loop-test .taken) (sym (at-is-digit .is-digit .ensures) ∙ not-true _ (c .before .if3 .taken)) (c .if4 .left))
 
 -- after the test the byte is a digit
 digit : (c : tie.Else3 Inv-loop μ-loop)
@@ -90,9 +91,10 @@ returns-5 c =
     let at-test = c .before .before .before .before in
     let at-loop = at-test .before in
     let line = at-loop .before .before .before .before .before .args .line .now in
-    at-loop .loop .inv .4
+    none-refused 3
+    (at-loop .loop .inv .4
     ∙ digits-next line _ _ (at-test .loop-test .taken) (digit (c .before))
-    ∙ digits-over (10 * at-loop .loop .n + (getD line (at-loop .loop .i) 0 - 48)) _ (omega (arith, c .if5 .taken))
+    ∙ digits-over (10 * at-loop .loop .n + (getD line (at-loop .loop .i) 0 - 48)) _ (omega (arith, c .if5 .taken)))
 
 add-i : tie.Need-add-i Inv-loop μ-loop
 add-i c = search needs

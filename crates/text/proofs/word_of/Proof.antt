@@ -2,6 +2,7 @@
 use mathlib.Core.Path.{sym, _∙_}
 use Rattle.meaning.specs.Text.{bytes}
 use Rattle.meaning.specs.Line.{field, input, span, sum, relu, which, max, root, spelling, words, wordAmong}
+use Rattle.meaning.proofs.Results.{none-refused, some-value}
 use Rattle.text.specs.Word.{wordOf, wordSeen}
 use Rattle.text.proofs.Words.{Left, word-is, word-not}
 use borrow.Author.Needs.{needs}
@@ -49,7 +50,7 @@ is-same-requires c κs = search needs
 
 returns : tie.Need-returns
 unfolding words spelling bytes wordSeen wordOf
-returns c = sym (word-is field _ _ (c .before .is-same .ensures) (c .if1 .taken))
+returns c = sym (some-value 3 (word-is field _ _ (c .before .is-same .ensures) (c .if1 .taken)))
 
 slice-aggregate-is-same-2 : tie.Need-slice-aggregate-is-same-2
 slice-aggregate-is-same-2 c = search needs
@@ -59,7 +60,7 @@ is-same-requires-2 c κs = search needs
 
 returns-2 : tie.Need-returns-2
 unfolding words spelling bytes wordSeen wordOf
-returns-2 c = sym (not-field (c .before .before .before) ∙ word-is input _ _ (c .before .is-same2 .ensures) (c .if2 .taken))
+returns-2 c = sym (some-value 3 (not-field (c .before .before .before) ∙ word-is input _ _ (c .before .is-same2 .ensures) (c .if2 .taken)))
 
 slice-aggregate-is-same-3 : tie.Need-slice-aggregate-is-same-3
 slice-aggregate-is-same-3 c = search needs
@@ -69,7 +70,7 @@ is-same-requires-3 c κs = search needs
 
 returns-3 : tie.Need-returns-3
 unfolding words spelling bytes wordSeen wordOf
-returns-3 c = sym (not-input (c .before .before .before) ∙ word-is span _ _ (c .before .is-same3 .ensures) (c .if3 .taken))
+returns-3 c = sym (some-value 3 (not-input (c .before .before .before) ∙ word-is span _ _ (c .before .is-same3 .ensures) (c .if3 .taken)))
 
 slice-aggregate-is-same-4 : tie.Need-slice-aggregate-is-same-4
 slice-aggregate-is-same-4 c = search needs
@@ -79,7 +80,7 @@ is-same-requires-4 c κs = search needs
 
 returns-4 : tie.Need-returns-4
 unfolding words spelling bytes wordSeen wordOf
-returns-4 c = sym (not-span (c .before .before .before) ∙ word-is sum _ _ (c .before .is-same4 .ensures) (c .if4 .taken))
+returns-4 c = sym (some-value 3 (not-span (c .before .before .before) ∙ word-is sum _ _ (c .before .is-same4 .ensures) (c .if4 .taken)))
 
 slice-aggregate-is-same-5 : tie.Need-slice-aggregate-is-same-5
 slice-aggregate-is-same-5 c = search needs
@@ -89,7 +90,7 @@ is-same-requires-5 c κs = search needs
 
 returns-5 : tie.Need-returns-5
 unfolding words spelling bytes wordSeen wordOf
-returns-5 c = sym (not-sum (c .before .before .before) ∙ word-is relu _ _ (c .before .is-same5 .ensures) (c .if5 .taken))
+returns-5 c = sym (some-value 3 (not-sum (c .before .before .before) ∙ word-is relu _ _ (c .before .is-same5 .ensures) (c .if5 .taken)))
 
 slice-aggregate-is-same-6 : tie.Need-slice-aggregate-is-same-6
 slice-aggregate-is-same-6 c = search needs
@@ -99,7 +100,7 @@ is-same-requires-6 c κs = search needs
 
 returns-6 : tie.Need-returns-6
 unfolding words spelling bytes wordSeen wordOf
-returns-6 c = sym (not-relu (c .before .before .before) ∙ word-is which _ _ (c .before .is-same6 .ensures) (c .if6 .taken))
+returns-6 c = sym (some-value 3 (not-relu (c .before .before .before) ∙ word-is which _ _ (c .before .is-same6 .ensures) (c .if6 .taken)))
 
 slice-aggregate-is-same-7 : tie.Need-slice-aggregate-is-same-7
 slice-aggregate-is-same-7 c = search needs
@@ -109,7 +110,7 @@ is-same-requires-7 c κs = search needs
 
 returns-7 : tie.Need-returns-7
 unfolding words spelling bytes wordSeen wordOf
-returns-7 c = sym (not-which (c .before .before .before) ∙ word-is max _ _ (c .before .is-same7 .ensures) (c .if7 .taken))
+returns-7 c = sym (some-value 3 (not-which (c .before .before .before) ∙ word-is max _ _ (c .before .is-same7 .ensures) (c .if7 .taken)))
 
 slice-aggregate-is-same-8 : tie.Need-slice-aggregate-is-same-8
 slice-aggregate-is-same-8 c = search needs
@@ -119,11 +120,11 @@ is-same-requires-8 c κs = search needs
 
 returns-8 : tie.Need-returns-8
 unfolding words spelling bytes wordSeen wordOf
-returns-8 c = sym (not-max (c .before .before .before) ∙ word-is root _ _ (c .before .is-same8 .ensures) (c .if8 .taken))
+returns-8 c = sym (some-value 3 (not-max (c .before .before .before) ∙ word-is root _ _ (c .before .is-same8 .ensures) (c .if8 .taken)))
 
 returns-9 : tie.Need-returns-9
 unfolding words wordAmong wordSeen
-returns-9 c = sym (not-root c)
+returns-9 c = sym (none-refused 3 (not-root c))
 
 pub word-of-spec : {M : Type 1} → statement M
 word-of-spec =

@@ -3,6 +3,7 @@ use Prim.Native.Nat.{_-_}
 use native.Mathlib.Omega.{arith}
 use lib.ListN.{length}
 use Rattle.meaning.specs.Text.{bytes}
+use Rattle.meaning.proofs.Results.{none-refused}
 use Rattle.program.specs.Input.{EndFound}
 use Rattle.program.proofs.Parting.{Seeking, seeking-start, seeking-turn, seeking-found, seeking-end}
 use borrow.Author.Needs.{needs}
@@ -72,7 +73,7 @@ loop-again c =
 returns-2 : tie.Need-returns-2 Inv-loop μ-loop
 unfolding EndFound
 returns-2 c =
-    seeking-end (c .before .loop .inv) (c .loop-test .left)
+    none-refused 2 (seeking-end (c .before .loop .inv) (c .loop-test .left))
 
 pub find-end-spec : {M : Type 1} → statement M
 find-end-spec =
