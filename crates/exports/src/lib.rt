@@ -22,7 +22,7 @@ ghost use Rattle.exports.specs.Show.{upFrom, firstShown};
 // A list of more cells is refused.
 const MOST_CELLS: usize = 4096;
 
-// Reads a list: 0 and its p and counts, or the number and place of its refusal. All five places are written.
+// Reads a list: 0 and its p and counts, or the number and place of its refusal. The place is written, and the other four where the number is 0.
 #[no_mangle]
 pub extern "C" fn digit_table_read(
     list: &[u8],
