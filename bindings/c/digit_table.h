@@ -21,8 +21,8 @@ extern "C" {
 
 /* Reads a list.
  * Reads: the list's bytes.
- * Writes: all five places. For a list that was read, 0, p, and its counts of values, cells and rows; for a refused one the place of the
- *   refusal, and 0 into the other four.
+ * Writes: the place, 0 where the list is read; and p and its counts of values, cells and rows where 0 is returned. A refusal leaves these four
+ *   as they are.
  * Returns: 0, or the number of the refusal, 1 to 12. */
 uint32_t digit_table_read(const uint8_t *list, size_t list_length,
                           size_t *place, uint32_t *p, size_t *values, size_t *cells, size_t *rows);

@@ -54,9 +54,14 @@ fn reply(number: u32, place: usize) -> Result<(), Refusal> {
 
 /// Reads a list: its counts, or its first refusal, 1 to 12.
 pub fn read(list: &[u8]) -> Result<Counts, Refusal> {
-    let mut place = 0;
     let mut counts = Counts { p: 0, values: 0, cells: 0, rows: 0 };
-    // SAFETY: the slice is there for the call, and the five numbers are apart from it and from each other.
+    read_into(list, &mut counts).map(|()| counts)
+}
+
+/// The same into lent counts. A refusal leaves them as they were.
+pub fn read_into(list: &[u8], counts: &mut Counts) -> Result<(), Refusal> {
+    let mut place = 0;
+    // SAFETY: the slice is there for the call; the counts are borrowed for it alone, and the place is apart from all.
     let number = unsafe {
         calls::digit_table_read(
             list.as_ptr(),
@@ -68,7 +73,7 @@ pub fn read(list: &[u8]) -> Result<Counts, Refusal> {
             &mut counts.rows,
         )
     };
-    reply(number, place).map(|()| counts)
+    reply(number, place)
 }
 
 /// Checks a table, whoever wrote it: accepted, or refused 1 to 15.

@@ -1,6 +1,8 @@
 //! The worked tables P1 to P11 of document 01, and what the calls do with arguments that fit nothing.
 
-use digit_table::{check, make, read, respond, respond_into, show, Counts, Desk, Refusal};
+use digit_table::{
+    check, make, read, read_into, respond, respond_into, show, Counts, Desk, Refusal,
+};
 
 const RELU: &str = "field 31;in;relu 0 2 4";
 
@@ -85,6 +87,16 @@ fn p10_max_and_which() {
 #[test]
 fn p11_sum_that_leaves_the_range() {
     assert_eq!(read(&text("field 101;in;span 0 2 5 0;sum 0 2 0")), refused(11, 3));
+}
+
+#[test]
+fn a_refused_read_leaves_the_counts_as_they_were() {
+    let before = Counts { p: 101, values: 102, cells: 103, rows: 104 };
+    let mut counts = before;
+    assert_eq!(read_into(&text("field 31;in;root 0 2 1"), &mut counts), refused(10, 2));
+    assert_eq!(counts, before);
+    assert_eq!(read_into(&text(RELU), &mut counts), Ok(()));
+    assert_eq!(counts, Counts { p: 31, values: 2, cells: 8, rows: 9 });
 }
 
 #[test]

@@ -1,4 +1,5 @@
--- What a reading writes into the places that a caller in another language lends: six numbers, all of them at every call.
+-- The number that a reading returns and what then stands in the five places that a caller in another language lends: the place of the
+-- reply at every call, and p and the counts where the list was read.
 use Prim.Native.Nat.{ℕ}
 use Rattle.meaning.specs.Reply.{Answer, counts, refusal}
 

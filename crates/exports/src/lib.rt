@@ -12,17 +12,17 @@ use service::show;
 ghost use mathlib.Core.Path.{_≡_};
 ghost use Prim.Native.Nat.{_+_, _≤_};
 ghost use lib.ListN.{length, getD, take, drop};
-ghost use Rattle.meaning.specs.Reply.{reply, making, readReply, checkReply, makeReply, shown};
+ghost use Rattle.meaning.specs.Reply.{reply, making, readReply, checkReply, makeReply, shown, shownFrom};
 ghost use Rattle.meaning.specs.Program.{respond as responseTo};
 ghost use Rattle.meaning.specs.Desk.{counted, called, deskCall};
 ghost use Rattle.program.specs.Answered.{Answered};
 ghost use Rattle.exports.specs.Read.{numbers, numbersAfter};
-ghost use Rattle.exports.specs.Show.{upFrom, firstShown};
+ghost use Rattle.exports.specs.Show.{upFrom};
 
 // A list of more cells is refused.
 const MOST_CELLS: usize = 4096;
 
-// Reads a list: 0 and its p and counts, or the number and place of its refusal. All five places are written.
+// Reads a list: 0 and its p and counts, or the number and place of its refusal. The place is written, and the other four where the number is 0.
 #[no_mangle]
 pub extern "C" fn digit_table_read(
     list: &[u8],
@@ -117,7 +117,7 @@ pub extern "C" fn digit_table_show(
 ) -> usize
     ensures part { λ r. ⌜ take r (drop (now (first .exit)) (now (table .entry))) ≡ shown (now (list .entry)) (now (table .entry)) line ⌝ }
     ensures count { λ r. ⌜ r ≡ length (shown (now (list .entry)) (now (table .entry)) line) ⌝ }
-    ensures start { λ _. ⌜ now (first .exit) ≡ firstShown (now (list .entry)) (length (now (table .entry))) line ⌝ }
+    ensures start { λ _. ⌜ now (first .exit) ≡ shownFrom (now (list .entry)) (now (table .entry)) line ⌝ }
     ensures inside { λ r. ⌜ now (first .exit) + r ≤ length (now (table .entry)) ⌝ }
 {
     let cells = table.len();

@@ -22,11 +22,11 @@ use Rattle.meaning.proofs.Lists.{all-pass, refusal-some, refusal-none}
 use Rattle.text.specs.Word.{wordOf}
 use Rattle.reader.specs.declared.state.Counts.{Counts}
 use Rattle.reader.proofs.Steps.{few}
-use Rattle.table.specs.Rows.{rowsSeen, firstOf}
+use Rattle.table.specs.Rows.{rowsSeen, firstRefusal, firstOf}
 use Rattle.table.specs.declared.rows.Rows.{Rows}
 use Rattle.table.specs.declared.rows.Rows.the-variants.{AllHold, Fails}
 use Rattle.table.specs.LineRows.{RowsAsked}
-use Rattle.table.proofs.RowsFirst.{first-append}
+use Rattle.table.proofs.RowsFirst.{first-append, refusal-none, refusal-some}
 use Rattle.service.specs.Walk.{Stands, Placed, ListRead, AtLine, Took, taken}
 use Rattle.service.specs.declared.walk.Taken.{Taken}
 use Rattle.service.specs.Check.{cellsSeen, TableAsked, rowsReply}
@@ -146,10 +146,10 @@ module _ {list table : List ℕ} {p : ℕ} {numbers : List ℤ} {places : List �
     unfolding rowsFrom
     rows-here = w .rows-left ∙ rw left-is (first-append test (c .rows) (gadget (w .state) l .rows) (rowsFrom (after (w .state) l) rest))
 
-    module _ (r : Rows) (told : rowsSeen r ≡ firstFail test 0 (gadget (w .state) l .rows)) where
+    module _ (r : Rows) (told : rowsSeen r ≡ firstRefusal test 0 (gadget (w .state) l .rows)) where
       fails-at : (i : ℕ) → r ≡ Fails i → firstFail test 0 (gadget (w .state) l .rows) ≡ some i
       unfolding rowsSeen
-      fails-at i is = sym told ∙ ap rowsSeen is
+      fails-at i is = refusal-some 15 (firstFail test 0 (gadget (w .state) l .rows)) (sym told ∙ ap rowsSeen is)
 
       pub row-inside : (i : ℕ) → r ≡ Fails i → i < length (gadget (w .state) l .rows)
       row-inside i is = found-inside test (among 0 0) (gadget (w .state) l .rows) i (fails-at i is)
@@ -161,7 +161,9 @@ module _ {list table : List ℕ} {p : ℕ} {numbers : List ℤ} {places : List �
 
       none-fails : r ≡ AllHold → firstFail test (c .rows) (gadget (w .state) l .rows) ≡ none
       unfolding rowsSeen
-      none-fails is = none-from test (among 0 0) (gadget (w .state) l .rows) (c .rows) (sym told ∙ ap rowsSeen is)
+      none-fails is =
+          none-from test (among 0 0) (gadget (w .state) l .rows) (c .rows)
+          (refusal-none 15 (firstFail test 0 (gadget (w .state) l .rows)) (sym told ∙ ap rowsSeen is))
 
       pub checking-next : r ≡ AllHold → {next : Counts} {at′ : ℕ} (numbers′ : List ℤ) (places′ : List ℕ)
           → Stands list (w .asked .listed .last) (after (w .state) l) rest next at′ (w .number + 1) → length numbers′ ≡ mostNumbers → Placed (after (w .state) l) places′

@@ -2,7 +2,6 @@
 use mathlib.Core.Path.{_≡_, refl, sym, ap, _∙_}
 use mathlib.Core.Bool.{Bool, true, false, cond}
 use mathlib.Core.List.{List, [], _∷_, _++_, append-nil, append-assoc}
-use mathlib.Core.Option.{Option, none, some, Option·some-injective, Option·none-ne-some}
 use Prim.Native.Nat.{ℕ, suc, _+_, _-_, _≤_, _<_}
 use native.Mathlib.Omega.{arith}
 use native.Mathlib.Nat.{add-zero}
@@ -17,7 +16,7 @@ use Rattle.meaning.specs.Line.{Line}
 use Rattle.meaning.specs.Known.{Known, fresh, Within}
 use Rattle.meaning.specs.Gadget.Interface.{Gadget}
 use Rattle.meaning.specs.Meaning.{gadget, after}
-use Rattle.meaning.specs.Refusal.{valueLimit}
+use Rattle.meaning.specs.Refusal.{Result, value, refusedBy, valueLimit}
 use Rattle.meaning.specs.Work.{false-at, true-table, withCells, workFrom, work}
 use Rattle.meaning.specs.Work.{Worked as Meant}
 use Rattle.meaning.specs.Reply.{filled}
@@ -43,19 +42,22 @@ use Rattle.text.specs.Parsed.{mostNumbers}
 
 -- ---- the value that a line makes
 
-some-value : {xs ys : List ℤ} → _≡_ {A = Option (List ℤ)} (some xs) (some ys) → xs ≡ ys
-some-value e = Option·some-injective _ _ e
+same-values : {xs ys : List ℤ} → _≡_ {A = Result (List ℤ)} (value xs) (value ys) → xs ≡ ys
+same-values e = cc
+
+not-refused : {xs : List ℤ} {n : ℕ} → _≡_ {A = Result (List ℤ)} (value xs) (refusedBy n) → ⊥
+not-refused e = let z : _≡_ {A = ℕ} 0 1 = cc in omega arith
 
 -- with those before it, it is among the first values
-pub value-taken : (values : List ℤ) (at : ℕ) (r : Worked) (ys : List ℤ) → workedSeen r ≡ some ys → at + length ys ≤ length values
+pub value-taken : (values : List ℤ) (at : ℕ) (r : Worked) (ys : List ℤ) → workedSeen r ≡ value ys → at + length ys ≤ length values
     → take (at + length ys) (withValue values at r) ≡ take at values ++ ys
 unfolding workedSeen withValue
 value-taken values at (Value z) ys e h =
-    let is : z ∷ [] ≡ ys = some-value e in
+    let is : z ∷ [] ≡ ys = same-values e in
     let one : length ys ≡ 1 = sym (ap (λ (q : List ℤ). length q) is) in
     rw (← is, add-one at, take-suc-set values at z (omega arith)) refl
-value-taken values at NoValue ys e h = rw (← some-value e, add-zero at) (sym (append-nil (take at values)))
-value-taken values at False ys e h = absurd (Option·none-ne-some _ e)
+value-taken values at NoValue ys e h = rw (← same-values e, add-zero at) (sym (append-nil (take at values)))
+value-taken values at False ys e h = absurd (not-refused (sym e))
 
 pub values-kept : (values : List ℤ) (at : ℕ) (r : Worked) → length (withValue values at r) ≡ length values
 unfolding withValue
@@ -65,21 +67,21 @@ values-kept values at False = refl
 
 -- ---- what working a line answers
 
-module _ (r : Worked) (statement : Bool) (ys : List ℤ) (told : workedSeen r ≡ cond statement (some ys) none) where
+module _ (r : Worked) (statement : Bool) (ys : List ℤ) (told : workedSeen r ≡ cond statement (value ys) (refusedBy 18)) where
   -- it is true exactly where the statement is
   true-is : isTrue r ≡ statement
   unfolding workedSeen isTrue
   true-is = by r statement told
     where
-      by : (x : Worked) (t : Bool) → workedSeen x ≡ cond t (some ys) none → isTrue x ≡ t
+      by : (x : Worked) (t : Bool) → workedSeen x ≡ cond t (value ys) (refusedBy 18) → isTrue x ≡ t
       by (Value z) true e = refl
-      by (Value z) false e = absurd (Option·none-ne-some _ (sym e))
+      by (Value z) false e = absurd (not-refused e)
       by NoValue true e = refl
-      by NoValue false e = absurd (Option·none-ne-some _ (sym e))
-      by False true e = absurd (Option·none-ne-some _ e)
+      by NoValue false e = absurd (not-refused e)
+      by False true e = absurd (not-refused (sym e))
       by False false e = refl
 
-  made-told : isTrue r ≡ true → workedSeen r ≡ some ys
+  made-told : isTrue r ≡ true → workedSeen r ≡ value ys
   made-told e = told ∙ rw (sym true-is ∙ e) refl
 
 -- ---- cells in front of cells
@@ -158,7 +160,7 @@ module _ {list : List ℕ} {inputs numbers values : List ℤ} {c : Counts} {at n
   -- ---- what the line's working then tells
 
   module _ (l : Line) (rest : List Line) (left-is : w .left ≡ l ∷ rest) (r : Worked)
-      (told : workedSeen r ≡ cond (gadget (w .state) l .statement before) (some (gadget (w .state) l .values before next)) none) where
+      (told : workedSeen r ≡ cond (gadget (w .state) l .statement before) (value (gadget (w .state) l .values before next)) (refusedBy 18)) where
     abbrev g : Gadget
     g = gadget (w .state) l
 
@@ -185,7 +187,7 @@ module _ {list : List ℕ} {inputs numbers values : List ℤ} {c : Counts} {at n
       holds : T (g .statement before)
       holds = ≡-test (g .statement before) statement-true
 
-      made : workedSeen r ≡ some (g .values before next)
+      made : workedSeen r ≡ value (g .values before next)
       made = made-told r (g .statement before) (g .values before next) told true-here
 
       law : Law (w .asked .listed .last .p) (w .state) g
@@ -202,7 +204,7 @@ module _ {list : List ℕ} {inputs numbers values : List ℤ} {c : Counts} {at n
       pub value-inside : (z : ℤ) → r ≡ Value z → c .values < length values
       unfolding workedSeen
       value-inside z is =
-          let one : length (g .values before next) ≡ 1 = sym (ap (λ (q : List ℤ). length q) (some-value (sym (ap workedSeen is) ∙ made))) in
+          let one : length (g .values before next) ≡ 1 = sym (ap (λ (q : List ℤ). length q) (same-values (sym (ap workedSeen is) ∙ made))) in
           omega (arith, room, w .values-long, w .stands .counted .values-are)
 
       -- the values after the line

@@ -13,17 +13,17 @@ use borrow.Author.Tests.{lt-ltb, le-ltb}
 use Rattle.algebra.specs.Digits.{value}
 use Rattle.meaning.specs.Number.{remainder}
 use Rattle.meaning.specs.Row.{Form, Row, constant, _⊖_, _≅_, eval, holds, digitRows, placeValues, group}
-use Rattle.meaning.specs.Reply.{firstFail}
+use Rattle.meaning.specs.Reply.{Reply, reply, firstFail, refusalAt}
 use Rattle.meaning.proofs.Cells.{cellsAt, cellsAt-zero, cellsAt-suc}
 use Rattle.meaning.proofs.Group.{places-value}
 use Rattle.reader.proofs.Sizes.{length-digitRows, length-groupRows}
-use Rattle.table.specs.Rows.{Leaves, firstOf}
+use Rattle.table.specs.Rows.{Leaves, firstOf, firstRefusal}
 use Rattle.table.proofs.RowsFirst.{first-none, first-row, first-rows}
 
 -- ---- the rows of the digits from the one of number i on
 
 module _ (p : ℕ) (t : List ℕ) (first at b k : ℕ) where
-  pub digits-start : firstFail (holds p t) first (digitRows at b k) ≡ firstFail (holds p t) (first + 0) (digitRows (at + 0) b (k - 0))
+  pub digits-start : firstRefusal (holds p t) first (digitRows at b k) ≡ firstRefusal (holds p t) (first + 0) (digitRows (at + 0) b (k - 0))
   digits-start =
       let e : k - 0 ≡ k = omega arith in
       let u : at + 0 ≡ at = omega arith in
@@ -31,8 +31,8 @@ module _ (p : ℕ) (t : List ℕ) (first at b k : ℕ) where
       rw (e, u, v) refl
 
   pub digit-passes : (i : ℕ) → i < k → getD t (at + i) 0 < b
-      → firstFail (holds p t) (first + i) (digitRows (at + i) b (k - i))
-      ≡ firstFail (holds p t) (first + (i + 1)) (digitRows (at + (i + 1)) b (k - (i + 1)))
+      → firstRefusal (holds p t) (first + i) (digitRows (at + i) b (k - i))
+      ≡ firstRefusal (holds p t) (first + (i + 1)) (digitRows (at + (i + 1)) b (k - (i + 1)))
   unfolding firstFail digitRows holds
   digit-passes i h l =
       let e : k - i ≡ suc (k - (i + 1)) = omega arith in
@@ -41,14 +41,14 @@ module _ (p : ℕ) (t : List ℕ) (first at b k : ℕ) where
       rw (e, u, v, lt-ltb _ _ l) refl
 
   pub digit-fails : (i : ℕ) → i < k → b ≤ getD t (at + i) 0
-      → firstFail (holds p t) (first + i) (digitRows (at + i) b (k - i)) ≡ some (first + i)
-  unfolding firstFail digitRows holds
+      → firstRefusal (holds p t) (first + i) (digitRows (at + i) b (k - i)) ≡ some (reply 15 (first + i))
+  unfolding firstFail refusalAt digitRows holds
   digit-fails i h l =
       let e : k - i ≡ suc (k - (i + 1)) = omega arith in
       rw (e, le-ltb _ _ l) refl
 
-  pub digits-end : (i : ℕ) → k ≤ i → firstFail (holds p t) (first + i) (digitRows (at + i) b (k - i)) ≡ none
-  unfolding firstFail digitRows
+  pub digits-end : (i : ℕ) → k ≤ i → firstRefusal (holds p t) (first + i) (digitRows (at + i) b (k - i)) ≡ none
+  unfolding firstFail refusalAt digitRows
   digits-end i h = let e : k - i ≡ 0 = omega arith in rw e refl
 
 -- ---- the digits' value
@@ -85,10 +85,10 @@ module _ (p : ℕ) (t : List ℕ) (at b k : ℕ) (room : at + k ≤ length t) wh
 
 -- ---- the group
 
-pub group-answer : (p : ℕ) (t : List ℕ) (f : Form) (L : ℤ) (first at b k : ℕ) {number v : ℕ} {r digits last : Option ℕ}
+pub group-answer : (p : ℕ) (t : List ℕ) (f : Form) (L : ℤ) (first at b k : ℕ) {number v : ℕ} {r digits last : Option Reply}
     → remainder p (eval t f -ℤ L) ≡ number → Leaves p t v (placeValues 1 at b k)
-    → digits ≡ firstFail (holds p t) first (digitRows at b k) → last ≡ cond (eqb number v) none (some (first + k)) → r ≡ firstOf digits last
-    → r ≡ firstFail (holds p t) first (group f L at b k)
+    → digits ≡ firstRefusal (holds p t) first (digitRows at b k) → last ≡ cond (eqb number v) none (some (reply 15 (first + k))) → r ≡ firstOf digits last
+    → r ≡ firstRefusal (holds p t) first (group f L at b k)
 unfolding group holds eval
 group-answer p t f L first at b k {number} {v} {r} {digits} {last} e l d s w =
     first-rows (holds p t) first (first + k) (digitRows at b k) (f ⊖ constant L ≅ placeValues 1 at b k ∷ [])
@@ -100,7 +100,7 @@ group-answer p t f L first at b k {number} {v} {r} {digits} {last} e l d s w =
     test = rw (e, ← l .is) refl
 
 -- a group, and then other rows, the first of which has the number m
-pub group-then : (p : ℕ) (t : List ℕ) (n m : ℕ) (f : Form) (L : ℤ) (at b k : ℕ) (rows : List Row) {r digits later : Option ℕ}
-    → m ≡ n + suc k → r ≡ firstOf digits later → digits ≡ firstFail (holds p t) n (group f L at b k) → later ≡ firstFail (holds p t) m rows
-    → r ≡ firstFail (holds p t) n (group f L at b k ++ rows)
+pub group-then : (p : ℕ) (t : List ℕ) (n m : ℕ) (f : Form) (L : ℤ) (at b k : ℕ) (rows : List Row) {r digits later : Option Reply}
+    → m ≡ n + suc k → r ≡ firstOf digits later → digits ≡ firstRefusal (holds p t) n (group f L at b k) → later ≡ firstRefusal (holds p t) m rows
+    → r ≡ firstRefusal (holds p t) n (group f L at b k ++ rows)
 group-then p t n m f L at b k rows h = first-rows (holds p t) n m (group f L at b k) rows (omega (arith, length-groupRows f L at b k))

@@ -13,11 +13,11 @@ use lib.Signed.{_≤ℤ_}
 use Rattle.meaning.specs.Line.{Word}
 use Rattle.meaning.specs.Known.{Known, placeOf}
 use Rattle.meaning.specs.Row.{holds}
-use Rattle.meaning.specs.Reply.{firstFail}
+use Rattle.meaning.specs.Reply.{Reply, firstFail, refusalAt}
 use Rattle.meaning.specs.Gadget.Interface.{Gadget}
 use Rattle.meaning.specs.Meaning.{byWord, gadget}
 use Rattle.meaning.specs.Refusal.{isField}
-use Rattle.table.specs.Rows.{rowsSeen}
+use Rattle.table.specs.Rows.{rowsSeen, firstRefusal}
 use Rattle.table.specs.Line.{gadgetOf, knownCount}
 use Rattle.table.specs.LineRows.{RowsAsked, RowsTold}
 use Rattle.table.specs.declared.rows.Rows.the-variants.{AllHold}
@@ -27,7 +27,7 @@ use Rattle.table.proofs.LineKinds.{OneWord, one-name, one-is, TwoWord, 
 -- a line that has no row
 pub no-row : (p : ℕ) (w : Word) (numbers : List ℤ) (count : ℕ) (table : List ℕ) (cells : ℕ) (places : List ℕ)
     → ((s : Known) (ns : List ℤ) → byWord w s ns .rows ≡ []) → RowsTold p w numbers count table cells places AllHold
-unfolding gadget rowsSeen firstFail
+unfolding gadget rowsSeen firstFail refusalAt
 no-row p w numbers count table cells places none a = rw (none (a .kept .state) (take count numbers)) refl
 
 -- ---- what is asked, and what is told
@@ -57,13 +57,13 @@ module _ {p : ℕ} {w : Word} {numbers : List ℤ} {count : ℕ} {table : List �
     pub one-room : cells + line (a .kept .state) (size numbers 0) b k .width ≤ length table
     one-room = subst (λ (g : Gadget). cells + g .width ≤ length table) (one-is (a .kept) word b-is k-is) (a .room)
 
-    pub one-told : {place : ℕ} {seen : Option ℕ} → place ≡ getD places (size numbers 0) 0
-        → ((s : Known) (v : ℕ) → s .p ≡ p → placeOf s v ≡ place → s .cells ≡ cells → seen ≡ firstFail (holds p table) 0 (line s v b k .rows))
-        → seen ≡ firstFail (holds p table) 0 (gadgetOf (a .kept) .rows)
+    pub one-told : {place : ℕ} {seen : Option Reply} → place ≡ getD places (size numbers 0) 0
+        → ((s : Known) (v : ℕ) → s .p ≡ p → placeOf s v ≡ place → s .cells ≡ cells → seen ≡ firstRefusal (holds p table) 0 (line s v b k .rows))
+        → seen ≡ firstRefusal (holds p table) 0 (gadgetOf (a .kept) .rows)
     one-told place-is told =
         told (a .kept .state) (size numbers 0) (a .prime (word .has-digits .late))
         (name-placed 0 (one-name (a .kept) word) place-is) (a .cells-are)
-        ∙ ap (λ (g : Gadget). firstFail (holds p table) 0 (g .rows)) (sym (one-is (a .kept) word b-is k-is))
+        ∙ ap (λ (g : Gadget). firstRefusal (holds p table) 0 (g .rows)) (sym (one-is (a .kept) word b-is k-is))
 
   -- ---- a line that names two
 
@@ -72,12 +72,12 @@ module _ {p : ℕ} {w : Word} {numbers : List ℤ} {count : ℕ} {table : List �
     pub two-room : cells + line (a .kept .state) (size numbers 0) (size numbers 1) b k .width ≤ length table
     two-room = subst (λ (g : Gadget). cells + g .width ≤ length table) (two-is (a .kept) word b-is k-is) (a .room)
 
-    pub two-told : {place-u place-v : ℕ} {seen : Option ℕ}
+    pub two-told : {place-u place-v : ℕ} {seen : Option Reply}
         → place-u ≡ getD places (size numbers 0) 0 → place-v ≡ getD places (size numbers 1) 0
         → ((s : Known) (u v : ℕ) → s .p ≡ p → placeOf s u ≡ place-u → placeOf s v ≡ place-v → s .cells ≡ cells
-        → seen ≡ firstFail (holds p table) 0 (line s u v b k .rows))
-        → seen ≡ firstFail (holds p table) 0 (gadgetOf (a .kept) .rows)
+        → seen ≡ firstRefusal (holds p table) 0 (line s u v b k .rows))
+        → seen ≡ firstRefusal (holds p table) 0 (gadgetOf (a .kept) .rows)
     two-told u-is v-is told =
         told (a .kept .state) (size numbers 0) (size numbers 1) (a .prime (word .has-digits .late))
         (name-placed 0 (two-first (a .kept) word) u-is) (name-placed 1 (two-second (a .kept) word) v-is) (a .cells-are)
-        ∙ ap (λ (g : Gadget). firstFail (holds p table) 0 (g .rows)) (sym (two-is (a .kept) word b-is k-is))
+        ∙ ap (λ (g : Gadget). firstRefusal (holds p table) 0 (g .rows)) (sym (two-is (a .kept) word b-is k-is))

@@ -10,9 +10,9 @@ use lib.Dec.{eqb}
 use lib.IntN.{pos}
 use Rattle.meaning.specs.Known.{Known, placeOf}
 use Rattle.meaning.specs.Row.{Form, cell, constant, _⊖_, _⊗_, _≅_, Row, holds, group}
-use Rattle.meaning.specs.Reply.{firstFail}
+use Rattle.meaning.specs.Reply.{Reply, reply}
 use Rattle.meaning.specs.Gadget.Max.{maxLine}
-use Rattle.table.specs.Rows.{Leaves, firstOf}
+use Rattle.table.specs.Rows.{Leaves, firstOf, firstRefusal}
 use Rattle.table.proofs.RowsFirst.{first-row}
 use Rattle.table.proofs.RowsForm.{leaves-constant, row-test}
 use Rattle.table.proofs.RowsGroup.{group-then}
@@ -26,10 +26,10 @@ pub max-rows-are : (s : Known) (u v place-u place-v at b k : ℕ) → placeOf s 
 unfolding maxLine
 max-rows-are s u v place-u place-v at b k d e h = rw (d, e, h, add-one) refl
 
-pub max-answer : (p : ℕ) (t : List ℕ) (F G : Form) (at b k : ℕ) {either : ℕ} {r both first second : Option ℕ} → 0 < p
-    → Leaves p t either (F ⊗ G) → first ≡ firstFail (holds p t) 1 (group F (pos 0) (at + 1) b k)
-    → second ≡ firstFail (holds p t) (k + 2) (group G (pos 0) (at + 1 + k) b k) → both ≡ firstOf first second
-    → r ≡ cond (eqb either 0) both (some 0) → r ≡ firstFail (holds p t) 0 (maxRows F G at b k)
+pub max-answer : (p : ℕ) (t : List ℕ) (F G : Form) (at b k : ℕ) {either : ℕ} {r both first second : Option Reply} → 0 < p
+    → Leaves p t either (F ⊗ G) → first ≡ firstRefusal (holds p t) 1 (group F (pos 0) (at + 1) b k)
+    → second ≡ firstRefusal (holds p t) (k + 2) (group G (pos 0) (at + 1 + k) b k) → both ≡ firstOf first second
+    → r ≡ cond (eqb either 0) both (some (reply 15 0)) → r ≡ firstRefusal (holds p t) 0 (maxRows F G at b k)
 max-answer p t F G at b k h l g₁ g₂ e₁ e =
     first-row (holds p t) 0 1 (F ⊗ G ≅ constant (pos 0)) (group F (pos 0) (at + 1) b k ++ group G (pos 0) (at + 1 + k) b k)
     (omega arith) (row-test l (leaves-constant p t 0 h)) e

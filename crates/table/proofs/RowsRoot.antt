@@ -8,9 +8,9 @@ use native.Mathlib.Numerals.{add-one}
 use lib.IntN.{pos}
 use Rattle.meaning.specs.Known.{Known, placeOf}
 use Rattle.meaning.specs.Row.{Form, cell, constant, _⊕_, _⊖_, _⊗_, _≅_, Row, holds, group}
-use Rattle.meaning.specs.Reply.{firstFail}
+use Rattle.meaning.specs.Reply.{Reply}
 use Rattle.meaning.specs.Gadget.Root.{rootLine}
-use Rattle.table.specs.Rows.{firstOf, fourGroups}
+use Rattle.table.specs.Rows.{firstOf, fourGroups, firstRefusal}
 use Rattle.table.proofs.RowsGroup.{group-then}
 
 all-groups : (x : Row) (a b c d : List Row) → x ∷ (((a ++ b) ++ c) ++ d) ≡ x ∷ (a ++ (b ++ (c ++ d)))
@@ -25,11 +25,11 @@ root-rows-are s v place at b k e h = rw (e, h, add-one) (all-groups (cell at ⊗
     (group (cell place ⊖ cell (suc at)) (pos 0) (at + 2 + 2 * k) b k)
     (group (cell (suc at) ⊕ constant (pos 2) ⊗ cell at ⊖ cell place) (pos 0) (at + 2 + 3 * k) b k))
 
-pub groups-answer : (p : ℕ) (t : List ℕ) (A B C D : Form) (at b k : ℕ) {g₁ g₂ g₃ g₄ r₁ r₂ r₃ : Option ℕ}
-    → g₁ ≡ firstFail (holds p t) 1 (group A (pos 0) at b k) → g₂ ≡ firstFail (holds p t) (k + 2) (group B (pos 0) (at + k) b k)
-    → g₃ ≡ firstFail (holds p t) (2 * k + 3) (group C (pos 0) (at + 2 * k) b k)
-    → g₄ ≡ firstFail (holds p t) (3 * k + 4) (group D (pos 0) (at + 3 * k) b k)
-    → r₃ ≡ firstOf g₃ g₄ → r₂ ≡ firstOf g₂ r₃ → r₁ ≡ firstOf g₁ r₂ → r₁ ≡ firstFail (holds p t) 1 (fourGroups A B C D at b k)
+pub groups-answer : (p : ℕ) (t : List ℕ) (A B C D : Form) (at b k : ℕ) {g₁ g₂ g₃ g₄ r₁ r₂ r₃ : Option Reply}
+    → g₁ ≡ firstRefusal (holds p t) 1 (group A (pos 0) at b k) → g₂ ≡ firstRefusal (holds p t) (k + 2) (group B (pos 0) (at + k) b k)
+    → g₃ ≡ firstRefusal (holds p t) (2 * k + 3) (group C (pos 0) (at + 2 * k) b k)
+    → g₄ ≡ firstRefusal (holds p t) (3 * k + 4) (group D (pos 0) (at + 3 * k) b k)
+    → r₃ ≡ firstOf g₃ g₄ → r₂ ≡ firstOf g₂ r₃ → r₁ ≡ firstOf g₁ r₂ → r₁ ≡ firstRefusal (holds p t) 1 (fourGroups A B C D at b k)
 unfolding fourGroups
 groups-answer p t A B C D at b k f₁ f₂ f₃ f₄ e₃ e₂ e₁ =
     let second = group B (pos 0) (at + k) b k in

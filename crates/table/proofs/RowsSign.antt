@@ -13,12 +13,12 @@ use Rattle.algebra.proofs.Congruence.{congruent-remainder, congruent-sym, congr
 use Rattle.meaning.specs.Number.{remainder}
 use Rattle.meaning.specs.Known.{Known, placeOf, topPart}
 use Rattle.meaning.specs.Row.{Form, cell, constant, _⊕_, _⊖_, _⊗_, _≅_, eval, Row, holds, group}
-use Rattle.meaning.specs.Reply.{firstFail}
+use Rattle.meaning.specs.Reply.{Reply, reply}
 use Rattle.meaning.specs.Gadget.Sign.{signShift, signRows}
 use Rattle.meaning.specs.Gadget.Relu.{reluLine}
 use Rattle.meaning.specs.Gadget.Which.{whichLine}
 use Rattle.reader.proofs.Sizes.{length-groupRows}
-use Rattle.table.specs.Rows.{Leaves, firstOf}
+use Rattle.table.specs.Rows.{Leaves, firstOf, firstRefusal}
 use Rattle.table.proofs.RowsFirst.{first-none, first-row, first-rows}
 use Rattle.table.proofs.RowsForm.{leaves-constant, leaves-⊖, leaves-⊗, row-test}
 
@@ -56,12 +56,12 @@ sign-number {p} {t} f b k l = sym (l .is ∙ ap (remainder p) (sign-shift (eval 
 
 module _ (p : ℕ) (t : List ℕ) (T F W : Form) (x : Row) {top flag witness : ℕ}
     (top-is : Leaves p t top T) (flag-is : Leaves p t flag F) (witness-is : Leaves p t witness W) where
-  pub flag-answer : (row : ℕ) {other shown full unused : ℕ} {last : Bool} {r r₁ r₂ r₃ : Option ℕ} → 1 < p → last ≡ holds p t x
+  pub flag-answer : (row : ℕ) {other shown full unused : ℕ} {last : Bool} {r r₁ r₂ r₃ : Option Reply} → 1 < p → last ≡ holds p t x
       → (other < p) × (other ≡ remainder p (pos 1 -ℤ pos flag)) → (shown < p) × (shown ≡ remainder p (pos top *ℤ pos witness))
       → (full < p) × (full ≡ remainder p (pos top *ℤ pos flag)) → (unused < p) × (unused ≡ remainder p (pos witness *ℤ pos flag))
-      → r₃ ≡ cond last none (some (row + 3)) → r₂ ≡ cond (eqb unused 0) r₃ (some (row + 2)) → r₁ ≡ cond (eqb full 0) r₂ (some (row + 1))
-      → r ≡ cond (eqb shown other) r₁ (some row)
-      → r ≡ firstFail (holds p t) row (T ⊗ W ≅ constant (pos 1) ⊖ F ∷ T ⊗ F ≅ constant (pos 0) ∷ W ⊗ F ≅ constant (pos 0) ∷ x ∷ [])
+      → r₃ ≡ cond last none (some (reply 15 (row + 3))) → r₂ ≡ cond (eqb unused 0) r₃ (some (reply 15 (row + 2)))
+      → r₁ ≡ cond (eqb full 0) r₂ (some (reply 15 (row + 1))) → r ≡ cond (eqb shown other) r₁ (some (reply 15 row))
+      → r ≡ firstRefusal (holds p t) row (T ⊗ W ≅ constant (pos 1) ⊖ F ∷ T ⊗ F ≅ constant (pos 0) ∷ W ⊗ F ≅ constant (pos 0) ∷ x ∷ [])
   flag-answer row h x-is other-is shown-is full-is unused-is e₃ e₂ e₁ e =
       let none-left = leaves-constant p t 0 (omega arith) in
       first-row (holds p t) row (row + 1) (T ⊗ W ≅ constant (pos 1) ⊖ F) _ (omega arith)
@@ -74,13 +74,13 @@ module _ (p : ℕ) (t : List ℕ) (T F W : Form) (x : Row) {top flag witness : �
 
 -- ---- the rows of a sign
 
-pub sign-answer : (p : ℕ) (t : List ℕ) (form : Form) (at b k : ℕ) (row : Form → Row) {r digits later : Option ℕ}
-    → digits ≡ firstFail (holds p t) 0 (group form (signShift b k) at b k)
-    → later ≡ firstFail (holds p t) (k + 1)
+pub sign-answer : (p : ℕ) (t : List ℕ) (form : Form) (at b k : ℕ) (row : Form → Row) {r digits later : Option Reply}
+    → digits ≡ firstRefusal (holds p t) 0 (group form (signShift b k) at b k)
+    → later ≡ firstRefusal (holds p t) (k + 1)
     ((cell (at + (k - 1)) ⊖ constant (pos (b - 1))) ⊗ cell (at + (k + 1)) ≅ constant (pos 1) ⊖ cell (at + k)
     ∷ (cell (at + (k - 1)) ⊖ constant (pos (b - 1))) ⊗ cell (at + k) ≅ constant (pos 0)
     ∷ cell (at + (k + 1)) ⊗ cell (at + k) ≅ constant (pos 0) ∷ row (cell (at + k)) ∷ [])
-    → r ≡ firstOf digits later → r ≡ firstFail (holds p t) 0 (signRows form at b k row)
+    → r ≡ firstOf digits later → r ≡ firstRefusal (holds p t) 0 (signRows form at b k row)
 unfolding signRows
 sign-answer p t form at b k row d l e =
     first-rows (holds p t) 0 (suc k) (group form (signShift b k) at b k) _ (omega (arith, length-groupRows form (signShift b k) at b k)) e d

@@ -15,7 +15,7 @@ use Rattle.algebra.specs.Digits.{Below}
 use Rattle.meaning.specs.Line.{sum, numberAt, withoutFirst}
 use Rattle.meaning.specs.Known.{Known, placeOf}
 use Rattle.meaning.specs.Row.{Form, cell, constant, _⊕_, _⊗_, _≅_, holds}
-use Rattle.meaning.specs.Reply.{firstFail}
+use Rattle.meaning.specs.Reply.{Reply, reply}
 use Rattle.meaning.specs.Gadget.Sum.{termsOf, sumForm, sumLine}
 use Rattle.meaning.specs.Meaning.{byWord, gadget}
 use Rattle.meaning.specs.Refusal.{isField}
@@ -24,7 +24,7 @@ use Rattle.reader.proofs.Steps.{sum-count}
 use Rattle.reader.proofs.SumLine.{without-drop, terms-at}
 use Rattle.table.specs.Line.{KeptLine, gadgetOf, knownCount}
 use Rattle.table.specs.LineRows.{RowsAsked}
-use Rattle.table.specs.Rows.{Leaves, NamesBelow, PlacesInside}
+use Rattle.table.specs.Rows.{Leaves, NamesBelow, PlacesInside, firstRefusal}
 use Rattle.table.proofs.LineNumbers.{values-most}
 use Rattle.table.proofs.LineSum.{name-made, terms-end}
 use Rattle.table.proofs.RowsLine.{p-three}
@@ -71,17 +71,17 @@ module _ (p : ℕ) (t : List ℕ) (ns : List ℤ) (count : ℕ) (places : List �
             (ap (λ (q : ℕ). sumForm s (b .form ⊕ constant coefficient ⊗ cell q) (termsOf (drop (i + 2) (take count ns)))) e);
       }
 
-  pub sum-end : {total made : ℕ} {r : Option ℕ} (i at : ℕ) → count ≤ length ns → SoFar total i → i ≡ count → Leaves p t made (cell at)
-      → r ≡ cond (eqb made total) none (some 0)
+  pub sum-end : {total made : ℕ} {r : Option Reply} (i at : ℕ) → count ≤ length ns → SoFar total i → i ≡ count → Leaves p t made (cell at)
+      → r ≡ cond (eqb made total) none (some (reply 15 0))
       → (s : Known) (n : ℕ) → s .cells ≡ at → s .places ≡ take n places → NamesBelow n ns count
-      → r ≡ firstFail (holds p t) 0 (sumLine s (numberAt (take count ns) 0) (termsOf (withoutFirst (take count ns))) .rows)
+      → r ≡ firstRefusal (holds p t) 0 (sumLine s (numberAt (take count ns) 0) (termsOf (withoutFirst (take count ns))) .rows)
   unfolding sumLine sumForm
   sum-end {total} {made} i at l before e cell-is r-is s n cells-is known named =
       let b = before s n known named in
       let end = terms-end ns count l i (omega (arith, e)) in
       rw (b .same, end)
       (first-row (holds p t) 0 1 (cell at ≅ b .form) [] (omega arith) (row-test cell-is (b .leaves)) r-is (first-none (holds p t) 1)
-      ∙ ap (λ (q : ℕ). firstFail (holds p t) 0 (cell q ≅ b .form ∷ [])) (sym cells-is))
+      ∙ ap (λ (q : ℕ). firstRefusal (holds p t) 0 (cell q ≅ b .form ∷ [])) (sym cells-is))
 
 -- ---- the value that a pair names
 
@@ -126,8 +126,8 @@ module _ {p : ℕ} {numbers : List ℤ} {count : ℕ} {table : List ℕ} {cells 
     },
   )
 
-  pub sum-told : {seen : Option ℕ} → ((s : Known) (n : ℕ) → s .p ≡ p → s .cells ≡ cells → s .places ≡ take n places → NamesBelow n numbers count
-      → seen ≡ firstFail (holds p table) 0 (sumLine s (numberAt (take count numbers) 0) (termsOf (withoutFirst (take count numbers))) .rows))
-      → seen ≡ firstFail (holds p table) 0 (gadgetOf (a .kept) .rows)
+  pub sum-told : {seen : Option Reply} → ((s : Known) (n : ℕ) → s .p ≡ p → s .cells ≡ cells → s .places ≡ take n places → NamesBelow n numbers count
+      → seen ≡ firstRefusal (holds p table) 0 (sumLine s (numberAt (take count numbers) 0) (termsOf (withoutFirst (take count numbers))) .rows))
+      → seen ≡ firstRefusal (holds p table) 0 (gadgetOf (a .kept) .rows)
   unfolding isField gadget byWord
   sum-told told = told (a .kept .state) (knownCount (a .kept)) (a .prime refl) (a .cells-are) (a .places-are) (sum-names (a .kept))

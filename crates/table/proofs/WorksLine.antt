@@ -2,7 +2,6 @@
 use mathlib.Core.Path.{_≡_, refl, sym, ap, _∙_}
 use mathlib.Core.Bool.{cond}
 use mathlib.Core.List.{List, [], _∷_}
-use mathlib.Core.Option.{none, some}
 use Prim.Native.Nat.{ℕ, _^_}
 use native.Mathlib.Omega.{arith}
 use lib.Dec.{ltb}
@@ -12,7 +11,7 @@ use Rattle.meaning.specs.Line.{Word, field, input, span, sum, relu, which, max,
 use Rattle.meaning.specs.Number.{between}
 use Rattle.meaning.specs.Known.{Known, larger}
 use Rattle.meaning.specs.Meaning.{byWord, gadget}
-use Rattle.meaning.specs.Refusal.{isField}
+use Rattle.meaning.specs.Refusal.{value, refusedBy, isField}
 use Rattle.meaning.specs.Gadget.Interface.{Gadget}
 use Rattle.meaning.specs.Gadget.Digits.{valueAt}
 use Rattle.meaning.specs.Gadget.Field.{fieldLine}
@@ -28,7 +27,6 @@ use Rattle.meaning.proofs.Lines.{terms-named}
 use Rattle.number.specs.Bounded.{Bounded}
 use Rattle.text.specs.Word.{wordOf}
 use Rattle.text.specs.declared.Word.the-variants.{Sum}
-use Rattle.reader.specs.State.{greatest}
 use Rattle.reader.proofs.Steps.{sum-count}
 use Rattle.table.specs.Line.{KeptLine, knownCount}
 use Rattle.table.specs.Cells.{workedSeen, sumOf, SumAsked, powerBound}
@@ -46,27 +44,27 @@ use Rattle.table.proofs.WorksSumFits.{sum-small}
 pub span-shift : {numbers : List ℤ} → KeptLine span numbers 4 → Bounded powerBound (getD numbers 3 (pos 0))
 span-shift l = record { size = omega (arith, l .small 3 (omega arith)) }
 
-module _ {numbers values : List ℤ} {v : ℤ} {b k : ℕ} (value : v ≡ named numbers 0 values) (base : b ≡ size numbers 1)
+module _ {numbers values : List ℤ} {v : ℤ} {b k : ℕ} (value-is : v ≡ named numbers 0 values) (base : b ≡ size numbers 1)
     (digits : k ≡ size numbers 2) (next : ℤ) (r : Worked) where
   -- the answer for the line's gadget over v is that for the line
   one-worked : {w : Word} {count : ℕ} {line : Known → (n b k : ℕ) → Gadget} → OneWord w numbers count line
       → ((s : Known) (n : ℕ) (vs : List ℤ) → valueAt vs n ≡ v
-      → workedSeen r ≡ cond (line s n b k .statement vs) (some (line s n b k .values vs next)) none) → WorkTold w numbers count values next r
+      → workedSeen r ≡ cond (line s n b k .statement vs) (value (line s n b k .values vs next)) (refusedBy 18)) → WorkTold w numbers count values next r
   one-worked word told a =
       let l = a .kept in
       let read = value-named numbers values 0 (knownCount l) (one-name l word .below) in
-      rw (one-is l word base digits) (told (l .state) (size numbers 0) (take (knownCount l) values) (read ∙ sym value))
+      rw (one-is l word base digits) (told (l .state) (size numbers 0) (take (knownCount l) values) (read ∙ sym value-is))
 
-  pub relu-told : workedSeen r ≡ cond (signStatement b k v) (some (larger (pos 0) v ∷ [])) none → WorkTold relu numbers 3 values next r
+  pub relu-told : workedSeen r ≡ cond (signStatement b k v) (value (larger (pos 0) v ∷ [])) (refusedBy 18) → WorkTold relu numbers 3 values next r
   unfolding reluLine
   relu-told h = one-worked (relu-word numbers) (λ s n vs is. rw is h)
 
-  pub root-told : workedSeen r ≡ cond (between (pos 0) v (pos (b ^ k) -ℤ pos 1)) (some (rootValue v ∷ [])) none
+  pub root-told : workedSeen r ≡ cond (between (pos 0) v (pos (b ^ k) -ℤ pos 1)) (value (rootValue v ∷ [])) (refusedBy 18)
       → WorkTold root numbers 3 values next r
   unfolding rootLine
   root-told h = one-worked (root-word numbers) (λ s n vs is. rw is h)
 
-  pub span-told : {shift : ℤ} → shift ≡ getD numbers 3 (pos 0) → workedSeen r ≡ cond (between shift v (spanTop b k shift)) (some []) none
+  pub span-told : {shift : ℤ} → shift ≡ getD numbers 3 (pos 0) → workedSeen r ≡ cond (between shift v (spanTop b k shift)) (value []) (refusedBy 18)
       → WorkTold span numbers 4 values next r
   unfolding spanLine
   span-told e h = one-worked (span-word numbers) (λ s n vs is. rw (is, ← e) h)
@@ -77,7 +75,7 @@ module _ {numbers values : List ℤ} {u v : ℤ} {b k : ℕ} (first : u ≡ name
     (base : b ≡ size numbers 2) (digits : k ≡ size numbers 3) (next : ℤ) (r : Worked) where
   two-worked : {w : Word} {count : ℕ} {line : Known → (m n b k : ℕ) → Gadget} → TwoWord w numbers count line
       → ((s : Known) (m n : ℕ) (vs : List ℤ) → valueAt vs m ≡ u → valueAt vs n ≡ v
-      → workedSeen r ≡ cond (line s m n b k .statement vs) (some (line s m n b k .values vs next)) none) → WorkTold w numbers count values next r
+      → workedSeen r ≡ cond (line s m n b k .statement vs) (value (line s m n b k .values vs next)) (refusedBy 18)) → WorkTold w numbers count values next r
   two-worked word told a =
       let l = a .kept in
       let read-u = value-named numbers values 0 (knownCount l) (two-first l word .below) in
@@ -85,11 +83,11 @@ module _ {numbers values : List ℤ} {u v : ℤ} {b k : ℕ} (first : u ≡ name
       rw (two-is l word base digits)
       (told (l .state) (size numbers 0) (size numbers 1) (take (knownCount l) values) (read-u ∙ sym first) (read-v ∙ sym second))
 
-  pub which-told : workedSeen r ≡ cond (signStatement b k (u -ℤ v)) (some (whichValue u v ∷ [])) none → WorkTold which numbers 4 values next r
+  pub which-told : workedSeen r ≡ cond (signStatement b k (u -ℤ v)) (value (whichValue u v ∷ [])) (refusedBy 18) → WorkTold which numbers 4 values next r
   unfolding whichLine
   which-told h = two-worked (which-word numbers) (λ s m n vs u-is v-is. rw (u-is, v-is) h)
 
-  pub max-told : workedSeen r ≡ cond (ltb (natAbs (u -ℤ v)) (b ^ k)) (some (larger u v ∷ [])) none → WorkTold max numbers 4 values next r
+  pub max-told : workedSeen r ≡ cond (ltb (natAbs (u -ℤ v)) (b ^ k)) (value (larger u v ∷ [])) (refusedBy 18) → WorkTold max numbers 4 values next r
   unfolding maxLine
   max-told h = two-worked (max-word numbers) (λ s m n vs u-is v-is. rw (u-is, v-is) h)
 
@@ -101,7 +99,7 @@ field-told numbers values next a = refl
 
 pub input-told : (numbers values : List ℤ) {next x : ℤ} → x ≡ next → WorkTold input numbers 0 values next (Value x)
 unfolding gadget byWord inputLine workedSeen
-input-told numbers values e a = ap (λ (y : ℤ). some (y ∷ [])) e
+input-told numbers values e a = ap (λ (y : ℤ). value (y ∷ [])) e
 
 module _ {numbers : List ℤ} {count : ℕ} {values : List ℤ} where
   pub sum-asked : (a : ValuesAsked sum numbers count values) → SumAsked numbers count values (knownCount (a .kept))
@@ -121,4 +119,4 @@ module _ {numbers : List ℤ} {count : ℕ} {values : List ℤ} where
   pub sum-told : {x : ℤ} → ((n : ℕ) → SumAsked numbers count values n → x ≡ sumOf (take count numbers) (take n values))
       → (next : ℤ) → WorkTold sum numbers count values next (Value x)
   unfolding gadget byWord sumLine workedSeen
-  sum-told h next a = ap (λ (y : ℤ). some (y ∷ [])) (h (knownCount (a .kept)) (sum-asked a))
+  sum-told h next a = ap (λ (y : ℤ). value (y ∷ [])) (h (knownCount (a .kept)) (sum-asked a))

@@ -3,14 +3,13 @@
 use mathlib.Core.Path.{_≡_}
 use mathlib.Core.Bool.{cond}
 use mathlib.Core.List.{List, [], _∷_, _++_}
-use mathlib.Core.Option.{Option, none, some}
 use Prim.Native.Nat.{ℕ, _^_, _≤_}
 use lib.Dec.{T, eqb}
 use lib.IntN.{ℤ, pos, _+ℤ_, _-ℤ_, _*ℤ_}
 use lib.ListN.{length, take}
 use Rattle.algebra.specs.Congruence.{remainder, inverse}
 use Rattle.meaning.specs.Line.{numberAt, withoutFirst, namesOf, sum}
-use Rattle.meaning.specs.Refusal.{all, isMade}
+use Rattle.meaning.specs.Refusal.{Result, value, refusedBy, all, isMade}
 use Rattle.meaning.specs.Known.{larger}
 use Rattle.meaning.specs.Gadget.Digits.{groupCells, valueAt}
 use Rattle.meaning.specs.Gadget.Root.{rootValue}
@@ -29,11 +28,11 @@ powerBound = 2 ^ 31
 abbrev pub formBound : ℕ
 formBound = 2 ^ 61
 
--- the values that the line makes, where its statement is true
-unfoldable pub workedSeen : Worked → Option (List ℤ)
-workedSeen (Value z) = some (z ∷ [])
-workedSeen NoValue = some []
-workedSeen False = none
+-- the values that the line makes, or refusal 18 where its statement is false
+unfoldable pub workedSeen : Worked → Result (List ℤ)
+workedSeen (Value z) = value (z ∷ [])
+workedSeen NoValue = value []
+workedSeen False = refusedBy 18
 
 -- the numbers of a digit group: the base, the count of its digits, and c = b ^ k
 pub record GroupOf (b k c : ℕ) : Type 0 where

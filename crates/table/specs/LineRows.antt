@@ -9,8 +9,7 @@ use Rattle.algebra.specs.Digits.{Below}
 use Rattle.meaning.specs.Line.{Word}
 use Rattle.meaning.specs.Row.{holds}
 use Rattle.meaning.specs.Refusal.{isField, valueLimit}
-use Rattle.meaning.specs.Reply.{firstFail}
-use Rattle.table.specs.Rows.{rowsSeen}
+use Rattle.table.specs.Rows.{rowsSeen, firstRefusal}
 use Rattle.table.specs.Line.{KeptLine, gadgetOf, knownCount}
 use Rattle.table.specs.declared.rows.Rows.{Rows}
 
@@ -25,7 +24,7 @@ pub record RowsAsked (p : ℕ) (w : Word) (numbers : List ℤ) (count : ℕ) (ta
   pub places-are : kept .state .places ≡ take (knownCount kept) places
   pub inside : (v : ℕ) → v < knownCount kept → getD places v 0 < length table
 
--- the answer is the first of the line's rows that fails
+-- the answer is the refusal at the first of the line's rows that fails
 abbrev pub RowsTold : (p : ℕ) (w : Word) (numbers : List ℤ) (count : ℕ) (table : List ℕ) (cells : ℕ) (places : List ℕ) → Rows → Type 0
 RowsTold p w numbers count table cells places r =
-    (a : RowsAsked p w numbers count table cells places) → rowsSeen r ≡ firstFail (holds p table) 0 (gadgetOf (a .kept) .rows)
+    (a : RowsAsked p w numbers count table cells places) → rowsSeen r ≡ firstRefusal (holds p table) 0 (gadgetOf (a .kept) .rows)

@@ -2,13 +2,12 @@
 use mathlib.Core.Path.{_≡_}
 use mathlib.Core.Bool.{false, cond}
 use mathlib.Core.List.{List, _++_}
-use mathlib.Core.Option.{none, some}
 use Prim.Native.Nat.{ℕ, _≤_}
 use lib.IntN.{ℤ}
 use lib.ListN.{length, take, drop}
 use Rattle.meaning.specs.Line.{Word}
 use Rattle.meaning.specs.Gadget.Interface.{Gadget}
-use Rattle.meaning.specs.Refusal.{isField, valueLimit}
+use Rattle.meaning.specs.Refusal.{value, refusedBy, isField, valueLimit}
 use Rattle.meaning.specs.Known.{Within}
 use Rattle.table.specs.Line.{KeptLine, gadgetOf, knownCount}
 use Rattle.table.specs.Cells.{workedSeen}
@@ -22,12 +21,12 @@ pub record ValuesAsked (w : Word) (numbers : List ℤ) (count : ℕ) (values : L
   pub values-long : length values ≡ valueLimit
   pub within : Within (kept .state .known) (take (knownCount kept) values)
 
--- the answer is the values that the line makes, where its statement is true
+-- the answer is the values that the line makes where its statement is true, and refusal 18 where not
 abbrev pub WorkTold : (w : Word) (numbers : List ℤ) (count : ℕ) (values : List ℤ) (next : ℤ) → Worked → Type 0
 WorkTold w numbers count values next r =
     (a : ValuesAsked w numbers count values)
     → let before : List ℤ = take (knownCount (a .kept)) values in
-    workedSeen r ≡ cond (gadgetOf (a .kept) .statement before) (some (gadgetOf (a .kept) .values before next)) none
+    workedSeen r ≡ cond (gadgetOf (a .kept) .statement before) (value (gadgetOf (a .kept) .values before next)) (refusedBy 18)
 
 -- ---- cells
 

@@ -1,5 +1,6 @@
 -- How the answer of a check of rows is read, and what a remainder in a machine word stands for.
 use mathlib.Core.Path.{_≡_}
+use mathlib.Core.Bool.{Bool}
 use mathlib.Core.List.{List, _++_}
 use mathlib.Core.Option.{Option, none, some}
 use Prim.Native.Nat.{ℕ, _+_, _*_, _%_, _≤_, _<_}
@@ -8,16 +9,21 @@ use lib.ListN.{length, getD}
 use lib.Signed.{_≤ℤ_}
 use Rattle.meaning.specs.Number.{remainder}
 use Rattle.meaning.specs.Row.{Form, eval, Row, group}
+use Rattle.meaning.specs.Reply.{Reply, reply, firstFail, refusalAt}
 use Rattle.table.specs.declared.rows.Rows.{Rows}
 use Rattle.table.specs.declared.rows.Rows.the-variants.{AllHold, Fails}
 
--- the place of the first row that fails
-unfoldable pub rowsSeen : Rows → Option ℕ
+-- no refusal, or refusal 15 at the first row that fails
+unfoldable pub rowsSeen : Rows → Option Reply
 rowsSeen AllHold = none
-rowsSeen (Fails i) = some i
+rowsSeen (Fails i) = some (reply 15 i)
 
--- the first row that fails among some rows and later ones
-unfoldable pub firstOf : Option ℕ → Option ℕ → Option ℕ
+-- refusal 15 at the first of some rows that fails the test, where one does; places count from n
+abbrev pub firstRefusal : {A : Type 0} → (A → Bool) → ℕ → List A → Option Reply
+firstRefusal f n xs = refusalAt 15 (firstFail f n xs)
+
+-- the first that fails among some rows and later ones
+unfoldable pub firstOf : {A : Type 0} → Option A → Option A → Option A
 firstOf none later = later
 firstOf (some i) later = some i
 

@@ -16,10 +16,9 @@ ghost use lib.ListN.{length, drop};
 ghost use Rattle.algebra.specs.Digits.{digits};
 ghost use Rattle.meaning.specs.Number.{remainder};
 ghost use Rattle.meaning.specs.Row.{Form, eval, holds, digitRows, placeValues, group};
-ghost use Rattle.meaning.specs.Reply.{firstFail};
 ghost use Rattle.meaning.specs.Gadget.Digits.{groupCells};
 ghost use Rattle.number.specs.Bounded.{Bounded};
-ghost use Rattle.table.specs.Rows.{rowsSeen, Leaves};
+ghost use Rattle.table.specs.Rows.{rowsSeen, firstRefusal, Leaves};
 ghost use Rattle.table.specs.Cells.{formBound, powerBound};
 
 // c = b ^ k.
@@ -93,7 +92,7 @@ pub fn group_rows(
 ) -> Rows
     requires { ⌜ (0 < p) × (at .0 + k ≤ length (now table)) × (first + k < 2 ^ 64) ⌝ }
     ensures { λ r. ⌜ ((f : Form) (L : ℤ) → remainder p (eval (now (table .entry)) f -ℤ L) ≡ number .0
-        → rowsSeen r ≡ firstFail (holds p (now (table .entry))) first (group f L (at .0) b k)) ⌝ }
+        → rowsSeen r ≡ firstRefusal (holds p (now (table .entry))) first (group f L (at .0) b k)) ⌝ }
 {
     let value = place_value(table, p, at, b, k);
     let last = row_before(number.0 == value.0, first + k, Rows::AllHold);
@@ -103,7 +102,7 @@ pub fn group_rows(
 // The rows of the digits. They hold or fail modulo every p alike.
 fn digit_rows(table: &[u32], first: usize, at: Cell, b: u32, k: usize) -> Rows
     requires { ⌜ (at .0 + k ≤ length (now table)) × (first + k < 2 ^ 64) ⌝ }
-    ensures { λ r. ⌜ ((p : ℕ) → rowsSeen r ≡ firstFail (holds p (now (table .entry))) first (digitRows (at .0) b k)) ⌝ }
+    ensures { λ r. ⌜ ((p : ℕ) → rowsSeen r ≡ firstRefusal (holds p (now (table .entry))) first (digitRows (at .0) b k)) ⌝ }
 {
     let mut i: usize = 0;
     while i < k {

@@ -22,7 +22,6 @@ use number::whole::larger;
 ghost use mathlib.Core.Path.{_≡_};
 ghost use mathlib.Core.Bool.{cond};
 ghost use mathlib.Core.List.{[], _∷_, _++_};
-ghost use mathlib.Core.Option.{some, none};
 ghost use Prim.Native.Nat.{ℕ, suc, _*_, _^_, _≤_, _<_, _+_};
 ghost use lib.Dec.{ltb};
 ghost use lib.IntN.{natAbs, _-ℤ_, ℤ};
@@ -31,11 +30,11 @@ ghost use Rattle.algebra.specs.Digits.{Below};
 ghost use Rattle.meaning.specs.Line.{max};
 ghost use Rattle.meaning.specs.Known.{larger, Known, placeOf};
 ghost use Rattle.meaning.specs.Row.{holds};
-ghost use Rattle.meaning.specs.Reply.{firstFail};
+ghost use Rattle.meaning.specs.Refusal.{value, refusedBy};
 ghost use Rattle.meaning.specs.Gadget.Max.{maxLine};
 ghost use Rattle.number.specs.Bounded.{Bounded};
 ghost use Rattle.table.specs.Cells.{workedSeen, maxCells, valueBound};
-ghost use Rattle.table.specs.Rows.{rowsSeen};
+ghost use Rattle.table.specs.Rows.{rowsSeen, firstRefusal};
 ghost use Rattle.table.specs.LineValues.{ValuesAsked, WorkTold, CellsAsked, CellsTold};
 ghost use Rattle.table.specs.LineRows.{RowsAsked, RowsTold};
 
@@ -50,7 +49,7 @@ fn max_value(u: i64, v: i64) -> i64
 
 fn max_works(u: i64, v: i64, c: u64) -> Worked
     requires { ⌜ Bounded valueBound u × Bounded valueBound v ⌝ }
-    ensures { λ r. ⌜ ((b k : ℕ) → c ≡ b ^ k → workedSeen r ≡ cond (ltb (natAbs (u -ℤ v)) (b ^ k)) (some (larger u v ∷ [])) none) ⌝ }
+    ensures { λ r. ⌜ ((b k : ℕ) → c ≡ b ^ k → workedSeen r ≡ cond (ltb (natAbs (u -ℤ v)) (b ^ k)) (value (larger u v ∷ [])) (refusedBy 18)) ⌝ }
 {
     if apart(u, v) < c {
         Worked::Value(max_value(u, v))
@@ -100,7 +99,7 @@ fn max_rows(table: &[u32], p: u32, place_u: Cell, place_v: Cell, at: Cell, b: u3
     requires { ⌜ (0 < p) × Below p (now table) × («place_u» .0 < length (now table)) × («place_v» .0 < length (now table))
         × (at .0 + 1 + 2 * k ≤ length (now table)) ⌝ }
     ensures { λ r. ⌜ ((s : Known) (u v : ℕ) → s .p ≡ p → placeOf s u ≡ «place_u» .0 → placeOf s v ≡ «place_v» .0 → s .cells ≡ at .0
-        → rowsSeen r ≡ firstFail (holds p (now (table .entry))) 0 (maxLine s u v b k .rows)) ⌝ }
+        → rowsSeen r ≡ firstRefusal (holds p (now (table .entry))) 0 (maxLine s u v b k .rows)) ⌝ }
 {
     let made = residue_at(table, at);
     let over_u = difference(made, residue_at(table, place_u), p);

@@ -21,7 +21,6 @@ use number::whole::larger;
 ghost use mathlib.Core.Path.{_≡_};
 ghost use mathlib.Core.Bool.{cond};
 ghost use mathlib.Core.List.{[], _∷_, _++_};
-ghost use mathlib.Core.Option.{some, none};
 ghost use Prim.Native.Nat.{ℕ, _+_, _^_, _≤_, _<_};
 ghost use lib.IntN.{pos, ℤ};
 ghost use lib.ListN.{length, drop};
@@ -30,12 +29,12 @@ ghost use Rattle.meaning.specs.Number.{remainder, OddPrime};
 ghost use Rattle.meaning.specs.Line.{relu};
 ghost use Rattle.meaning.specs.Known.{larger, Known, placeOf};
 ghost use Rattle.meaning.specs.Row.{holds};
-ghost use Rattle.meaning.specs.Reply.{firstFail};
+ghost use Rattle.meaning.specs.Refusal.{value, refusedBy};
 ghost use Rattle.meaning.specs.Gadget.Sign.{signStatement, signCells};
 ghost use Rattle.meaning.specs.Gadget.Relu.{reluLine};
 ghost use Rattle.number.specs.Bounded.{Bounded};
 ghost use Rattle.table.specs.Cells.{workedSeen, GroupOf, powerBound, valueBound};
-ghost use Rattle.table.specs.Rows.{rowsSeen};
+ghost use Rattle.table.specs.Rows.{rowsSeen, firstRefusal};
 ghost use Rattle.table.specs.LineValues.{ValuesAsked, WorkTold, CellsAsked, CellsTold};
 ghost use Rattle.table.specs.LineRows.{RowsAsked, RowsTold};
 
@@ -50,7 +49,7 @@ fn relu_value(v: i64) -> i64
 
 fn relu_works(v: i64, b: u32, c: u64) -> Worked
     requires { ⌜ (0 < b) × (c ≤ powerBound) ⌝ }
-    ensures { λ r. ⌜ ((k : ℕ) → 1 ≤ k → c ≡ b ^ k → workedSeen r ≡ cond (signStatement b k v) (some (larger (pos 0) v ∷ [])) none) ⌝ }
+    ensures { λ r. ⌜ ((k : ℕ) → 1 ≤ k → c ≡ b ^ k → workedSeen r ≡ cond (signStatement b k v) (value (larger (pos 0) v ∷ [])) (refusedBy 18)) ⌝ }
 {
     if sign_works(v, b, c) {
         Worked::Value(relu_value(v))
@@ -97,7 +96,7 @@ pub fn relu_line_cells(numbers: &[i64], p: u32, values: &[i64], part: &mut [u32]
 fn relu_rows(table: &[u32], p: u32, place: Cell, at: Cell, b: u32, k: usize) -> Rows
     requires { ⌜ (1 < p) × Below p (now table) × (place .0 < length (now table)) × (at .0 + k + 3 ≤ length (now table)) × (0 < b) × (0 < k) ⌝ }
     ensures { λ r. ⌜ ((s : Known) (v : ℕ) → s .p ≡ p → placeOf s v ≡ place .0 → s .cells ≡ at .0
-        → rowsSeen r ≡ firstFail (holds p (now (table .entry))) 0 (reluLine s v b k .rows)) ⌝ }
+        → rowsSeen r ≡ firstRefusal (holds p (now (table .entry))) 0 (reluLine s v b k .rows)) ⌝ }
 {
     let value = residue_at(table, place);
     let number = sum(value, top_part(p, b, k), p);

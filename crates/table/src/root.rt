@@ -25,7 +25,6 @@ use number::whole::within;
 ghost use mathlib.Core.Path.{_≡_};
 ghost use mathlib.Core.Bool.{cond};
 ghost use mathlib.Core.List.{[], _∷_, _++_};
-ghost use mathlib.Core.Option.{some, none};
 ghost use Prim.Native.Nat.{ℕ, _+_, _*_, _^_, _≤_, _<_};
 ghost use lib.IntN.{pos, _-ℤ_, _*ℤ_, ℤ};
 ghost use lib.ListN.{length, drop};
@@ -34,11 +33,11 @@ ghost use Rattle.meaning.specs.Number.{between, remainder};
 ghost use Rattle.meaning.specs.Line.{root};
 ghost use Rattle.meaning.specs.Known.{Known, placeOf};
 ghost use Rattle.meaning.specs.Row.{Form, holds};
-ghost use Rattle.meaning.specs.Reply.{firstFail};
+ghost use Rattle.meaning.specs.Refusal.{value, refusedBy};
 ghost use Rattle.meaning.specs.Gadget.Root.{rootValue, rootLine};
 ghost use Rattle.number.specs.Bounded.{Bounded};
 ghost use Rattle.table.specs.Cells.{workedSeen, restCells, rootCells, powerBound, valueBound};
-ghost use Rattle.table.specs.Rows.{rowsSeen, Leaves, fourGroups};
+ghost use Rattle.table.specs.Rows.{rowsSeen, firstRefusal, Leaves, fourGroups};
 ghost use Rattle.table.specs.LineValues.{ValuesAsked, WorkTold, CellsAsked, CellsTold};
 ghost use Rattle.table.specs.LineRows.{RowsAsked, RowsTold};
 
@@ -53,7 +52,7 @@ fn root_value(v: i64) -> i64
 
 fn root_works(v: i64, c: u64) -> Worked
     requires { ⌜ Bounded valueBound v × (c ≤ powerBound) ⌝ }
-    ensures { λ r. ⌜ ((b k : ℕ) → c ≡ b ^ k → workedSeen r ≡ cond (between (pos 0) v (pos (b ^ k) -ℤ pos 1)) (some (rootValue v ∷ [])) none) ⌝ }
+    ensures { λ r. ⌜ ((b k : ℕ) → c ≡ b ^ k → workedSeen r ≡ cond (between (pos 0) v (pos (b ^ k) -ℤ pos 1)) (value (rootValue v ∷ [])) (refusedBy 18)) ⌝ }
 {
     let top = c as i64 - 1;
     if within(Whole(0), Whole(v), Whole(top)) {
@@ -123,7 +122,7 @@ pub fn root_line_cells(numbers: &[i64], p: u32, values: &[i64], part: &mut [u32]
 fn root_rows(table: &[u32], p: u32, place: Cell, at: Cell, b: u32, k: usize) -> Rows
     requires { ⌜ (2 < p) × Below p (now table) × (place .0 < length (now table)) × (at .0 + 2 + 4 * k ≤ length (now table)) ⌝ }
     ensures { λ r. ⌜ ((s : Known) (v : ℕ) → s .p ≡ p → placeOf s v ≡ place .0 → s .cells ≡ at .0
-        → rowsSeen r ≡ firstFail (holds p (now (table .entry))) 0 (rootLine s v b k .rows)) ⌝ }
+        → rowsSeen r ≡ firstRefusal (holds p (now (table .entry))) 0 (rootLine s v b k .rows)) ⌝ }
 {
     let value = residue_at(table, place);
     let root = residue_at(table, at);
@@ -151,7 +150,7 @@ fn four_groups(
     requires { ⌜ (0 < p) × (at .0 + 4 * k ≤ length (now table)) ⌝ }
     ensures { λ r. ⌜ ((A B C D : Form) → Leaves p (now (table .entry)) (value .0) A → Leaves p (now (table .entry)) (root .0) B
         → Leaves p (now (table .entry)) (over .0) C → Leaves p (now (table .entry)) (under .0) D
-        → rowsSeen r ≡ firstFail (holds p (now (table .entry))) 1 (fourGroups A B C D (at .0) b k)) ⌝ }
+        → rowsSeen r ≡ firstRefusal (holds p (now (table .entry))) 1 (fourGroups A B C D (at .0) b k)) ⌝ }
 {
     let first = group_rows(table, p, value, 1, at, b, k);
     let second = group_rows(table, p, root, k + 2, Cell(at.0 + k), b, k);

@@ -7,6 +7,7 @@ ghost use mathlib.Core.Bool.{cond};
 ghost use mathlib.Core.Option.{some};
 ghost use Prim.Native.Nat.{_<_};
 ghost use lib.ListN.{length, getD};
+ghost use Rattle.meaning.specs.Reply.{reply};
 ghost use Rattle.table.specs.Rows.{rowsSeen, firstOf};
 
 // The number of the first row that fails, counted from 0 in its line.
@@ -26,7 +27,7 @@ pub fn residue_at(table: &[u32], at: Cell) -> Residue
 
 // One row, of this number, and then others.
 pub fn row_before(holds: bool, row: usize, later: Rows) -> Rows
-    ensures { λ r. ⌜ rowsSeen r ≡ cond holds (rowsSeen later) (some row) ⌝ }
+    ensures { λ r. ⌜ rowsSeen r ≡ cond holds (rowsSeen later) (some (reply 15 row)) ⌝ }
 {
     if holds { later } else { Rows::Fails(row) }
 }

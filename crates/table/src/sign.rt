@@ -25,11 +25,10 @@ ghost use Rattle.algebra.specs.Digits.{Below};
 ghost use Rattle.meaning.specs.Number.{remainder, OddPrime};
 ghost use Rattle.meaning.specs.Known.{topPart};
 ghost use Rattle.meaning.specs.Row.{Form, cell, constant, _⊖_, _⊗_, eval, Row, _≅_, holds};
-ghost use Rattle.meaning.specs.Reply.{firstFail};
 ghost use Rattle.meaning.specs.Gadget.Sign.{signStatement, signCells, signShift, signRows};
 ghost use Rattle.number.specs.Bounded.{Bounded};
 ghost use Rattle.table.specs.Cells.{flagCells, GroupOf, powerBound};
-ghost use Rattle.table.specs.Rows.{rowsSeen, Leaves};
+ghost use Rattle.table.specs.Rows.{rowsSeen, firstRefusal, Leaves};
 
 // ---- working
 
@@ -104,7 +103,7 @@ pub fn sign_rows(
     requires { ⌜ (1 < p) × Below p (now table) × (at .0 + k + 2 ≤ length (now table)) × (0 < b) × (0 < k) ⌝ }
     ensures { λ r. ⌜ ((form : Form) (row : Form → Row) → remainder p (eval (now (table .entry)) form -ℤ signShift b k) ≡ number .0
         → last ≡ holds p (now (table .entry)) (row (cell (at .0 + k)))
-        → rowsSeen r ≡ firstFail (holds p (now (table .entry))) 0 (signRows form (at .0) b k row)) ⌝ }
+        → rowsSeen r ≡ firstRefusal (holds p (now (table .entry))) 0 (signRows form (at .0) b k row)) ⌝ }
 {
     let digit = residue_at(table, Cell(at.0 + (k - 1)));
     let top = difference(digit, Residue((b - 1) % p), p);
@@ -119,7 +118,7 @@ pub fn sign_rows(
 fn flag_rows(p: u32, top: Residue, flag: Residue, witness: Residue, last: bool, row: usize) -> Rows
     requires { ⌜ (1 < p) × (flag .0 < p) × (row + 3 < 2 ^ 64) ⌝ }
     ensures { λ r. ⌜ ((t : List ℕ) (T F W : Form) (x : Row) → Leaves p t (top .0) T → Leaves p t (flag .0) F → Leaves p t (witness .0) W
-        → last ≡ holds p t x → rowsSeen r ≡ firstFail (holds p t) row (T ⊗ W ≅ constant (pos 1) ⊖ F ∷ T ⊗ F ≅ constant (pos 0)
+        → last ≡ holds p t x → rowsSeen r ≡ firstRefusal (holds p t) row (T ⊗ W ≅ constant (pos 1) ⊖ F ∷ T ⊗ F ≅ constant (pos 0)
         ∷ W ⊗ F ≅ constant (pos 0) ∷ x ∷ [])) ⌝ }
 {
     let other = difference(Residue(1), flag, p);

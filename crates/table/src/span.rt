@@ -24,10 +24,9 @@ ghost use Rattle.meaning.specs.Number.{between};
 ghost use Rattle.meaning.specs.Line.{span};
 ghost use Rattle.meaning.specs.Known.{Known, placeOf};
 ghost use Rattle.meaning.specs.Row.{holds};
-ghost use Rattle.meaning.specs.Reply.{firstFail};
 ghost use Rattle.meaning.specs.Gadget.Span.{spanTop, spanLine};
 ghost use Rattle.number.specs.Bounded.{Bounded};
-ghost use Rattle.table.specs.Rows.{rowsSeen};
+ghost use Rattle.table.specs.Rows.{rowsSeen, firstRefusal};
 ghost use Rattle.table.specs.LineValues.{ValuesAsked, WorkTold, CellsAsked, CellsTold};
 ghost use Rattle.table.specs.LineRows.{RowsAsked, RowsTold};
 ghost use Rattle.table.specs.Cells.{powerBound};
@@ -79,7 +78,7 @@ pub fn span_line_cells(numbers: &[i64], values: &[i64], part: &mut [u32])
 fn span_rows(table: &[u32], p: u32, place: Cell, at: Cell, b: u32, k: usize, shift: i64) -> Rows
     requires { ⌜ (0 < p) × Below p (now table) × (place .0 < length (now table)) × (at .0 + k ≤ length (now table)) ⌝ }
     ensures { λ r. ⌜ ((s : Known) (v : ℕ) → s .p ≡ p → placeOf s v ≡ place .0 → s .cells ≡ at .0
-        → rowsSeen r ≡ firstFail (holds p (now (table .entry))) 0 (spanLine s v b k shift .rows)) ⌝ }
+        → rowsSeen r ≡ firstRefusal (holds p (now (table .entry))) 0 (spanLine s v b k shift .rows)) ⌝ }
 {
     let lowest = remainder_of(Whole(shift), p);
     let number = difference(residue_at(table, place), lowest, p);

@@ -22,10 +22,9 @@ ghost use Rattle.algebra.specs.Digits.{Below};
 ghost use Rattle.meaning.specs.Line.{numberAt, withoutFirst, sum};
 ghost use Rattle.meaning.specs.Known.{Known};
 ghost use Rattle.meaning.specs.Row.{holds};
-ghost use Rattle.meaning.specs.Reply.{firstFail};
 ghost use Rattle.meaning.specs.Gadget.Sum.{termsOf, sumLine};
 ghost use Rattle.table.specs.Cells.{sumOf, SumAsked};
-ghost use Rattle.table.specs.Rows.{rowsSeen, NamesBelow, PlacesInside};
+ghost use Rattle.table.specs.Rows.{rowsSeen, firstRefusal, NamesBelow, PlacesInside};
 ghost use Rattle.table.specs.LineValues.{ValuesAsked, WorkTold, CellsAsked, CellsTold};
 ghost use Rattle.table.specs.LineRows.{RowsAsked, RowsTold};
 
@@ -79,7 +78,7 @@ fn sum_rows(
     requires { ⌜ (0 < p) × Below p (now table) × (at .0 < length (now table)) × (count % 2 ≡ 1) × (count ≤ length (now numbers))
         × PlacesInside (now numbers) count (now places) (length (now table)) ⌝ }
     ensures { λ r. ⌜ ((s : Known) (n : ℕ) → s .p ≡ p → s .cells ≡ at .0 → s .places ≡ take n (now (places .entry))
-        → NamesBelow n (now (numbers .entry)) count → rowsSeen r ≡ firstFail (holds p (now (table .entry))) 0
+        → NamesBelow n (now (numbers .entry)) count → rowsSeen r ≡ firstRefusal (holds p (now (table .entry))) 0
         (sumLine s (numberAt (take count (now (numbers .entry))) 0) (termsOf (withoutFirst (take count (now (numbers .entry))))) .rows)) ⌝ }
 {
     let mut total = remainder_of(Whole(numbers[0]), p).0;

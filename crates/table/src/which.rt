@@ -20,7 +20,6 @@ use number::residue::sum;
 ghost use mathlib.Core.Path.{_≡_};
 ghost use mathlib.Core.Bool.{cond};
 ghost use mathlib.Core.List.{[], _∷_, _++_};
-ghost use mathlib.Core.Option.{some, none};
 ghost use Prim.Native.Nat.{ℕ, _+_, _^_, _≤_, _<_};
 ghost use lib.IntN.{_-ℤ_, ℤ};
 ghost use lib.ListN.{length, drop};
@@ -29,12 +28,12 @@ ghost use Rattle.meaning.specs.Number.{remainder, OddPrime};
 ghost use Rattle.meaning.specs.Line.{which};
 ghost use Rattle.meaning.specs.Known.{Known, placeOf};
 ghost use Rattle.meaning.specs.Row.{holds};
-ghost use Rattle.meaning.specs.Reply.{firstFail};
+ghost use Rattle.meaning.specs.Refusal.{value, refusedBy};
 ghost use Rattle.meaning.specs.Gadget.Sign.{signStatement, signCells};
 ghost use Rattle.meaning.specs.Gadget.Which.{whichValue, whichLine};
 ghost use Rattle.number.specs.Bounded.{Bounded};
 ghost use Rattle.table.specs.Cells.{workedSeen, GroupOf, powerBound, valueBound};
-ghost use Rattle.table.specs.Rows.{rowsSeen};
+ghost use Rattle.table.specs.Rows.{rowsSeen, firstRefusal};
 ghost use Rattle.table.specs.LineValues.{ValuesAsked, WorkTold, CellsAsked, CellsTold};
 ghost use Rattle.table.specs.LineRows.{RowsAsked, RowsTold};
 
@@ -48,7 +47,7 @@ fn which_value(u: i64, v: i64) -> i64
 
 fn which_works(u: i64, v: i64, b: u32, c: u64) -> Worked
     requires { ⌜ (0 < b) × (c ≤ powerBound) × Bounded valueBound u × Bounded valueBound v ⌝ }
-    ensures { λ r. ⌜ ((k : ℕ) → 1 ≤ k → c ≡ b ^ k → workedSeen r ≡ cond (signStatement b k (u -ℤ v)) (some (whichValue u v ∷ [])) none) ⌝ }
+    ensures { λ r. ⌜ ((k : ℕ) → 1 ≤ k → c ≡ b ^ k → workedSeen r ≡ cond (signStatement b k (u -ℤ v)) (value (whichValue u v ∷ [])) (refusedBy 18)) ⌝ }
 {
     if sign_works(u - v, b, c) {
         Worked::Value(which_value(u, v))
@@ -106,7 +105,7 @@ fn which_rows(
     requires { ⌜ (1 < p) × Below p (now table) × («place_u» .0 < length (now table)) × («place_v» .0 < length (now table))
         × (at .0 + k + 3 ≤ length (now table)) × (0 < b) × (0 < k) ⌝ }
     ensures { λ r. ⌜ ((s : Known) (u v : ℕ) → s .p ≡ p → placeOf s u ≡ «place_u» .0 → placeOf s v ≡ «place_v» .0 → s .cells ≡ at .0
-        → rowsSeen r ≡ firstFail (holds p (now (table .entry))) 0 (whichLine s u v b k .rows)) ⌝ }
+        → rowsSeen r ≡ firstRefusal (holds p (now (table .entry))) 0 (whichLine s u v b k .rows)) ⌝ }
 {
     let apart = difference(residue_at(table, place_u), residue_at(table, place_v), p);
     let number = sum(apart, top_part(p, b, k), p);

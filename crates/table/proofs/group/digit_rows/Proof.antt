@@ -3,15 +3,14 @@ use mathlib.Core.Path.{_≡_, sym, _∙_}
 use Prim.Native.Nat.{ℕ, _+_, _-_, _≤_}
 use borrow.Author.Needs.{needs}
 use Rattle.meaning.specs.Row.{holds, digitRows}
-use Rattle.meaning.specs.Reply.{firstFail}
-use Rattle.table.specs.Rows.{rowsSeen}
+use Rattle.table.specs.Rows.{rowsSeen, firstRefusal}
 use Rattle.table.proofs.RowsGroup.{digits-start, digit-passes, digit-fails, digits-end}
 use Rattle.table.proofs.group.digit_rows.Statement.{statement}
 use Rattle.table.proofs.group.digit_rows.Tie as tie
 
 abbrev Inv-loop : tie.InvT-loop
 Inv-loop table first at b k i₀ i = (i ≤ k) × ((p : ℕ)
-    → firstFail (holds p table) first (digitRows (at .0) b k) ≡ firstFail (holds p table) (first + i) (digitRows (at .0 + i) b (k - i)))
+    → firstRefusal (holds p table) first (digitRows (at .0) b k) ≡ firstRefusal (holds p table) (first + i) (digitRows (at .0 + i) b (k - i)))
 
 abbrev μ-loop : tie.MeasureT-loop
 μ-loop table first at b k i₀ i = k - i
