@@ -6,11 +6,11 @@ use mathlib.Core.Path.{_≡_, refl, sym, ap, _∙_}
 use mathlib.Core.Bool.{Bool, false}
 use mathlib.Core.Logic.{_↔_, _⊎_, inl, inr}
 use mathlib.Core.List.{List, [], _∷_}
-use mathlib.Core.Option.{Option, none, some, Option·none-ne-some, Option·some-ne-none, Option·some-injective}
+use mathlib.Core.Option.{Option, none, some, Option·none-ne-some, Option·some-injective}
 use lib.Dec.{T}
 use lib.ListN.{length, getD}
 use Rattle.algebra.proofs.Test.{false-not, cond-cases}
-use Rattle.meaning.specs.Reply.{Reply, reply, firstFail, refusalAt}
+use Rattle.meaning.specs.Reply.{firstFail}
 
 -- elements are read with a default d, which stands for none of them
 module _ {A : Type 0} (f : A → Bool) (d : A) where
@@ -95,16 +95,3 @@ module _ {A : Type 0} (f : A → Bool) (d : A) where
     where
       to : (i : ℕ) × (r ≡ 0 + i) × FirstFails xs i → FirstFails xs r
       to h = rw (h .1, zero-add (h .0)) (h .2)
-
--- ---- a place as a refusal
-
--- the refusal at a place tells the place, or that there is none
-pub refusal-some : (r : ℕ) (o : Option ℕ) (i : ℕ) → refusalAt r o ≡ some (reply r i) → o ≡ some i
-unfolding refusalAt
-refusal-some r none i e = absurd (Option·none-ne-some _ e)
-refusal-some r (some j) i e = ap {B = Option ℕ} some (ap (λ (q : Reply). q .place) (Option·some-injective _ _ e))
-
-pub refusal-none : (r : ℕ) (o : Option ℕ) → refusalAt r o ≡ none → o ≡ none
-unfolding refusalAt
-refusal-none r none e = refl
-refusal-none r (some j) e = absurd (Option·some-ne-none _ e)

@@ -18,7 +18,8 @@ use Rattle.meaning.specs.Meaning.{gadget, after}
 use Rattle.meaning.specs.Refusal.{cellLimit, onSome, refused, onReading, reading, valueLimit}
 use Rattle.meaning.specs.Reply.{Reply, reply, firstFail, refusalAt, isCell, rowsFrom, rowsOf, checked, checkReply}
 use Rattle.meaning.specs.Kept.{Keeps}
-use Rattle.meaning.proofs.Lists.{all-pass, refusal-some, refusal-none}
+use Rattle.meaning.proofs.Lists.{all-pass}
+use Rattle.meaning.proofs.Results.{refusal-none, refusal-place}
 use Rattle.text.specs.Word.{wordOf}
 use Rattle.reader.specs.declared.state.Counts.{Counts}
 use Rattle.reader.proofs.Steps.{few}
@@ -26,7 +27,7 @@ use Rattle.table.specs.Rows.{rowsSeen, firstRefusal, firstOf}
 use Rattle.table.specs.declared.rows.Rows.{Rows}
 use Rattle.table.specs.declared.rows.Rows.the-variants.{AllHold, Fails}
 use Rattle.table.specs.LineRows.{RowsAsked}
-use Rattle.table.proofs.RowsFirst.{first-append, refusal-none, refusal-some}
+use Rattle.table.proofs.RowsFirst.{first-append}
 use Rattle.service.specs.Walk.{Stands, Placed, ListRead, AtLine, Took, taken}
 use Rattle.service.specs.declared.walk.Taken.{Taken}
 use Rattle.service.specs.Check.{cellsSeen, TableAsked, rowsReply}
@@ -63,7 +64,7 @@ all-below p t e = each t (λ i h. ltb-iff (getD t i 0) p .0 (passed i h))
 module _ (t : List ℕ) (p : ℕ) (x : Cells) (told : cellsSeen x ≡ refusalAt 14 (firstFail (isCell p) 0 t)) where
   pub large-found : (i : ℕ) → x ≡ Large i → firstFail (isCell p) 0 t ≡ some i
   unfolding cellsSeen
-  large-found i is = refusal-some 14 _ i (sym told ∙ ap cellsSeen is)
+  large-found i is = refusal-place 14 _ (sym told ∙ ap cellsSeen is)
 
   pub none-large : x ≡ AllBelow → firstFail (isCell p) 0 t ≡ none
   unfolding cellsSeen
@@ -149,7 +150,7 @@ module _ {list table : List ℕ} {p : ℕ} {numbers : List ℤ} {places : List �
     module _ (r : Rows) (told : rowsSeen r ≡ firstRefusal test 0 (gadget (w .state) l .rows)) where
       fails-at : (i : ℕ) → r ≡ Fails i → firstFail test 0 (gadget (w .state) l .rows) ≡ some i
       unfolding rowsSeen
-      fails-at i is = refusal-some 15 (firstFail test 0 (gadget (w .state) l .rows)) (sym told ∙ ap rowsSeen is)
+      fails-at i is = refusal-place 15 (firstFail test 0 (gadget (w .state) l .rows)) (sym told ∙ ap rowsSeen is)
 
       pub row-inside : (i : ℕ) → r ≡ Fails i → i < length (gadget (w .state) l .rows)
       row-inside i is = found-inside test (among 0 0) (gadget (w .state) l .rows) i (fails-at i is)

@@ -13,7 +13,8 @@ use Rattle.meaning.specs.Refusal.{onSome, refused, onReading, reading, valueLim
 use Rattle.meaning.specs.Work.{true-table, work}
 use Rattle.meaning.specs.Reply.{reply, firstFail, refusalAt, Making, making, filled, made, makeReply}
 use Rattle.meaning.specs.Claims.{Column}
-use Rattle.meaning.proofs.Lists.{all-pass, refusal-some, refusal-none}
+use Rattle.meaning.proofs.Lists.{all-pass}
+use Rattle.meaning.proofs.Results.{refusal-none, refusal-place}
 use Rattle.service.specs.Walk.{ListRead}
 use Rattle.service.specs.Reply.{replySeen, Makes}
 use Rattle.service.specs.declared.reply.Reply.{Reply}
@@ -29,7 +30,7 @@ use Rattle.service.proofs.Listed.{same-lines}
 module _ (xs : List ℤ) (p : ℕ) (r : Inputs) (told : inputsSeen r ≡ refusalAt 17 (firstFail (inRange p) 0 xs)) where
   pub outside-found : (i : ℕ) → r ≡ Outside i → firstFail (inRange p) 0 xs ≡ some i
   unfolding inputsSeen
-  outside-found i is = refusal-some 17 _ i (sym told ∙ ap inputsSeen is)
+  outside-found i is = refusal-place 17 _ (sym told ∙ ap inputsSeen is)
 
   pub none-outside : r ≡ AllInRange → firstFail (inRange p) 0 xs ≡ none
   unfolding inputsSeen

@@ -2,7 +2,7 @@
 use mathlib.Core.Path.{_≡_, refl, sym, ap, _∙_}
 use mathlib.Core.Bool.{Bool, cond, true, false}
 use mathlib.Core.List.{List, [], _∷_, _++_}
-use mathlib.Core.Option.{Option, none, some, Option·some-injective, Option·none-ne-some}
+use mathlib.Core.Option.{Option, none, some}
 use Prim.Native.Nat.{ℕ, suc, _+_}
 use native.Mathlib.Nat.{add-zero}
 use native.Mathlib.Omega.{arith}
@@ -36,17 +36,6 @@ refusal-first : (r : ℕ) (earlier later : Option ℕ) → firstOf (refusalAt r 
 unfolding refusalAt firstOf
 refusal-first r none later = refl
 refusal-first r (some i) later = refl
-
--- and back: without a refusal there is no place, and a refusal has its place
-pub refusal-none : (r : ℕ) (place : Option ℕ) → refusalAt r place ≡ none → place ≡ none
-unfolding refusalAt
-refusal-none r none e = refl
-refusal-none r (some i) e = absurd (Option·none-ne-some _ (sym e))
-
-pub refusal-some : (r : ℕ) (place : Option ℕ) {i : ℕ} → refusalAt r place ≡ some (reply r i) → place ≡ some i
-unfolding refusalAt
-refusal-some r none e = absurd (Option·none-ne-some _ e)
-refusal-some r (some j) e = ap (λ (q : Reply). some (q .place)) (Option·some-injective _ _ e)
 
 -- ---- a check of rows
 

@@ -8,18 +8,13 @@ use std::hint::black_box;
 const GUARD: u32 = 0xdead_beef;
 const GUARDS: usize = 8;
 
-/// What stands in the places that are lent to reading, each another number that no list has.
-const LENT: Counts = [GUARD as u64, u64::MAX, u64::MAX - 1, u64::MAX - 2];
-
 /// A part of a table, by its place in it; an empty one has none.
 pub type Part = Option<(usize, Vec<u32>)>;
 
 /// What the calls did with a case. Two services agree on it where this is the same.
 #[derive(Clone, Debug, PartialEq, Eq)]
 pub struct Outcome {
-    pub read: Reply,
-    /// p and the counts after reading: a refusal leaves what stood there.
-    pub read_counts: Counts,
+    pub read: Result<Counts, Reply>,
     pub check: Reply,
     pub make: Reply,
     /// The table after making, with the guards around it.
@@ -41,7 +36,7 @@ impl Outcome {
     pub fn differing(&self, other: &Outcome) -> Vec<&'static str> {
         let made = |of: &Outcome| (of.make, of.made.clone(), of.check_of_made);
         let same = [
-            ("read", (self.read, self.read_counts) == (other.read, other.read_counts)),
+            ("read", self.read == other.read),
             ("check", self.check == other.check),
             ("make", made(self) == made(other)),
             ("show", self.show == other.show),
@@ -58,10 +53,8 @@ pub fn outcome<S: Service>(case: &Case, lines: &[usize], rooms: &[usize]) -> Out
     let (list, inputs, stdin) = (case.list.clone(), case.inputs.clone(), case.stdin.clone());
     let (table, mut counts) = (case.table.clone(), desk_of(case));
     let (make, made) = make::<S>(&list, &inputs, &table);
-    let mut read_counts = LENT;
     let outcome = Outcome {
-        read: S::read(&list, &mut read_counts),
-        read_counts,
+        read: S::read(&list),
         check: S::check(&list, &table),
         make,
         check_of_made: (make == (0, 0)).then(|| S::check(&list, &made[GUARDS..][..table.len()])),

@@ -11,7 +11,7 @@ fn directed_cases_agree_with_each_other_and_the_paper() {
         comparison.compare(&directed.way, case, &[case.line]);
         let proved = outcome::<Proved>(case, &[], &[]);
         let reply = match directed.call {
-            Call::Read => proved.read,
+            Call::Read => proved.read.map_or_else(|refusal| refusal, |_| (0, 0)),
             Call::Check => proved.check,
             Call::Make => proved.make,
             Call::Desk => proved.desk,
@@ -55,15 +55,13 @@ fn large_and_drawn_cases_agree() {
 struct Changed<const CALL: usize>;
 
 impl<const CALL: usize> Service for Changed<CALL> {
-    fn read(list: &[u8], counts: &mut Counts) -> Reply {
-        let reply = Reference::read(list, counts);
+    fn read(list: &[u8]) -> Result<Counts, Reply> {
+        let read = Reference::read(list);
         if CALL == 0 {
-            counts.swap(1, 2);
+            read.map(|counts| [counts[0], counts[2], counts[1], counts[3]])
+        } else {
+            read
         }
-        if CALL == 6 && reply != (0, 0) {
-            *counts = [0; 4];
-        }
-        reply
     }
 
     fn check(list: &[u8], table: &[u32]) -> Reply {
@@ -123,10 +121,4 @@ fn a_change_of_one_call_is_seen() {
     assert_ne!(right, outcome::<Changed<4>>(&case, &[1], &[100]));
     assert_ne!(right, outcome::<Changed<5>>(&case, &[1], &[100]));
     assert_eq!(right, outcome::<Changed<6>>(&case, &[1], &[100]));
-
-    // A list that reading refuses.
-    let unread = Case::about(text("field 32"));
-    let right = outcome::<Reference>(&unread, &[], &[]);
-    assert_ne!(right, outcome::<Changed<6>>(&unread, &[], &[]));
-    assert_eq!(right, outcome::<Changed<7>>(&unread, &[], &[]));
 }
