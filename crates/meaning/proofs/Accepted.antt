@@ -16,7 +16,7 @@ use Rattle.meaning.specs.Known.{Known}
 use Rattle.meaning.specs.Row.{holds}
 use Rattle.meaning.specs.Refusal.{onSome, Reading, refused, read, onReading, reading}
 use Rattle.meaning.specs.Work.{Worked, false-at, true-table, work}
-use Rattle.meaning.specs.Reply.{Reply, reply, firstFail, rowsOf, isCell, checked, checkReply, Making, making, filled, made, makeReply}
+use Rattle.meaning.specs.Reply.{Reply, reply, firstFail, rowsOf, isCell, checked, checkReply, Making, filled, made, makeReply}
 use Rattle.meaning.specs.Desk.{isAccepted}
 use Rattle.meaning.specs.Claims.{Fits, too-long, not-ended, no-line, breaks, AcceptedByNumber}
 use Rattle.meaning.proofs.Kept.{rule-number}

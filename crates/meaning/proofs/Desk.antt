@@ -10,20 +10,7 @@ use lib.Dec.{eqb}
 use lib.ListN.{length}
 use Rattle.algebra.proofs.Test.{test-≡, eqb-iff, false-eqb}
 use Rattle.meaning.specs.Reply.{Reply, checkReply}
-use Rattle.meaning.specs.Desk.{
-  Desk,
-  Called,
-  called,
-  counted,
-  freshDesk,
-  fullCount,
-  isAccepted,
-  raised,
-  deskCall,
-  Call,
-  deskAfter,
-  deskReplies,
-}
+use Rattle.meaning.specs.Desk.{Desk, Called, called, freshDesk, fullCount, isAccepted, raised, deskCall, Call, deskAfter, deskReplies}
 use Rattle.meaning.specs.Claims.{howMany, passes, checkOf, Counts, StaysFull}
 
 -- the counts of a desk agree

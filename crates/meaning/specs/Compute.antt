@@ -4,7 +4,7 @@ use Rattle.algebra.specs.Congruence.{remainder, inverseBelow, inverse}
 use Rattle.algebra.specs.Digits.{digits}
 use Rattle.algebra.specs.Root.{rootUpTo, squareRoot}
 use Rattle.meaning.specs.Number.{half, lowest, highest, between, inRange, signed, noDivisor, oddPrime}
-use Rattle.meaning.specs.Text.{bytes, sameBytes, onFirst, split, withoutLast, linesOf, isEnded, fieldsOf, largest, isDigit, allDigits, decimal, isPlain, sized, number, decimalBefore, decimalOf, numberText}
+use Rattle.meaning.specs.Text.{bytes, sameBytes, onFirst, split, withoutLast, linesOf, isEnded, fieldsOf, isDigit, allDigits, decimal, isPlain, sized, number, decimalBefore, decimalOf, numberText}
 use Rattle.meaning.specs.Line.{spelling, words, isCount, wordAmong, consNumber, numbersOf, assemble, lineOfFields, lineOf, numberAt, sizeAt, alternate, withoutFirst, namesOf, coefficientsOf, shiftsOf, digitsAt, digitsOf}
 use Rattle.meaning.specs.Known.{larger, smaller, fresh, endsOf, placeOf, topPart, digitRule, apart, above}
 use Rattle.meaning.specs.Row.{eval, holds, digitRows, placeValues, group}
@@ -19,7 +19,7 @@ use Rattle.meaning.specs.Gadget.Which.{whichValue, whichLine}
 use Rattle.meaning.specs.Gadget.Max.{maxLine}
 use Rattle.meaning.specs.Gadget.Root.{rootValue, rootLine}
 use Rattle.meaning.specs.Meaning.{byWord, gadget, primeAfter, placesFrom, after}
-use Rattle.meaning.specs.Refusal.{textLimit, valueLimit, cellLimit, all, onSome, isField, isPlaced, isOverPrime, isDigits, isRanged, isMade, rulesWithin, rules, firstBroken, onReading, consLine, readLine, readFrom, readingBy, reading}
+use Rattle.meaning.specs.Refusal.{all, onSome, isField, isPlaced, isOverPrime, isDigits, isRanged, isMade, rulesWithin, rules, firstBroken, onReading, consLine, readLine, readFrom, readingBy, reading}
 use Rattle.meaning.specs.Work.{withCells, workFrom, work}
 use Rattle.meaning.specs.Reply.{readReply, firstFail, rowsFrom, rowsOf, isCell, checked, checkReply, filled, made, makeReply, stretch, shown}
 use Rattle.meaning.specs.Program.{tabbed, refusalText, cellsText, tableText, makingText, consPart, partsOf, joined, isSome, orNone, answerParts, onParts, respond}

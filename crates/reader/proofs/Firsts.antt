@@ -29,7 +29,7 @@ use Rattle.meaning.specs.Line.{Word as Meant}
 use Rattle.meaning.specs.Known.{fresh}
 use Rattle.meaning.specs.Gadget.Field.{fieldLine}
 use Rattle.meaning.specs.Meaning.{byWord, gadget, primeAfter, placesFrom, after}
-use Rattle.meaning.specs.Refusal.{valueLimit, cellLimit, all, onSome, isField, isPlaced, isOverPrime, isRanged, rulesWithin, rules, firstBroken}
+use Rattle.meaning.specs.Refusal.{all, onSome, isField, isPlaced, isOverPrime, isRanged, rulesWithin, rules, firstBroken}
 use Rattle.reader.specs.Told.{lineWith}
 use Rattle.reader.specs.Step.{stops, goes}
 use Rattle.reader.specs.Read.{firstOption, only}

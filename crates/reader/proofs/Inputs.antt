@@ -16,7 +16,7 @@ use Rattle.meaning.specs.Known.{ends, Known}
 use Rattle.meaning.specs.Gadget.Input.{inputLine}
 use Rattle.meaning.specs.Meaning.{byWord, gadget}
 use Rattle.meaning.specs.Refusal.{all, isField, isRanged}
-use Rattle.reader.specs.State.{greatest, Ready, Seen}
+use Rattle.reader.specs.State.{Ready, Seen}
 use Rattle.reader.specs.Told.{refuses, makes, toldOf, lineWith}
 use Rattle.reader.specs.Rule.{earlyBroken}
 use Rattle.reader.proofs.Values.{known-count}

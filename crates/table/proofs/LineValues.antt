@@ -14,7 +14,6 @@ use Rattle.meaning.specs.Line.{Word}
 use Rattle.meaning.specs.Gadget.Digits.{valueAt}
 use Rattle.meaning.specs.Refusal.{isField}
 use Rattle.number.specs.Bounded.{Bounded}
-use Rattle.reader.specs.State.{greatest}
 use Rattle.table.specs.Cells.{GroupOf, powerBound, valueBound}
 use Rattle.table.specs.Line.{KeptLine, knownCount}
 use Rattle.table.specs.LineValues.{ValuesAsked}

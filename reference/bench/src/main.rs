@@ -38,7 +38,7 @@ fn main() {
 /// Runs a call of a service once.
 fn run<S: Service>(call: &str, work: &Workload, table: &mut [u32]) {
     match call {
-        "read" => _ = black_box(S::read(black_box(&work.list))),
+        "read" => _ = black_box(S::read(black_box(&work.list), black_box(&mut [0; 4]))),
         "check" => _ = black_box(S::check(black_box(&work.list), black_box(&work.table))),
         _ => _ = black_box(S::make(black_box(&work.list), black_box(&work.inputs), table)),
     }

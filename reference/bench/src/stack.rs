@@ -53,8 +53,9 @@ fn used(mut call: impl FnMut()) -> usize {
 fn of_case(case: &Case) -> [(&'static str, usize); 6] {
     let (mut table, mut output) = (case.table.clone(), vec![0; 65_547]);
     let mut desk = [case.desk.heard, case.desk.accepted, case.desk.refused];
+    let mut counts = [0; 4];
     [
-        ("read", used(|| _ = black_box(Proved::read(&case.list)))),
+        ("read", used(|| _ = black_box(Proved::read(&case.list, &mut counts)))),
         ("check", used(|| _ = black_box(Proved::check(&case.list, &case.table)))),
         ("make", used(|| _ = black_box(Proved::make(&case.list, &case.inputs, &mut table)))),
         ("show", used(|| _ = black_box(Proved::show(&case.list, &case.table, case.line)))),

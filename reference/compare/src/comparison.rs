@@ -27,8 +27,7 @@ impl Comparison {
         self.hear(from, case);
         self.tally.cases += 1;
         self.tally.shown += reference.show.iter().filter(|part| part.is_some()).count() as u64;
-        let read = reference.read.map_or_else(|refusal| refusal.0, |_| 0);
-        self.tally.count_reply("read", read);
+        self.tally.count_reply("read", reference.read.0);
         self.tally.count_reply("check", reference.check.0);
         self.tally.count_reply("make", reference.make.0);
         self.tally.count_reply("desk", reference.desk.0);

@@ -8,13 +8,19 @@ use std::hint::black_box;
 const GUARD: u32 = 0xdead_beef;
 const GUARDS: usize = 8;
 
+/// What stands in the numbers that are lent to a reading: each is more than any list has.
+const NUMBERS: Counts =
+    [0xdead_0001, 0xdead_0002_dead_0002, 0xdead_0003_dead_0003, 0xdead_0004_dead_0004];
+
 /// A part of a table, by its place in it; an empty one has none.
 pub type Part = Option<(usize, Vec<u32>)>;
 
 /// What the calls did with a case. Two services agree on it where this is the same.
 #[derive(Clone, Debug, PartialEq, Eq)]
 pub struct Outcome {
-    pub read: Result<Counts, Reply>,
+    pub read: Reply,
+    /// The lent numbers after reading.
+    pub numbers: Counts,
     pub check: Reply,
     pub make: Reply,
     /// The table after making, with the guards around it.
@@ -36,7 +42,7 @@ impl Outcome {
     pub fn differing(&self, other: &Outcome) -> Vec<&'static str> {
         let made = |of: &Outcome| (of.make, of.made.clone(), of.check_of_made);
         let same = [
-            ("read", self.read == other.read),
+            ("read", (self.read, self.numbers) == (other.read, other.numbers)),
             ("check", self.check == other.check),
             ("make", made(self) == made(other)),
             ("show", self.show == other.show),
@@ -51,10 +57,11 @@ impl Outcome {
 /// Runs every call on a case; `lines` are the lines to show, and `rooms` the lengths of the outputs to answer in.
 pub fn outcome<S: Service>(case: &Case, lines: &[usize], rooms: &[usize]) -> Outcome {
     let (list, inputs, stdin) = (case.list.clone(), case.inputs.clone(), case.stdin.clone());
-    let (table, mut counts) = (case.table.clone(), desk_of(case));
+    let (table, mut counts, mut numbers) = (case.table.clone(), desk_of(case), NUMBERS);
     let (make, made) = make::<S>(&list, &inputs, &table);
     let outcome = Outcome {
-        read: S::read(&list),
+        read: S::read(&list, &mut numbers),
+        numbers,
         check: S::check(&list, &table),
         make,
         check_of_made: (make == (0, 0)).then(|| S::check(&list, &made[GUARDS..][..table.len()])),

@@ -11,7 +11,8 @@ pub type Desk = [u64; 3];
 
 /// The calls of document 01.
 pub trait Service {
-    fn read(list: &[u8]) -> Result<Counts, Reply>;
+    /// The counts are written where the list is read; a refusal leaves them as they were.
+    fn read(list: &[u8], counts: &mut Counts) -> Reply;
     fn check(list: &[u8], table: &[u32]) -> Reply;
     fn make(list: &[u8], inputs: &[i64], table: &mut [u32]) -> Reply;
     fn show<'a>(list: &[u8], table: &'a [u32], line: usize) -> &'a [u32];
@@ -24,10 +25,12 @@ pub trait Service {
 pub struct Reference;
 
 impl Service for Reference {
-    fn read(list: &[u8]) -> Result<Counts, Reply> {
-        reference::read(list)
-            .map(|counts| [counts.p, counts.values, counts.cells, counts.rows])
-            .map_err(|refusal| (refusal.number, refusal.place))
+    fn read(list: &[u8], counts: &mut Counts) -> Reply {
+        match reference::read(list) {
+            Ok(read) => *counts = [read.p, read.values, read.cells, read.rows],
+            Err(refusal) => return (refusal.number, refusal.place),
+        }
+        (0, 0)
     }
 
     fn check(list: &[u8], table: &[u32]) -> Reply {
@@ -69,12 +72,17 @@ fn pair(reply: Result<(), digit_table::Refusal>) -> Reply {
 }
 
 impl Service for Proved {
-    fn read(list: &[u8]) -> Result<Counts, Reply> {
-        digit_table::read(list)
-            .map(|counts| {
-                [counts.p.into(), counts.values as u64, counts.cells as u64, counts.rows as u64]
-            })
-            .map_err(|refusal| pair(Err(refusal)))
+    fn read(list: &[u8], counts: &mut Counts) -> Reply {
+        let [p, values, cells, rows] = *counts;
+        let mut lent = digit_table::Counts {
+            p: p as u32,
+            values: values as usize,
+            cells: cells as usize,
+            rows: rows as usize,
+        };
+        let reply = pair(digit_table::read_into(list, &mut lent));
+        *counts = [lent.p.into(), lent.values as u64, lent.cells as u64, lent.rows as u64];
+        reply
     }
 
     fn check(list: &[u8], table: &[u32]) -> Reply {

@@ -11,7 +11,7 @@ fn directed_cases_agree_with_each_other_and_the_paper() {
         comparison.compare(&directed.way, case, &[case.line]);
         let proved = outcome::<Proved>(case, &[], &[]);
         let reply = match directed.call {
-            Call::Read => proved.read.map_or_else(|refusal| refusal, |_| (0, 0)),
+            Call::Read => proved.read,
             Call::Check => proved.check,
             Call::Make => proved.make,
             Call::Desk => proved.desk,
@@ -55,13 +55,14 @@ fn large_and_drawn_cases_agree() {
 struct Changed<const CALL: usize>;
 
 impl<const CALL: usize> Service for Changed<CALL> {
-    fn read(list: &[u8]) -> Result<Counts, Reply> {
-        let read = Reference::read(list);
-        if CALL == 0 {
-            read.map(|counts| [counts[0], counts[2], counts[1], counts[3]])
-        } else {
-            read
+    fn read(list: &[u8], counts: &mut Counts) -> Reply {
+        let reply = Reference::read(list, counts);
+        match CALL {
+            0 if reply == (0, 0) => counts.swap(1, 2),
+            7 if reply != (0, 0) => *counts = [0; 4],
+            _ => {}
         }
+        reply
     }
 
     fn check(list: &[u8], table: &[u32]) -> Reply {
@@ -121,4 +122,13 @@ fn a_change_of_one_call_is_seen() {
     assert_ne!(right, outcome::<Changed<4>>(&case, &[1], &[100]));
     assert_ne!(right, outcome::<Changed<5>>(&case, &[1], &[100]));
     assert_eq!(right, outcome::<Changed<6>>(&case, &[1], &[100]));
+}
+
+#[test]
+fn zeros_written_by_a_refused_read_are_seen() {
+    let case = Case::about(text("field 32;in"));
+    let right = outcome::<Reference>(&case, &[], &[]);
+    assert_eq!(right.read, (5, 0));
+    assert_eq!(outcome::<Changed<7>>(&case, &[], &[]).differing(&right), ["read"]);
+    assert_eq!(outcome::<Proved>(&case, &[], &[]), right);
 }

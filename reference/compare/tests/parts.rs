@@ -43,8 +43,8 @@ impl<const WAY: usize> Service for Wrong<WAY> {
         }
     }
 
-    fn read(list: &[u8]) -> Result<Counts, Reply> {
-        Reference::read(list)
+    fn read(list: &[u8], counts: &mut Counts) -> Reply {
+        Reference::read(list, counts)
     }
 
     fn make(list: &[u8], inputs: &[i64], table: &mut [u32]) -> Reply {

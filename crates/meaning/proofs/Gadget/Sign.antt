@@ -28,7 +28,7 @@ use Rattle.meaning.specs.Known.{Known, Ends, topPart, digitRule, Within,
 use Rattle.meaning.specs.Gadget.Interface.{Gadget}
 use Rattle.meaning.specs.Gadget.Sign.{signShift, signStatement, flagRows, signRows, signTop, signCells}
 use Rattle.meaning.proofs.Number.{positive}
-use Rattle.meaning.specs.Row.{Form, cell, constant, _⊖_, _⊗_, eval, Row, _≅_, holds, group}
+use Rattle.meaning.specs.Row.{Form, cell, constant, _⊖_, eval, Row, holds, group}
 use Rattle.meaning.specs.Gadget.Digits.{groupCells}
 use Rattle.meaning.proofs.Order.{between-iff}
 use Rattle.meaning.proofs.Cells.{cellsAt, cons-iff, append-iff, cellsAt-zero}

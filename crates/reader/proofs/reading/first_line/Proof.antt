@@ -2,7 +2,6 @@
 use mathlib.Core.Path.{sym, ap, _∙_}
 use Prim.Native.Nat.{ℕ}
 use Rattle.meaning.specs.Number.{oddPrime}
-use Rattle.reader.specs.State.{greatest}
 use Rattle.reader.specs.Step.{goes}
 use native.Mathlib.Omega.{arith}
 use denote.Ref.{now}

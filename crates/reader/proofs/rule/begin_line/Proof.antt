@@ -6,7 +6,7 @@ use native.Mathlib.Nat.{mul-le-mul}
 use lib.IntN.{pos}
 use lib.ListN.{getD}
 use borrow.Author.Tests.{not-true, not-false}
-use Rattle.reader.specs.Rule.{earlyBroken, begun, begunUnless}
+use Rattle.reader.specs.Rule.{begun, begunUnless}
 use Rattle.reader.proofs.Tests.{and-false}
 use Rattle.reader.proofs.Digits.{Read, digits-read, digits-none}
 use Rattle.reader.proofs.Rules.{begun-stops}

@@ -6,7 +6,6 @@ use lib.ListN.{getD}
 use mir.Syntax.{w64}
 use mir.Val.{SFits}
 use Rattle.number.proofs.Word.{back}
-use Rattle.reader.specs.State.{greatest}
 use Rattle.reader.specs.Told.{madeSeen}
 use Rattle.reader.specs.declared.rule.Begun.the-variants.{Digits}
 use Rattle.reader.proofs.Values.{read-sized, sized-more, ready-field, ready-lows, ready-highs}

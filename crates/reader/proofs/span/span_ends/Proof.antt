@@ -6,7 +6,6 @@ use Rattle.meaning.specs.Known.{digitRule}
 use Rattle.meaning.specs.Gadget.Span.{spanTop, shared}
 use Rattle.number.proofs.Word.{back}
 use Rattle.number.proofs.CappedPower.{above-capped}
-use Rattle.reader.specs.State.{greatest}
 use Rattle.reader.specs.Told.{madeSeen}
 use Rattle.reader.specs.Rule.{endsSeen}
 use Rattle.reader.proofs.Digits.{Power, power-read, rule-above, rule-within}

@@ -3,7 +3,6 @@ use mathlib.Core.Path.{refl, _∙_}
 use native.Mathlib.Omega.{arith}
 use denote.Ref.{now}
 use Rattle.text.proofs.Answers.{no-line-seen, line-seen, line-most, line-counted, line-small}
-use Rattle.reader.specs.State.{greatest}
 use Rattle.reader.specs.Step.{untouched, valuesIn, stepSeen}
 use Rattle.reader.proofs.Steps.{no-line-step, line-step}
 use borrow.Author.Needs.{needs}

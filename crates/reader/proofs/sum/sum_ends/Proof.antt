@@ -13,7 +13,6 @@ use Rattle.meaning.specs.Known.{ends}
 use Rattle.meaning.specs.Refusal.{all, isMade}
 use Rattle.meaning.specs.Gadget.Sum.{termsOf, scaled, added, endsInRange}
 use Rattle.number.proofs.Word.{back}
-use Rattle.reader.specs.State.{greatest}
 use Rattle.reader.specs.Told.{madeSeen}
 use Rattle.reader.specs.Rule.{endsSeen}
 use Rattle.reader.specs.Sum.{endsAt, sumTold}

@@ -1,6 +1,5 @@
 -- `table::group::power_of`: the cap is not passed.
 use mathlib.Core.Path.{sym, _∙_}
-use Prim.Native.Nat.{_^_}
 use native.Mathlib.Omega.{arith}
 use Rattle.number.proofs.CappedPower.{of-capped, above-capped}
 use borrow.Author.Needs.{needs}

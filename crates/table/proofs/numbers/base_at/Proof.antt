@@ -6,7 +6,6 @@ use mir.Syntax.{w64}
 use mir.Val.{SFits}
 use native.Mathlib.Omega.{arith}
 use Rattle.number.proofs.Word.{back}
-use Rattle.reader.specs.State.{greatest}
 use Rattle.table.proofs.Whole.{cast-narrow}
 use Rattle.table.proofs.numbers.base_at.Statement.{statement}
 use Rattle.table.proofs.numbers.base_at.Tie as tie

@@ -1,6 +1,6 @@
 -- `table::root::root_value`: the root of the size of v, which is at most that size.
 use mathlib.Core.Path.{_≡_, ap, _∙_}
-use Prim.Native.Nat.{_^_, _≤_}
+use Prim.Native.Nat.{_≤_}
 use native.Mathlib.Omega.{arith}
 use lib.Dec.{lit≤}
 use lib.IntN.{pos, natAbs}

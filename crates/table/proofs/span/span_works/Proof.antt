@@ -1,6 +1,6 @@
 -- `table::span::span_works`: c - 1 is below 2 ^ 31, so the top fits, and `within` tests the definition's range.
 use mathlib.Core.Path.{ap, _∙_}
-use Prim.Native.Nat.{_-_, _^_}
+use Prim.Native.Nat.{_-_}
 use native.Mathlib.Omega.{arith}
 use lib.IntN.{pos, _+ℤ_}
 use Rattle.meaning.specs.Number.{between}

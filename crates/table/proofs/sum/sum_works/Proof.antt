@@ -1,7 +1,7 @@
 -- `table::sum::sum_works`: before each term, `Summing` holds of the total, and `Turn` says that the term's value is made and that
 -- nothing overflows.
 use mathlib.Core.Path.{_≡_, ap}
-use Prim.Native.Nat.{ℕ, _-_, _^_}
+use Prim.Native.Nat.{ℕ, _-_}
 use native.Mathlib.Omega.{arith}
 use lib.IntN.{ℤ, pos, _*ℤ_}
 use lib.ListN.{getD}
