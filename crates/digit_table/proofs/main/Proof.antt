@@ -4,45 +4,35 @@ use borrow.Author.Needs.{needs}
 use Rattle.digit_table.proofs.main.Statement.{statement}
 use Rattle.digit_table.proofs.main.Tie as tie
 
--- src/main.rt:11:44
 slice-aggregate-read-full : tie.Need-slice-aggregate-read-full
 slice-aggregate-read-full c = search needs
 
--- src/main.rt:11:9
 read-full-requires : tie.Need-read-full-requires
 read-full-requires c κs = search needs
 
--- src/main.rt:12:27
 array-share-prefix-input : tie.Need-array-share-prefix-input
 array-share-prefix-input c = search needs
 
--- src/main.rt:12:27
 slice-aggregate-respond : tie.Need-slice-aggregate-respond
 slice-aggregate-respond c = search needs
 
--- src/main.rt:12:43
 slice-aggregate-respond-2 : tie.Need-slice-aggregate-respond-2
 slice-aggregate-respond-2 c = search needs
 
--- src/main.rt:12:9
 respond-requires : tie.Need-respond-requires
 respond-requires c κs = search needs
 
--- src/main.rt:13:34
 array-share-prefix-output : tie.Need-array-share-prefix-output
 array-share-prefix-output c =
     let inside = written-within (c .before .respond .ensures) in
     search (needs, inside)
 
--- src/main.rt:13:34
 slice-aggregate-write-all : tie.Need-slice-aggregate-write-all
 slice-aggregate-write-all c = written-count (c .before .before .respond .ensures) (c .before .output2 .given)
 
--- src/main.rt:13:5
 write-all-requires : tie.Need-write-all-requires
 write-all-requires c κs = search needs
 
--- src/main.rt:8:1
 returns : tie.Need-returns
 returns c = search needs
 

@@ -4,29 +4,23 @@ use borrow.Author.Needs.{needs}
 use Rattle.stored_answers.proofs.print_answer.Statement.{statement}
 use Rattle.stored_answers.proofs.print_answer.Tie as tie
 
--- src/main.rt:8:34
 slice-aggregate-respond : tie.Need-slice-aggregate-respond
 slice-aggregate-respond c = search needs
 
--- src/main.rt:8:9
 respond-requires : tie.Need-respond-requires
 respond-requires c κs = search needs
 
--- src/main.rt:9:34
 array-share-prefix-output : tie.Need-array-share-prefix-output
 array-share-prefix-output c =
     let inside = written-within (c .before .respond .ensures) in
     search (needs, inside)
 
--- src/main.rt:9:34
 slice-aggregate-write-all : tie.Need-slice-aggregate-write-all
 slice-aggregate-write-all c = written-count (c .before .before .respond .ensures) (c .before .output2 .given)
 
--- src/main.rt:9:5
 write-all-requires : tie.Need-write-all-requires
 write-all-requires c κs = search needs
 
--- src/main.rt:6:1
 returns : tie.Need-returns
 returns c = search needs
 

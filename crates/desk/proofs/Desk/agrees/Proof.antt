@@ -3,13 +3,11 @@ use Rattle.desk.proofs.Calling.{agree-exactly, disagree}
 use Rattle.desk.proofs.Desk.agrees.Statement.{statement}
 use Rattle.desk.proofs.Desk.agrees.Tie as tie
 
--- src/lib.rt:75:5
 returns : tie.Need-returns
 returns c =
     let d = c .before .before .before .before .args .self in
     agree-exactly (d .heard) (d .accepted) (d .refused) (c .before .before .if1 .taken)
 
--- src/lib.rt:75:5
 returns-2 : tie.Need-returns-2
 returns-2 c =
     let d = c .before .before .args .self in

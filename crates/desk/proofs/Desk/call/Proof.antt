@@ -8,26 +8,21 @@ use Rattle.desk.proofs.Calling.{tested-agrees, call-disagrees, call-ful
 use Rattle.desk.proofs.Desk.call.Statement.{statement}
 use Rattle.desk.proofs.Desk.call.Tie as tie
 
--- src/lib.rt:45:13
 agrees-requires : tie.Need-agrees-requires
 agrees-requires c κs = search needs
 
--- src/lib.rt:48:13
 refusal-requires : tie.Need-refusal-requires
 refusal-requires c κs = search needs
 
--- src/lib.rt:48:13
 returns : tie.Need-returns
 returns c =
     let S = c .before .before .before .before .before .before in
     let disagrees = call-disagrees (S .args .self) _ (c .before .before .before .agrees .ensures) (now (S .args .list)) (now (S .args .table)) (c .before .if1 .taken) in
     in-plain-words (S .args .self) _ _ _ (c .refusal .ensures ∙ sym disagrees)
 
--- src/lib.rt:51:13
 refusal-requires-2 : tie.Need-refusal-requires-2
 refusal-requires-2 c κs = search needs
 
--- src/lib.rt:51:13
 returns-2 : tie.Need-returns-2
 unfolding fullCount
 returns-2 c =
@@ -36,11 +31,9 @@ returns-2 c =
     let full = call-full (S .args .self) (now (S .args .list)) (now (S .args .table)) agrees (eqb-true (S .args .self .heard) fullCount (c .before .if2 .taken)) in
     in-plain-words (S .args .self) _ _ _ (c .refusal2 .ensures ∙ sym full)
 
--- src/lib.rt:53:13
 check-requires : tie.Need-check-requires
 check-requires c κs = search needs
 
--- src/lib.rt:54:13
 raised-requires : tie.Need-raised-requires
 unfolding fullCount
 raised-requires c κs =
@@ -48,7 +41,6 @@ raised-requires c κs =
     let agrees = tested-agrees (S .args .self) _ (c .before .before .before .before .agrees .ensures) (c .before .before .if1 .left) in
     (agrees, eqb-false (S .args .self .heard) fullCount (c .before .if2 .left))
 
--- src/lib.rt:41:5
 returns-3 : tie.Need-returns-3
 unfolding fullCount
 returns-3 c =

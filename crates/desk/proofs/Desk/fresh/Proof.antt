@@ -5,7 +5,6 @@ use Rattle.desk.specs.Desk.{deskSeen}
 use Rattle.desk.proofs.Desk.fresh.Statement.{statement}
 use Rattle.desk.proofs.Desk.fresh.Tie as tie
 
--- src/lib.rt:30:5
 returns : tie.Need-returns
 unfolding deskSeen freshDesk
 returns c = refl

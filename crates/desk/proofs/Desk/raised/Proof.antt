@@ -6,29 +6,24 @@ use Rattle.desk.proofs.Calling.{raise-accepted, raise-refused}
 use Rattle.desk.proofs.Desk.raised.Statement.{statement}
 use Rattle.desk.proofs.Desk.raised.Tie as tie
 
--- src/lib.rt:86:21
 add-heard : tie.Need-add-heard
 unfolding fullCount
 add-heard c = search needs
 
--- src/lib.rt:87:24
 add-accepted : tie.Need-add-accepted
 unfolding fullCount
 add-accepted c = search needs
 
--- src/lib.rt:88:23
 add-refused : tie.Need-add-refused
 unfolding fullCount
 add-refused c = search needs
 
--- src/lib.rt:82:5
 returns : tie.Need-returns
 unfolding deskSeen
 returns c =
     let S = c .before .before .before .before .before in
     raise-accepted (S .args .self) (S .args .reply) (c .if1 .taken)
 
--- src/lib.rt:82:5
 returns-2 : tie.Need-returns-2
 unfolding deskSeen
 returns-2 c =

@@ -5,7 +5,6 @@ use Rattle.desk.specs.Desk.{calledSeen}
 use Rattle.desk.proofs.Desk.refusal.Statement.{statement}
 use Rattle.desk.proofs.Desk.refusal.Tie as tie
 
--- src/lib.rt:62:5
 returns : tie.Need-returns
 unfolding calledSeen replySeen
 returns c = refl

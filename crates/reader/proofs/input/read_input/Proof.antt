@@ -9,28 +9,22 @@ use borrow.Author.Needs.{needs}
 use Rattle.reader.proofs.input.read_input.Statement.{statement}
 use Rattle.reader.proofs.input.read_input.Tie as tie
 
--- src/input.rt:16:9
 early-broken-requires : tie.Need-early-broken-requires
 early-broken-requires c κs = search needs
 
--- src/input.rt:18:9
 returns : tie.Need-returns
 unfolding madeSeen
 returns c = λ s seen. sym (input-early (c .before .before .pre) seen (c .before .early-broken .ensures) (c .if1 .taken))
 
--- src/input.rt:20:18
 sub-half : tie.Need-sub-half
 sub-half c = search needs
 
--- src/input.rt:20:16
 cast-half : tie.Need-cast-half
 cast-half c = search needs
 
--- src/input.rt:21:18
 sub-t11 : tie.Need-sub-t11
 sub-t11 c = let S = c .before .before in rw (small ((S .args .p - 1) / 2) (half-small (S .pre))) (half-fits (S .pre))
 
--- src/input.rt:11:1
 returns-2 : tie.Need-returns-2
 unfolding madeSeen
 returns-2 c = λ s seen.

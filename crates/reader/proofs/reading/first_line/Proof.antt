@@ -14,23 +14,18 @@ use borrow.Author.Needs.{needs}
 use Rattle.reader.proofs.reading.first_line.Statement.{statement}
 use Rattle.reader.proofs.reading.first_line.Tie as tie
 
--- src/reading.rt:54:33
 line-of-requires : tie.Need-line-of-requires
 line-of-requires c κs = search needs
 
--- src/reading.rt:54:22
 enum-known-word : tie.Need-enum-known-word
 enum-known-word c = search needs
 
--- src/reading.rt:55:9
 enum-told : tie.Need-enum-told
 enum-told c = search needs
 
--- src/reading.rt:55:9
 same-length : tie.Need-same-length
 same-length c = search needs
 
--- src/reading.rt:55:9
 returns : tie.Need-returns
 unfolding firstSeen primeIn
 returns c = (
@@ -38,15 +33,12 @@ returns c = (
   (omega arith, c .before .before .before .line-of .ensures .kept),
 )
 
--- src/reading.rt:57:9
 is-field-requires : tie.Need-is-field-requires
 is-field-requires c κs = search needs
 
--- src/reading.rt:58:9
 same-length-2 : tie.Need-same-length-2
 same-length-2 c = search needs
 
--- src/reading.rt:58:9
 returns-2 : tie.Need-returns-2
 unfolding firstSeen primeIn
 returns-2 c = (
@@ -54,15 +46,12 @@ returns-2 c = (
   (omega arith, c .before .before .before .before .before .before .line-of .ensures .kept),
 )
 
--- src/reading.rt:60:13
 slice-copy-out-n : tie.Need-slice-copy-out-n
 slice-copy-out-n c = search needs
 
--- src/reading.rt:62:9
 same-length-3 : tie.Need-same-length-3
 same-length-3 c = search needs
 
--- src/reading.rt:62:9
 returns-3 : tie.Need-returns-3
 unfolding firstSeen primeIn
 returns-3 c = (
@@ -70,21 +59,17 @@ returns-3 c = (
   (omega arith, c .before .before .before .before .before .before .before .before .line-of .ensures .kept),
 )
 
--- src/reading.rt:64:13
 cast-p : tie.Need-cast-p
 cast-p c =
     let f = (sym (c .before .before .before .is-field .ensures) ∙ not-false _ (c .before .before .if1 .left)) in
     rw (back (first-fits (now (c .before .before .before .before .before .before .before .before .before .before .before .args .line)) (c .before .before .before .before .before .before .before .before .line-of .ensures) (c .before .before .before .before .before .word .given .1) (c .before .before .before .before .before .before .before .before .before .before .before .pre) f), first-is (now (c .before .before .before .before .before .before .before .before .before .before .before .args .line)) (c .before .before .before .before .before .before .before .before .line-of .ensures) (c .before .before .before .before .before .word .given .1) (c .before .before .before .before .before .before .before .before .before .before .before .pre) f (c .if2 .left)) (tt, record { fits = omega (arith, first-size (now (c .before .before .before .before .before .before .before .before .before .before .before .args .line)) (c .before .before .before .before .before .before .before .before .line-of .ensures) (c .before .before .before .before .before .word .given .1) (c .before .before .before .before .before .before .before .before .before .before .before .pre) f (c .if2 .left)) })
 
--- src/reading.rt:65:9
 is-odd-prime-requires : tie.Need-is-odd-prime-requires
 is-odd-prime-requires c κs = search needs
 
--- src/reading.rt:66:9
 same-length-4 : tie.Need-same-length-4
 same-length-4 c = search needs
 
--- src/reading.rt:66:9
 returns-4 : tie.Need-returns-4
 unfolding firstSeen primeIn
 returns-4 c =
@@ -95,11 +80,9 @@ returns-4 c =
       (omega arith, c .before .before .before .before .before .before .before .before .before .before .line-of .ensures .kept),
     )
 
--- src/reading.rt:48:1
 same-length-5 : tie.Need-same-length-5
 same-length-5 c = search needs
 
--- src/reading.rt:48:1
 returns-5 : tie.Need-returns-5
 unfolding firstSeen primeIn
 returns-5 c =

@@ -5,74 +5,58 @@ use borrow.Author.Needs.{needs}
 use Rattle.reader.proofs.reading.is_field.Statement.{statement}
 use Rattle.reader.proofs.reading.is_field.Tie as tie
 
--- src/reading.rt:37:24
 enum-told : tie.Need-enum-told
 enum-told c = search needs
 
--- src/reading.rt:38:21
 enum-told-2 : tie.Need-enum-told-2
 enum-told-2 c = search needs
 
--- src/reading.rt:39:23
 enum-told-3 : tie.Need-enum-told-3
 enum-told-3 c = search needs
 
--- src/reading.rt:40:22
 enum-told-4 : tie.Need-enum-told-4
 enum-told-4 c = search needs
 
--- src/reading.rt:41:23
 enum-told-5 : tie.Need-enum-told-5
 enum-told-5 c = search needs
 
--- src/reading.rt:42:24
 enum-told-6 : tie.Need-enum-told-6
 enum-told-6 c = search needs
 
--- src/reading.rt:43:22
 enum-told-7 : tie.Need-enum-told-7
 enum-told-7 c = search needs
 
--- src/reading.rt:44:23
 enum-told-8 : tie.Need-enum-told-8
 enum-told-8 c = search needs
 
--- src/reading.rt:33:1
 returns : tie.Need-returns
 unfolding isField wordOf
 returns c = rw (c .enum-told .given .1)
 
--- src/reading.rt:33:1
 returns-2 : tie.Need-returns-2
 unfolding isField wordOf
 returns-2 c = rw (c .enum-told2 .given .1)
 
--- src/reading.rt:33:1
 returns-3 : tie.Need-returns-3
 unfolding isField wordOf
 returns-3 c = rw (c .enum-told3 .given .1)
 
--- src/reading.rt:33:1
 returns-4 : tie.Need-returns-4
 unfolding isField wordOf
 returns-4 c = rw (c .enum-told4 .given .1)
 
--- src/reading.rt:33:1
 returns-5 : tie.Need-returns-5
 unfolding isField wordOf
 returns-5 c = rw (c .enum-told5 .given .1)
 
--- src/reading.rt:33:1
 returns-6 : tie.Need-returns-6
 unfolding isField wordOf
 returns-6 c = rw (c .enum-told6 .given .1)
 
--- src/reading.rt:33:1
 returns-7 : tie.Need-returns-7
 unfolding isField wordOf
 returns-7 c = rw (c .enum-told7 .given .1)
 
--- src/reading.rt:33:1
 returns-8 : tie.Need-returns-8
 unfolding isField wordOf
 returns-8 c = rw (c .enum-told8 .given .1)

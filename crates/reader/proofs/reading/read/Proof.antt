@@ -10,15 +10,12 @@ use borrow.Author.Needs.{needs}
 use Rattle.reader.proofs.reading.read.Statement.{statement}
 use Rattle.reader.proofs.reading.read.Tie as tie
 
--- src/reading.rt:86:9
 survey-requires : tie.Need-survey-requires
 survey-requires c κs = search needs
 
--- src/reading.rt:88:27
 enum-known-found : tie.Need-enum-known-found
 enum-known-found c = search needs
 
--- src/reading.rt:89:27
 enum-known-found-2 : tie.Need-enum-known-found-2
 enum-known-found-2 c = search needs
 

@@ -9,59 +9,46 @@ use borrow.Author.Needs.{needs}
 use Rattle.reader.proofs.reading.survey.Statement.{statement}
 use Rattle.reader.proofs.reading.survey.Tie as tie
 
--- src/reading.rt:79:9
 returns : tie.Need-returns
 unfolding surveySeen PrimeFound
 returns c =
     (survey-too-long (now (c .before .before .args .list)) (c .if1 .taken), tt)
 
--- src/reading.rt:81:9
 is-ended-requires : tie.Need-is-ended-requires
 is-ended-requires c κs = search needs
 
--- src/reading.rt:82:9
 returns-2 : tie.Need-returns-2
 unfolding surveySeen PrimeFound
 returns-2 c =
     (survey-not-ended (now (c .before .before .before .before .args .list)) (c .before .before .if1 .left) (sym (c .before .is-ended .ensures) ∙ not-true _ (c .if2 .taken)), tt)
 
--- src/reading.rt:85:9
 line-end-requires : tie.Need-line-end-requires
 line-end-requires c κs = search needs
 
--- src/reading.rt:86:28
 sub-first-line : tie.Need-sub-first-line
 sub-first-line c = search needs
 
--- src/reading.rt:86:28
 part-first-line-start : tie.Need-part-first-line-start
 part-first-line-start c = search needs
 
--- src/reading.rt:86:28
 part-first-line-end : tie.Need-part-first-line-end
 part-first-line-end c = search needs
 
--- src/reading.rt:86:43
 slice-aggregate-first-line : tie.Need-slice-aggregate-first-line
 slice-aggregate-first-line c = search needs
 
--- src/reading.rt:86:9
 first-line-requires : tie.Need-first-line-requires
 first-line-requires c κs = search needs
 
--- src/reading.rt:88:25
 enum-known-first : tie.Need-enum-known-first
 enum-known-first c = search needs
 
--- src/reading.rt:89:22
 enum-known-first-2 : tie.Need-enum-known-first-2
 enum-known-first-2 c = search needs
 
--- src/reading.rt:89:44
 add-survey-from : tie.Need-add-survey-from
 add-survey-from c = search needs
 
--- src/reading.rt:89:28
 survey-from-requires : tie.Need-survey-from-requires
 unfolding primeIn
 survey-from-requires c κs =
@@ -74,7 +61,6 @@ survey-from-requires c κs =
     let within = first-within text short ended found in
     (ended, omega arith, omega (arith, within), first-is-prime text short ended found _ (told .0) _ (prime .1), rw (prime .1) at (told .1 .0))
 
--- src/reading.rt:75:1
 returns-3 : tie.Need-returns-3
 unfolding surveySeen PrimeFound
 returns-3 c =
@@ -85,7 +71,6 @@ returns-3 c =
     let told = c .before .before .before .before .first-line .ensures in
     (first-stopped text short ended found _ (told .0) _ (c .before .first .given .1), tt)
 
--- src/reading.rt:75:1
 returns-4 : tie.Need-returns-4
 returns-4 c =
     let text = now (c .before .before .before .before .before .before .before .before .before .before .before .before .before .args .list) in

@@ -17,56 +17,44 @@ abbrev μ-loop : tie.MeasureT-loop
 μ-loop list start p numbers₀ lows₀ highs₀ places₀ counts₀ at₀ n₀ numbers lows highs places counts at n =
     length list - at
 
--- src/reading.rt:107:5
 loop-holds : tie.Need-loop-holds Inv-loop μ-loop
 loop-holds c =
     let S = c .before in
     walk-start (now (S .args .list)) (S .args .start) (S .args .p) _ _ _ _ (S .pre .1) (S .pre .2) (S .pre .3) refl refl refl refl
 
--- src/reading.rt:108:13
 line-end-requires : tie.Need-line-end-requires Inv-loop μ-loop
 line-end-requires c κs = search needs
 
--- src/reading.rt:110:13
 sub-step-line : tie.Need-sub-step-line Inv-loop μ-loop
 sub-step-line c = search needs
 
--- src/reading.rt:110:13
 part-step-line-start : tie.Need-part-step-line-start Inv-loop μ-loop
 part-step-line-start c = search needs
 
--- src/reading.rt:110:13
 part-step-line-end : tie.Need-part-step-line-end Inv-loop μ-loop
 part-step-line-end c = search needs
 
--- src/reading.rt:111:13
 slice-aggregate-step-line : tie.Need-slice-aggregate-step-line Inv-loop μ-loop
 slice-aggregate-step-line c = search needs
 
--- src/reading.rt:114:13
 slice-aggregate-step-line-2 : tie.Need-slice-aggregate-step-line-2 Inv-loop μ-loop
 slice-aggregate-step-line-2 c = search needs
 
--- src/reading.rt:115:13
 slice-aggregate-step-line-3 : tie.Need-slice-aggregate-step-line-3 Inv-loop μ-loop
 slice-aggregate-step-line-3 c = search needs
 
--- src/reading.rt:116:13
 slice-aggregate-step-line-4 : tie.Need-slice-aggregate-step-line-4 Inv-loop μ-loop
 slice-aggregate-step-line-4 c = search needs
 
--- src/reading.rt:109:13
 step-line-requires : tie.Need-step-line-requires Inv-loop μ-loop
 step-line-requires c κs =
     let S = c .before .before .before .before .before .before .before .before .before in
     let w = c .before .before .before .before .before .before .before .loop .inv in
     (walk-ready (S .args .p) _ _ _ _ (w .sized) _ (w .later) (S .pre .4) (w .sound) (w .ordered), w .sized, w .numbers-long)
 
--- src/reading.rt:119:30
 enum-known-stepped : tie.Need-enum-known-stepped Inv-loop μ-loop
 enum-known-stepped c = search needs
 
--- src/reading.rt:120:17
 returns : tie.Need-returns Inv-loop μ-loop
 unfolding surveySeen PrimeFound
 returns c =
@@ -77,23 +65,18 @@ returns c =
       tt,
     )
 
--- src/reading.rt:122:27
 enum-known-stepped-2 : tie.Need-enum-known-stepped-2 Inv-loop μ-loop
 enum-known-stepped-2 c = search needs
 
--- src/reading.rt:126:14
 add-at : tie.Need-add-at Inv-loop μ-loop
 add-at c = search needs
 
--- src/reading.rt:127:9
 add-n : tie.Need-add-n Inv-loop μ-loop
 add-n c = search needs
 
--- src/reading.rt:107:5
 loop-less : tie.Need-loop-less Inv-loop μ-loop
 loop-less c = search needs
 
--- src/reading.rt:107:5
 loop-again : tie.Need-loop-again Inv-loop μ-loop
 loop-again c =
     let S = c .before .before .before .before .before .before .before .before .before .before .before .before .before .before .before .before .before in
@@ -103,7 +86,6 @@ loop-again c =
     walk-next w (S .pre .0) (c .before .before .before .before .before .before .before .before .before .before .before .before .before .before .loop-test .taken) (c .before .before .before .before .before .before .before .before .before .before .before .before .before .line-end .ensures)
     _ (c .before .stepped2 .given .0 .0) _ _ _ _ is (stepped .0 _ refl) (stepped .1 .0) (stepped .1 .1) (stepped .1 .2 .long) (stepped .1 .3 .long) (stepped .1 .4 .long)
 
--- src/reading.rt:94:1
 returns-2 : tie.Need-returns-2 Inv-loop μ-loop
 unfolding surveySeen PrimeFound
 returns-2 c = (walk-end (c .before .loop .inv) (c .loop-test .left), (c .before .before .before .pre .3, c .before .before .before .pre .4))

@@ -9,7 +9,6 @@ use borrow.Author.Needs.{needs}
 use Rattle.reader.proofs.rule.apart.Statement.{statement}
 use Rattle.reader.proofs.rule.apart.Tie as tie
 
--- src/rule.rt:143:9
 whole-difference-requires : tie.Need-whole-difference-requires
 whole-difference-requires c κs =
     let S = c .before .before in
@@ -17,7 +16,6 @@ whole-difference-requires c κs =
     let g : SFits w64 (S .args .v .high) = search needs in
     rw (back f, back g) (difference-fits (S .args .u .low) (S .args .v .high) (S .pre .0 .low-sized) (S .pre .1 .high-sized) tt)
 
--- src/rule.rt:144:9
 whole-difference-requires-2 : tie.Need-whole-difference-requires-2
 whole-difference-requires-2 c κs =
     let S = c .before .before .before .before .before in
@@ -25,7 +23,6 @@ whole-difference-requires-2 c κs =
     let g : SFits w64 (S .args .v .low) = search needs in
     rw (back f, back g) (difference-fits (S .args .u .high) (S .args .v .low) (S .pre .0 .high-sized) (S .pre .1 .low-sized) tt)
 
--- src/rule.rt:139:1
 returns : tie.Need-returns
 returns c =
     let S = c .before .before .before .before .before .before .before .before in

@@ -4,7 +4,6 @@ use Rattle.reader.specs.Size.{counted}
 use Rattle.reader.proofs.size.counts_of.Statement.{statement}
 use Rattle.reader.proofs.size.counts_of.Tie as tie
 
--- src/size.rt:36:1
 returns : tie.Need-returns
 unfolding counted
 returns c = refl

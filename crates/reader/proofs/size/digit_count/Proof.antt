@@ -12,11 +12,9 @@ use Rattle.reader.proofs.size.digit_count.Tie as tie
 fits : (c : tie.Start) → SFits w64 (c .args .k)
 fits c = search needs
 
--- src/size.rt:42:9
 natural-requires : tie.Need-natural-requires
 natural-requires c κs = search needs
 
--- src/size.rt:39:1
 returns : tie.Need-returns
 returns c = (
   omega arith,
@@ -26,7 +24,6 @@ returns c = (
       absurd (omega (linear, c .if1 .taken, is, natAbs-parts k, negativePart-zero k (omega linear))),
 )
 
--- src/size.rt:39:1
 returns-2 : tie.Need-returns-2
 returns-2 c = (omega (arith, c .if1 .left), λ l h. (rw (back (fits (c .before .before))) at (c .before .natural .ensures)) (omega linear))
 

@@ -11,18 +11,15 @@ use Rattle.reader.proofs.size.natural.Tie as tie
 fits : (c : tie.Start) → SFits w64 (c .args .z)
 fits c = search needs
 
--- src/size.rt:33:9
 returns : tie.Need-returns
 returns c = λ h. let n = negative (fits (c .before)) (c .if1 .taken) in absurd (omega (linear, n .0, n .1))
 
--- src/size.rt:35:5
 cast-result : tie.Need-cast-result
 cast-result c =
     let s = c .before in
     let is = not-negative (fits s) (c .if1 .left) in
     rw (back (fits s), is) (tt, record { fits = omega (arith, fits s .sfits) })
 
--- src/size.rt:29:1
 returns-2 : tie.Need-returns-2
 returns-2 c = search needs
 

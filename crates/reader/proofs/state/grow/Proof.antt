@@ -19,55 +19,42 @@ low-fits c = search needs
 high-fits : (c : lts.After-known-told2 reads.Pre reads.Post) → SFits w64 (c .before .made2 .given .0 .1 .0)
 high-fits c = search needs
 
--- src/state.rt:47:22
 enum-known-made : tie.Need-enum-known-made
 enum-known-made c = search needs
 
--- src/state.rt:48:22
 enum-known-made-2 : tie.Need-enum-known-made-2
 enum-known-made-2 c = search needs
 
--- src/state.rt:50:13
 mul-low : tie.Need-mul-low
 mul-low c = search needs
 
--- src/state.rt:50:13
 slice-set-from-low : tie.Need-slice-set-from-low
 slice-set-from-low c = let S = c .before .before .before in omega (arith, S .pre .2 _ _ (c .before .made2 .given .1), S .pre .0 .lows-long)
 
--- src/state.rt:51:13
 mul-high : tie.Need-mul-high
 mul-high c = search needs
 
--- src/state.rt:51:13
 slice-set-from-high : tie.Need-slice-set-from-high
 slice-set-from-high c = let S = c .before .before .before in omega (arith, S .pre .2 _ _ (c .before .made2 .given .1), S .pre .0 .highs-long)
 
--- src/state.rt:52:13
 mul-places : tie.Need-mul-places
 mul-places c = search needs
 
--- src/state.rt:52:13
 slice-write-places : tie.Need-slice-write-places
 slice-write-places c = let S = c .before .before .before in omega (arith, S .pre .2 _ _ (c .before .made2 .given .1), S .pre .0 .places-long)
 
--- src/state.rt:54:25
 add-t12 : tie.Need-add-t12
 add-t12 c = search needs
 
--- src/state.rt:55:25
 add-t16 : tie.Need-add-t16
 add-t16 c = search needs
 
--- src/state.rt:56:24
 add-t17 : tie.Need-add-t17
 add-t17 c = search needs
 
--- src/state.rt:57:23
 add-t18 : tie.Need-add-t18
 add-t18 c = search needs
 
--- src/state.rt:31:1
 returns : tie.Need-returns
 unfolding valuesIn answered entered counted
 returns c =
@@ -78,19 +65,15 @@ returns c =
       (omega arith, rw (c .before .made .given .1), rw (c .before .made .given .1), rw (c .before .made .given .1), rw (c .before .made .given .1)),
     )
 
--- src/state.rt:31:1
 same-length : tie.Need-same-length
 same-length c = search needs
 
--- src/state.rt:31:1
 same-length-2 : tie.Need-same-length-2
 same-length-2 c = search needs
 
--- src/state.rt:31:1
 same-length-3 : tie.Need-same-length-3
 same-length-3 c = search needs
 
--- src/state.rt:31:1
 returns-2 : tie.Need-returns-2
 unfolding valuesIn answered entered counted
 returns-2 c =

@@ -19,39 +19,30 @@ low-fits c = search needs
 high-fits : (c : lts.After-known-told2 reads.Pre reads.Post) → SFits w64 (c .before .made2 .given .0 .1 .0)
 high-fits c = search needs
 
--- src/state.rt:81:22
 enum-known-made : tie.Need-enum-known-made
 enum-known-made c = search needs
 
--- src/state.rt:82:22
 enum-known-made-2 : tie.Need-enum-known-made-2
 enum-known-made-2 c = search needs
 
--- src/state.rt:83:13
 mul-low : tie.Need-mul-low
 mul-low c = let S = c .before .before .before in record { fits = omega (arith, S .pre .2 _ _ (c .before .made2 .given .1)) }
 
--- src/state.rt:83:13
 slice-set-from-low : tie.Need-slice-set-from-low
 slice-set-from-low c = let S = c .before .before .before in omega (arith, S .pre .2 _ _ (c .before .made2 .given .1), S .pre .0 .lows-long)
 
--- src/state.rt:84:13
 mul-high : tie.Need-mul-high
 mul-high c = let S = c .before .before .before in record { fits = omega (arith, S .pre .2 _ _ (c .before .made2 .given .1)) }
 
--- src/state.rt:84:13
 slice-set-from-high : tie.Need-slice-set-from-high
 slice-set-from-high c = let S = c .before .before .before in omega (arith, S .pre .2 _ _ (c .before .made2 .given .1), S .pre .0 .highs-long)
 
--- src/state.rt:88:24
 add-t12 : tie.Need-add-t12
 add-t12 c = search needs
 
--- src/state.rt:89:23
 add-t15 : tie.Need-add-t15
 add-t15 c = search needs
 
--- src/state.rt:64:1
 returns : tie.Need-returns
 unfolding valuesIn answered entered counted
 returns c =
@@ -62,15 +53,12 @@ returns c =
       (omega arith, rw (c .before .made .given .1), rw (c .before .made .given .1), rw (c .before .made .given .1)),
     )
 
--- src/state.rt:64:1
 same-length : tie.Need-same-length
 same-length c = search needs
 
--- src/state.rt:64:1
 same-length-2 : tie.Need-same-length-2
 same-length-2 c = search needs
 
--- src/state.rt:64:1
 returns-2 : tie.Need-returns-2
 unfolding valuesIn answered entered counted
 returns-2 c =

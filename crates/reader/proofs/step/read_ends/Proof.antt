@@ -11,23 +11,18 @@ use borrow.Author.Needs.{needs}
 use Rattle.reader.proofs.step.read_ends.Statement.{statement}
 use Rattle.reader.proofs.step.read_ends.Tie as tie
 
--- src/step.rt:48:24
 enum-told : tie.Need-enum-told
 enum-told c = search needs
 
--- src/step.rt:49:21
 enum-told-2 : tie.Need-enum-told-2
 enum-told-2 c = search needs
 
--- src/step.rt:49:21
 read-input-requires : tie.Need-read-input-requires
 read-input-requires c κs = search needs
 
--- src/step.rt:50:23
 enum-told-3 : tie.Need-enum-told-3
 enum-told-3 c = search needs
 
--- src/step.rt:50:23
 read-span-requires : tie.Need-read-span-requires
 unfolding isCount wordOf
 read-span-requires c κs =
@@ -35,21 +30,17 @@ read-span-requires c κs =
     let counted = count-is 4 (S .args .count) (c .enum-told3 .given .1) refl (S .pre .2) in
     (S .pre .0, omega (arith, S .pre .1), fewer (now (S .args .numbers)) counted (S .pre .4))
 
--- src/step.rt:51:22
 enum-told-4 : tie.Need-enum-told-4
 enum-told-4 c = search needs
 
--- src/step.rt:51:22
 read-sum-requires : tie.Need-read-sum-requires
 read-sum-requires c κs =
     let S = c .before .before in
     (S .pre .0, omega (arith, S .pre .1, S .pre .3), S .pre .3, sum-count (c .enum-told4 .given .1) (S .args .count) (S .pre .2), S .pre .4)
 
--- src/step.rt:52:23
 enum-told-5 : tie.Need-enum-told-5
 enum-told-5 c = search needs
 
--- src/step.rt:52:23
 read-relu-requires : tie.Need-read-relu-requires
 unfolding isCount wordOf
 read-relu-requires c κs =
@@ -57,11 +48,9 @@ read-relu-requires c κs =
     let counted = count-is 3 (S .args .count) (c .enum-told5 .given .1) refl (S .pre .2) in
     (S .pre .0, omega (arith, S .pre .1), fewer (now (S .args .numbers)) counted (S .pre .4))
 
--- src/step.rt:53:24
 enum-told-6 : tie.Need-enum-told-6
 enum-told-6 c = search needs
 
--- src/step.rt:53:24
 read-which-requires : tie.Need-read-which-requires
 unfolding isCount wordOf
 read-which-requires c κs =
@@ -69,11 +58,9 @@ read-which-requires c κs =
     let counted = count-is 4 (S .args .count) (c .enum-told6 .given .1) refl (S .pre .2) in
     (S .pre .0, omega (arith, S .pre .1), fewer (now (S .args .numbers)) counted (S .pre .4))
 
--- src/step.rt:54:22
 enum-told-7 : tie.Need-enum-told-7
 enum-told-7 c = search needs
 
--- src/step.rt:54:22
 read-max-requires : tie.Need-read-max-requires
 unfolding isCount wordOf
 read-max-requires c κs =
@@ -81,11 +68,9 @@ read-max-requires c κs =
     let counted = count-is 4 (S .args .count) (c .enum-told7 .given .1) refl (S .pre .2) in
     (S .pre .0, omega (arith, S .pre .1), fewer (now (S .args .numbers)) counted (S .pre .4))
 
--- src/step.rt:55:23
 enum-told-8 : tie.Need-enum-told-8
 enum-told-8 c = search needs
 
--- src/step.rt:55:23
 read-root-requires : tie.Need-read-root-requires
 unfolding isCount wordOf
 read-root-requires c κs =
@@ -93,54 +78,46 @@ read-root-requires c κs =
     let counted = count-is 3 (S .args .count) (c .enum-told8 .given .1) refl (S .pre .2) in
     (S .pre .0, omega (arith, S .pre .1), fewer (now (S .args .numbers)) counted (S .pre .4))
 
--- src/step.rt:32:1
 returns : tie.Need-returns
 unfolding madeSeen
 returns c = λ s seen. field-later s _ (c .enum-told .given .1)
 
--- src/step.rt:32:1
 returns-2 : tie.Need-returns-2
 unfolding isCount wordOf lineTold toldBy
 returns-2 c =
     let S = c .before .before .before in
     λ s seen. at-word s (now (S .args .numbers)) _ (c .before .enum-told2 .given .1) (count-is 0 (S .args .count) (c .before .enum-told2 .given .1) refl (S .pre .2)) (c .read-input .ensures s seen)
 
--- src/step.rt:32:1
 returns-3 : tie.Need-returns-3
 unfolding isCount wordOf lineTold toldBy
 returns-3 c =
     let S = c .before .before .before in
     λ s seen. at-word s (now (S .args .numbers)) _ (c .before .enum-told3 .given .1) (count-is 4 (S .args .count) (c .before .enum-told3 .given .1) refl (S .pre .2)) (c .read-span .ensures s seen)
 
--- src/step.rt:32:1
 returns-4 : tie.Need-returns-4
 unfolding wordOf lineTold toldBy
 returns-4 c =
     let S = c .before .before .before in
     λ s seen. at-word {n = S .args .count} s (now (S .args .numbers)) _ (c .before .enum-told4 .given .1) refl (c .read-sum .ensures s seen)
 
--- src/step.rt:32:1
 returns-5 : tie.Need-returns-5
 unfolding isCount wordOf lineTold toldBy
 returns-5 c =
     let S = c .before .before .before in
     λ s seen. at-word s (now (S .args .numbers)) _ (c .before .enum-told5 .given .1) (count-is 3 (S .args .count) (c .before .enum-told5 .given .1) refl (S .pre .2)) (c .read-relu .ensures s seen)
 
--- src/step.rt:32:1
 returns-6 : tie.Need-returns-6
 unfolding isCount wordOf lineTold toldBy
 returns-6 c =
     let S = c .before .before .before in
     λ s seen. at-word s (now (S .args .numbers)) _ (c .before .enum-told6 .given .1) (count-is 4 (S .args .count) (c .before .enum-told6 .given .1) refl (S .pre .2)) (c .read-which .ensures s seen)
 
--- src/step.rt:32:1
 returns-7 : tie.Need-returns-7
 unfolding isCount wordOf lineTold toldBy
 returns-7 c =
     let S = c .before .before .before in
     λ s seen. at-word s (now (S .args .numbers)) _ (c .before .enum-told7 .given .1) (count-is 4 (S .args .count) (c .before .enum-told7 .given .1) refl (S .pre .2)) (c .read-max .ensures s seen)
 
--- src/step.rt:32:1
 returns-8 : tie.Need-returns-8
 unfolding isCount wordOf lineTold toldBy
 returns-8 c =

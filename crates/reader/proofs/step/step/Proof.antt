@@ -25,18 +25,15 @@ use borrow.Author.Needs.{needs}
 use Rattle.reader.proofs.step.step.Statement.{statement}
 use Rattle.reader.proofs.step.step.Tie as tie
 
--- src/step.rt:77:9
 read-ends-requires : tie.Need-read-ends-requires
 read-ends-requires c κs = search needs
 
--- src/step.rt:78:9
 line-size-requires : tie.Need-line-size-requires
 line-size-requires c κs = search needs
 
 enum-told : tie.Need-enum-told
 enum-told c = search needs
 
--- src/step.rt:80:9
 grow-requires : tie.Need-grow-requires
 grow-requires c κs =
     let S = c .before .before .before .before .before .before .before .before .before in
@@ -47,19 +44,15 @@ grow-requires c κs =
     ∙ told-by-word s (wordOf (a .word)) ns (not-span (a .word) (c .before .before .before .match .keys2)) in
     (S .pre .1, c .before .before .before .before .line-size .ensures .1, room (a .p) s (lineWith (wordOf (a .word)) ns) (a .counts) (now (a .lows)) (now (a .highs)) (now (a .places)) refl (S .pre .1) _ told)
 
--- src/step.rt:80:9
 same-length : tie.Need-same-length
 same-length c = search needs
 
--- src/step.rt:80:9
 same-length-2 : tie.Need-same-length-2
 same-length-2 c = search needs
 
--- src/step.rt:80:9
 same-length-3 : tie.Need-same-length-3
 same-length-3 c = search needs
 
--- src/step.rt:80:9
 returns : tie.Need-returns
 unfolding counted
 returns c =
@@ -87,15 +80,12 @@ returns c =
       ),
     )
 
--- src/step.rt:82:22
 shared-slice-copy-out-natural : tie.Need-shared-slice-copy-out-natural
 shared-slice-copy-out-natural c = search needs
 
--- src/step.rt:82:9
 natural-requires : tie.Need-natural-requires
 natural-requires c κs = search needs
 
--- src/step.rt:83:5
 narrow-requires : tie.Need-narrow-requires
 unfolding isCount wordOf toldBy lineTold
 narrow-requires c κs =
@@ -113,19 +103,15 @@ narrow-requires c κs =
           (name-counted s (now (a .numbers)) (a .count) _ (omega (arith, four)) (rw (back at-fits) at (c .before .before .before .natural .ensures))),
     )
 
--- src/step.rt:60:1
 same-length-4 : tie.Need-same-length-4
 same-length-4 c = search needs
 
--- src/step.rt:60:1
 same-length-5 : tie.Need-same-length-5
 same-length-5 c = search needs
 
--- src/step.rt:60:1
 same-length-6 : tie.Need-same-length-6
 same-length-6 c = search needs
 
--- src/step.rt:60:1
 returns-2 : tie.Need-returns-2
 unfolding counted isCount wordOf toldBy lineTold
 returns-2 c =

@@ -9,30 +9,24 @@ use borrow.Author.Needs.{needs}
 use Rattle.reader.proofs.step.step_line.Statement.{statement}
 use Rattle.reader.proofs.step.step_line.Tie as tie
 
--- src/step.rt:175:37
 line-of-requires : tie.Need-line-of-requires
 line-of-requires c κs = search needs
 
--- src/step.rt:175:22
 enum-known-word : tie.Need-enum-known-word
 enum-known-word c = search needs
 
--- src/step.rt:176:9
 enum-told : tie.Need-enum-told
 enum-told c = search needs
 
--- src/step.rt:176:9
 same-length : tie.Need-same-length
 same-length c = search needs
 
--- src/step.rt:176:9
 returns : tie.Need-returns
 unfolding stepSeen valuesIn untouched
 returns c =
     let read = c .before .before .before .line-of .ensures in
     (λ s is. no-line-step s (now (c .before .before .before .before .before .before .before .args .line)) (no-line-seen read (c .enum-told .given .1)), (omega arith, read .kept ∙ c .before .before .before .before .before .before .before .pre .2, record { long = refl; same = refl }, record { long = refl; same = refl }, record { long = refl; same = refl }))
 
--- src/step.rt:178:5
 step-requires : tie.Need-step-requires
 step-requires c κs =
     let S = c .before .before .before .before .before .before .before .before .before .before .before .before in
@@ -40,23 +34,18 @@ step-requires c κs =
     let q = c .before .before .before .before .before .word .given .1 in
     (S .pre .0, S .pre .1, read .kept ∙ S .pre .2, line-counted read q (S .pre .2), line-most read q, line-small read q)
 
--- src/step.rt:159:1
 same-length-2 : tie.Need-same-length-2
 same-length-2 c = search needs
 
--- src/step.rt:159:1
 same-length-3 : tie.Need-same-length-3
 same-length-3 c = search needs
 
--- src/step.rt:159:1
 same-length-4 : tie.Need-same-length-4
 same-length-4 c = search needs
 
--- src/step.rt:159:1
 same-length-5 : tie.Need-same-length-5
 same-length-5 c = search needs
 
--- src/step.rt:159:1
 returns-2 : tie.Need-returns-2
 returns-2 c =
     let S = c .before .before .before .before .before .before .before .before .before .before .before .before .before .before .before .before .before in

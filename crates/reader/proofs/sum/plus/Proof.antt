@@ -9,7 +9,6 @@ use borrow.Author.Needs.{needs}
 use Rattle.reader.proofs.sum.plus.Statement.{statement}
 use Rattle.reader.proofs.sum.plus.Tie as tie
 
--- src/sum.rt:151:9
 whole-sum-requires : tie.Need-whole-sum-requires
 whole-sum-requires c κs =
     let S = c .before .before in
@@ -17,7 +16,6 @@ whole-sum-requires c κs =
     let g : SFits w64 (S .args .b .low) = search needs in
     rw (back f, back g) (sum-fits (S .args .a .low) (S .args .b .low) (S .pre .0 .low-sized) (S .pre .1 .low-sized) tt)
 
--- src/sum.rt:152:9
 whole-sum-requires-2 : tie.Need-whole-sum-requires-2
 whole-sum-requires-2 c κs =
     let S = c .before .before .before .before .before in
@@ -25,7 +23,6 @@ whole-sum-requires-2 c κs =
     let g : SFits w64 (S .args .b .high) = search needs in
     rw (back f, back g) (sum-fits (S .args .a .high) (S .args .b .high) (S .pre .0 .high-sized) (S .pre .1 .high-sized) tt)
 
--- src/sum.rt:147:1
 returns : tie.Need-returns
 returns c =
     let S = c .before .before .before .before .before .before .before .before in

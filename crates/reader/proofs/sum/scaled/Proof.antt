@@ -12,29 +12,24 @@ use Rattle.reader.proofs.sum.scaled.Statement.{statement}
 use Rattle.reader.proofs.sum.scaled.Tie as tie
 use Rattle.reader.specs.State.{greatestProduct}
 
--- src/sum.rt:137:9
 whole-product-requires : tie.Need-whole-product-requires
 whole-product-requires c κs =
     let S = c .before in
     let f : SFits w64 (S .args .e .low) = search needs in
     rw (back (S .fits .c), back f) (product-fits (S .args .c) (S .args .e .low) (S .pre .0) (S .pre .1 .low-sized) tt)
 
--- src/sum.rt:138:9
 whole-product-requires-2 : tie.Need-whole-product-requires-2
 whole-product-requires-2 c κs =
     let S = c .before .before .before in
     let f : SFits w64 (S .args .e .high) = search needs in
     rw (back (S .fits .c), back f) (product-fits (S .args .c) (S .args .e .high) (S .pre .0) (S .pre .1 .high-sized) tt)
 
--- src/sum.rt:139:9
 smaller-requires : tie.Need-smaller-requires
 smaller-requires c κs = search needs
 
--- src/sum.rt:140:9
 larger-requires : tie.Need-larger-requires
 larger-requires c κs = search needs
 
--- src/sum.rt:133:1
 returns : tie.Need-returns
 returns c =
     let S = c .before .before .before .before .before .before .before .before in

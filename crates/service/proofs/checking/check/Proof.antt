@@ -8,31 +8,25 @@ use borrow.Author.Needs.{needs}
 use Rattle.service.proofs.checking.check.Statement.{statement}
 use Rattle.service.proofs.checking.check.Tie as tie
 
--- src/checking.rt:30:9
 survey-requires : tie.Need-survey-requires
 survey-requires c κs = search needs
 
--- src/checking.rt:32:27
 enum-known-found : tie.Need-enum-known-found
 enum-known-found c = search needs
 
--- src/checking.rt:36:27
 enum-known-found-2 : tie.Need-enum-known-found-2
 enum-known-found-2 c = search needs
 
--- src/checking.rt:36:41
 check-table-requires : tie.Need-check-table-requires
 check-table-requires c κs =
     survey-counted (now (c .before .before .before .before .before .before .args .list)) _ (c .before .before .before .survey .ensures .0) (c .before .before .before .survey .ensures .1) _ _ (c .before .found2 .given .1)
 
--- src/checking.rt:27:1
 returns : tie.Need-returns
 unfolding replySeen
 returns c =
     let S = c .before .before .before .before .before .before in
     check-refused (now (S .args .list)) (now (S .args .table)) _ _ (survey-refused _ _ (c .before .before .before .survey .ensures .0) _ _ (c .before .found .given .1))
 
--- src/checking.rt:27:1
 returns-2 : tie.Need-returns-2
 unfolding replySeen
 returns-2 c =

@@ -8,26 +8,21 @@ use borrow.Author.Needs.{needs}
 use Rattle.service.proofs.checking.check_table.Statement.{statement}
 use Rattle.service.proofs.checking.check_table.Tie as tie
 
--- src/checking.rt:46:9
 returns : tie.Need-returns
 unfolding replySeen
 returns c l =
     let S = c .before .before .before .before in
     checked-wrong-length (l .last) (l .lines) (now (S .args .table)) (λ e. c .if1 .taken (e ∙ sym (cells-by (S .pre) l)))
 
--- src/checking.rt:51:9
 first-large-requires : tie.Need-first-large-requires
 first-large-requires c κs = search needs
 
--- src/checking.rt:53:22
 enum-known-found : tie.Need-enum-known-found
 enum-known-found c = search needs
 
--- src/checking.rt:57:28
 enum-told : tie.Need-enum-told
 enum-told c = search needs
 
--- src/checking.rt:57:28
 check-rows-requires : tie.Need-check-rows-requires
 check-rows-requires c κs =
     let S = c .before .before .before .before .before .before .before in
@@ -38,7 +33,6 @@ check-rows-requires c κs =
       below = all-below (S .args .p) (now (S .args .table)) (none-large (now (S .args .table)) (S .args .p) _ (c .before .before .first-large .ensures) (c .enum-told .given .1));
     }
 
--- src/checking.rt:41:1
 returns-2 : tie.Need-returns-2
 unfolding replySeen
 returns-2 c l =
@@ -46,7 +40,6 @@ returns-2 c l =
     let found = large-found (now (S .args .table)) (S .args .p) _ (c .before .before .before .first-large .ensures) _ (c .before .found .given .1) in
     checked-cell (l .last) (l .lines) (now (S .args .table)) (c .before .before .before .before .if1 .left ∙ cells-by (S .pre) l) _ (rw (← prime-by (S .pre) l) found)
 
--- src/checking.rt:41:1
 returns-3 : tie.Need-returns-3
 returns-3 c l =
     let S = c .before .before .before .before .before .before .before .before in

@@ -16,36 +16,28 @@ Inv-loop table p i₀ i = Scanned (isCell p) 0 table i
 abbrev μ-loop : tie.MeasureT-loop
 μ-loop table p i₀ i = length table - i
 
--- src/checking.rt:65:5
 loop-holds : tie.Need-loop-holds Inv-loop μ-loop
 loop-holds c = scanned-none _ _ _
 
--- src/checking.rt:66:17
 mul-if1 : tie.Need-mul-if1 Inv-loop μ-loop
 mul-if1 c = search needs
 
--- src/checking.rt:66:17
 shared-slice-read-if1 : tie.Need-shared-slice-read-if1 Inv-loop μ-loop
 shared-slice-read-if1 c = search needs
 
--- src/checking.rt:67:13
 returns : tie.Need-returns Inv-loop μ-loop
 unfolding cellsSeen refusalAt
 returns c = ap (refusalAt 14) (scan-here _ _ _ _ (c .before .before .before .loop .inv) (c .before .before .loop-test .taken) (cell-large _ _ (c .if1 .taken)))
 
--- src/checking.rt:69:9
 add-i : tie.Need-add-i Inv-loop μ-loop
 add-i c = search needs
 
--- src/checking.rt:65:5
 loop-less : tie.Need-loop-less Inv-loop μ-loop
 loop-less c = search needs
 
--- src/checking.rt:65:5
 loop-again : tie.Need-loop-again Inv-loop μ-loop
 loop-again c = scan-next _ _ _ _ (c .before .before .before .loop .inv) (c .before .before .loop-test .taken) (cell-below _ _ (c .if1 .left))
 
--- src/checking.rt:61:1
 returns-2 : tie.Need-returns-2 Inv-loop μ-loop
 unfolding cellsSeen refusalAt
 returns-2 c = ap (refusalAt 14) (scan-end _ _ _ _ (c .before .loop .inv) (c .loop-test .left))

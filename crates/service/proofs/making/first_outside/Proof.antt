@@ -22,44 +22,35 @@ Inv-loop inputs p i₀ i = Scanned (inRange p) (pos 0) inputs i
 abbrev μ-loop : tie.MeasureT-loop
 μ-loop inputs p i₀ i = length inputs - i
 
--- src/making.rt:88:5
 loop-holds : tie.Need-loop-holds Inv-loop μ-loop
 loop-holds c = scanned-none _ _ _
 
--- src/making.rt:89:28
 mul-t4 : tie.Need-mul-t4 Inv-loop μ-loop
 mul-t4 c = search needs
 
--- src/making.rt:89:28
 shared-slice-copy-out-t7 : tie.Need-shared-slice-copy-out-t7 Inv-loop μ-loop
 shared-slice-copy-out-t7 c = search needs
 
--- src/making.rt:89:13
 in-range-requires : tie.Need-in-range-requires Inv-loop μ-loop
 in-range-requires c κs = search needs
 
--- src/making.rt:90:13
 returns : tie.Need-returns Inv-loop μ-loop
 unfolding inputsSeen refusalAt
 returns c =
     let f : SFits w64 (getD (now (c .before .before .before .before .before .args .inputs)) (c .before .before .before .before .loop .i) (pos 0)) = search needs in
     ap (refusalAt 17) (scan-here (inRange (c .before .before .before .before .before .args .p)) (pos 0) (now (c .before .before .before .before .before .args .inputs)) _ (c .before .before .before .before .loop .inv) (c .before .before .before .loop-test .taken) (rw (back f) at (sym (c .before .in-range .ensures) ∙ not-true _ (c .if1 .taken))))
 
--- src/making.rt:92:9
 add-i : tie.Need-add-i Inv-loop μ-loop
 add-i c = search needs
 
--- src/making.rt:88:5
 loop-less : tie.Need-loop-less Inv-loop μ-loop
 loop-less c = search needs
 
--- src/making.rt:88:5
 loop-again : tie.Need-loop-again Inv-loop μ-loop
 loop-again c =
     let f : SFits w64 (getD (now (c .before .before .before .before .before .args .inputs)) (c .before .before .before .before .loop .i) (pos 0)) = search needs in
     scan-next (inRange (c .before .before .before .before .before .args .p)) (pos 0) (now (c .before .before .before .before .before .args .inputs)) _ (c .before .before .before .before .loop .inv) (c .before .before .before .loop-test .taken) (rw (back f) at (sym (c .before .in-range .ensures) ∙ not-false _ (c .if1 .left)))
 
--- src/making.rt:83:1
 returns-2 : tie.Need-returns-2 Inv-loop μ-loop
 unfolding inputsSeen refusalAt
 returns-2 c = ap (refusalAt 17) (scan-end (inRange (c .before .before .args .p)) (pos 0) (now (c .before .before .args .inputs)) _ (c .before .loop .inv) (c .loop-test .left))

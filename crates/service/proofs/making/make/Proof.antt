@@ -8,24 +8,19 @@ use borrow.Author.Needs.{needs}
 use Rattle.service.proofs.making.make.Statement.{statement}
 use Rattle.service.proofs.making.make.Tie as tie
 
--- src/making.rt:45:9
 survey-requires : tie.Need-survey-requires
 survey-requires c κs = search needs
 
--- src/making.rt:47:27
 enum-known-found : tie.Need-enum-known-found
 enum-known-found c = search needs
 
--- src/making.rt:51:27
 enum-known-found-2 : tie.Need-enum-known-found-2
 enum-known-found-2 c = search needs
 
--- src/making.rt:51:41
 make-table-requires : tie.Need-make-table-requires
 make-table-requires c κs =
     survey-counted (now (c .before .before .before .before .before .before .before .args .list)) _ (c .before .before .before .before .survey .ensures .0) (c .before .before .before .before .survey .ensures .1) _ _ (c .before .before .found2 .given .1)
 
--- src/making.rt:41:1
 returns : tie.Need-returns
 unfolding replySeen
 returns c =
@@ -33,11 +28,9 @@ returns c =
     makes-by (make-refused (now (S .args .list)) (now (S .args .inputs)) (now (S .args .table)) _ _
     (survey-refused _ _ (c .before .before .before .survey .ensures .0) _ _ (c .before .found .given .1)))
 
--- src/making.rt:41:1
 same-length : tie.Need-same-length
 same-length c = search needs
 
--- src/making.rt:41:1
 returns-2 : tie.Need-returns-2
 unfolding replySeen
 returns-2 c =

@@ -8,14 +8,12 @@ use borrow.Author.Needs.{needs}
 use Rattle.service.proofs.making.make_table.Statement.{statement}
 use Rattle.service.proofs.making.make_table.Tie as tie
 
--- src/making.rt:62:9
 returns : tie.Need-returns
 unfolding replySeen
 returns c l =
     let S = c .before .before .before .before in
     made-wrong-length (l .last) (l .lines) (now (S .args .inputs)) (now (S .args .table)) (λ e. c .if1 .taken (e ∙ sym (cells-by (S .pre) l)))
 
--- src/making.rt:68:9
 returns-2 : tie.Need-returns-2
 unfolding replySeen
 returns-2 c l =
@@ -23,17 +21,14 @@ returns-2 c l =
     made-wrong-count (l .last) (l .lines) (now (S .args .inputs)) (now (S .args .table)) (c .before .before .if1 .left ∙ cells-by (S .pre) l)
     (λ e. c .if2 .taken (e ∙ sym (inputs-by (S .pre) l)))
 
--- src/making.rt:73:9
 first-outside-requires : tie.Need-first-outside-requires
 first-outside-requires c κs =
     let odd = c .before .before .before .before .before .before .pre .odd .three in
     search (needs, odd)
 
--- src/making.rt:74:28
 enum-known-found : tie.Need-enum-known-found
 enum-known-found c = search needs
 
--- src/making.rt:75:9
 returns-3 : tie.Need-returns-3
 unfolding replySeen
 returns-3 c l =
@@ -45,7 +40,6 @@ returns-3 c l =
 enum-told : tie.Need-enum-told
 enum-told c = search needs
 
--- src/making.rt:80:5
 make-true-requires : tie.Need-make-true-requires
 make-true-requires c κs =
     let S = c .before .before .before .before .before .before .before .before .before .before in
@@ -56,11 +50,9 @@ make-true-requires c κs =
       c .before .before .before .before .before .before .if1 .left ∙ cells-by (S .pre) l,
     )
 
--- src/making.rt:56:1
 same-length : tie.Need-same-length
 same-length c = search needs
 
--- src/making.rt:56:1
 returns-4 : tie.Need-returns-4
 unfolding replySeen
 returns-4 c l =

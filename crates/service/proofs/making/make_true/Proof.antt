@@ -8,19 +8,15 @@ use borrow.Author.Needs.{needs}
 use Rattle.service.proofs.making.make_true.Statement.{statement}
 use Rattle.service.proofs.making.make_true.Tie as tie
 
--- src/making.rt:104:43
 slice-aggregate-work-lines : tie.Need-slice-aggregate-work-lines
 slice-aggregate-work-lines c = search needs
 
--- src/making.rt:104:9
 work-lines-requires : tie.Need-work-lines-requires
 work-lines-requires c κs = search needs
 
--- src/making.rt:105:29
 enum-known-worked : tie.Need-enum-known-worked
 enum-known-worked c = search needs
 
--- src/making.rt:106:9
 returns : tie.Need-returns
 unfolding replySeen
 returns c l = false-made (l .lines) (l .last) (now (c .before .before .before .before .before .before .before .before .args .inputs)) _ _ (c .before .before .before .before .work-lines .ensures .0 l) _ _ (c .before .worked .given .1)
@@ -28,22 +24,18 @@ returns c l = false-made (l .lines) (l .last) (now (c .before .before .before .b
 enum-told : tie.Need-enum-told
 enum-told c = search needs
 
--- src/making.rt:111:26
 slice-aggregate-write-lines : tie.Need-slice-aggregate-write-lines
 slice-aggregate-write-lines c = search needs
 
--- src/making.rt:111:5
 write-lines-requires : tie.Need-write-lines-requires
 write-lines-requires c κs =
     let S = c .before .before .before .before .before .before .before .before .before in
     let done = c .before .before .before .before .before .work-lines .ensures in
     write-asked (now (S .args .list)) (now (S .args .table)) (S .args .p) (now (S .args .inputs)) _ (S .pre .0) (S .pre .1) (S .pre .2) (done .1) _ (done .0 (S .pre .0 .listed)) (c .before .before .enum-told .given .1)
 
--- src/making.rt:98:1
 same-length : tie.Need-same-length
 same-length c = search needs
 
--- src/making.rt:98:1
 returns-2 : tie.Need-returns-2
 unfolding replySeen
 returns-2 c l =

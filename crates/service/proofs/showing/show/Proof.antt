@@ -11,43 +11,33 @@ use borrow.Author.Needs.{needs}
 use Rattle.service.proofs.showing.show.Statement.{statement}
 use Rattle.service.proofs.showing.show.Tie as tie
 
--- src/showing.rt:25:9
 survey-requires : tie.Need-survey-requires
 survey-requires c κs = search needs
 
--- src/showing.rt:27:36
 enum-told : tie.Need-enum-told
 enum-told c = search needs
 
--- src/showing.rt:27:36
 sub-result : tie.Need-sub-result
 sub-result c = search needs
 
--- src/showing.rt:27:36
 part-result-start : tie.Need-part-result-start
 part-result-start c = search needs
 
--- src/showing.rt:27:36
 part-result-end : tie.Need-part-result-end
 part-result-end c = search needs
 
--- src/showing.rt:28:30
 enum-known-found : tie.Need-enum-known-found
 enum-known-found c = search needs
 
--- src/showing.rt:31:24
 sub-result-2 : tie.Need-sub-result-2
 sub-result-2 c = search needs
 
--- src/showing.rt:31:24
 part-result-start-2 : tie.Need-part-result-start-2
 part-result-start-2 c = search needs
 
--- src/showing.rt:31:24
 part-result-end-2 : tie.Need-part-result-end-2
 part-result-end-2 c = search needs
 
--- src/showing.rt:31:17
 returns : tie.Need-returns
 returns c =
     let S = c .before .before .before .before .before .before .before .before in
@@ -57,7 +47,6 @@ returns c =
       ap (cellPlace (ptr (S .args .table))) (from-wrong-length _ (now (S .args .table)) (S .args .line) (l .listed) other),
     )
 
--- src/showing.rt:33:17
 stretch-of-requires : tie.Need-stretch-of-requires
 stretch-of-requires c κs =
     survey-counted (now (c .before .before .before .before .before .before .before .args .list)) _ (c .before .before .before .before .survey .ensures .0) (c .before .before .before .before .survey .ensures .1) _ _ (c .before .before .found .given .1) .listed
@@ -69,35 +58,30 @@ inside c =
     let s = c .stretch-of .ensures (l .listed) in
     (s .ordered, omega (arith, s .inside, l .counts-are .cells-are, c .before .if1 .left))
 
--- src/showing.rt:36:13
 mul-result : tie.Need-mul-result
 mul-result c =
     let ordered = inside c .0 in
     let within = inside c .1 in
     search (needs, ordered, within)
 
--- src/showing.rt:36:13
 sub-result-3 : tie.Need-sub-result-3
 sub-result-3 c =
     let ordered = inside c .0 in
     let within = inside c .1 in
     search (needs, ordered, within)
 
--- src/showing.rt:36:13
 part-result-start-3 : tie.Need-part-result-start-3
 part-result-start-3 c =
     let ordered = inside c .0 in
     let within = inside c .1 in
     search (needs, ordered, within)
 
--- src/showing.rt:36:13
 part-result-end-3 : tie.Need-part-result-end-3
 part-result-end-3 c =
     let ordered = inside c .0 in
     let within = inside c .1 in
     search (needs, ordered, within)
 
--- src/showing.rt:22:1
 returns-2 : tie.Need-returns-2
 returns-2 c =
     let S = c .before .before .before .before .before .before in
@@ -106,7 +90,6 @@ returns-2 c =
       ap (cellPlace (ptr (S .args .table))) (from-refused (now (S .args .list)) (now (S .args .table)) (S .args .line) _ _ e),
     )
 
--- src/showing.rt:22:1
 returns-3 : tie.Need-returns-3
 returns-3 c =
     let S = c .before .before .before .before .before .before .before .before .before in

@@ -5,27 +5,21 @@ use borrow.Author.Needs.{needs}
 use Rattle.service.proofs.walk.counts_after.Statement.{statement}
 use Rattle.service.proofs.walk.counts_after.Tie as tie
 
--- src/walk.rt:25:9
 line-size-requires : tie.Need-line-size-requires
 line-size-requires c κs = search needs
 
--- src/walk.rt:27:17
 add-t5 : tie.Need-add-t5
 add-t5 c = search needs
 
--- src/walk.rt:28:17
 add-t6 : tie.Need-add-t6
 add-t6 c = search needs
 
--- src/walk.rt:29:16
 add-t7 : tie.Need-add-t7
 add-t7 c = search needs
 
--- src/walk.rt:30:15
 add-t8 : tie.Need-add-t8
 add-t8 c = search needs
 
--- src/walk.rt:18:1
 returns : tie.Need-returns
 returns c =
     let size = c .before .before .before .before .before .before .before .before .line-size in (

@@ -4,23 +4,18 @@ use borrow.Author.Needs.{needs}
 use Rattle.service.proofs.walk.take_place.Statement.{statement}
 use Rattle.service.proofs.walk.take_place.Tie as tie
 
--- src/walk.rt:41:9
 mul-places : tie.Need-mul-places
 mul-places c = search needs
 
--- src/walk.rt:41:9
 slice-write-places : tie.Need-slice-write-places
 slice-write-places c = search needs
 
--- src/walk.rt:35:1
 same-length : tie.Need-same-length
 same-length c = search needs
 
--- src/walk.rt:35:1
 returns : tie.Need-returns
 returns c = place-taken _ _ _ (c .if1 .taken)
 
--- src/walk.rt:35:1
 returns-2 : tie.Need-returns-2
 returns-2 c = place-not-taken _ _ _ (c .if1 .left)
 

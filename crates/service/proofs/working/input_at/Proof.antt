@@ -7,19 +7,15 @@ use borrow.Author.Needs.{needs}
 use Rattle.service.proofs.working.input_at.Statement.{statement}
 use Rattle.service.proofs.working.input_at.Tie as tie
 
--- src/making.rt:122:28
 mul-result : tie.Need-mul-result
 mul-result c = search needs
 
--- src/making.rt:122:28
 shared-slice-copy-out-result : tie.Need-shared-slice-copy-out-result
 shared-slice-copy-out-result c = search needs
 
--- src/making.rt:119:1
 returns : tie.Need-returns
 returns c = search needs
 
--- src/making.rt:119:1
 returns-2 : tie.Need-returns-2
 returns-2 c = sym (List·getD-eq-default (now (c .before .args .inputs)) (pos 0) (c .if1 .left))
 

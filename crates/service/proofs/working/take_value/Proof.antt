@@ -10,35 +10,28 @@ use borrow.Author.Needs.{needs}
 use Rattle.service.proofs.working.take_value.Statement.{statement}
 use Rattle.service.proofs.working.take_value.Tie as tie
 
--- src/making.rt:131:23
 enum-known-worked : tie.Need-enum-known-worked
 enum-known-worked c = search needs
 
--- src/making.rt:132:13
 mul-z : tie.Need-mul-z
 mul-z c =
     let inside = c .before .before .before .pre _ (c .before .worked .given .1) in
     search (needs, inside)
 
--- src/making.rt:132:13
 slice-set-from-z : tie.Need-slice-set-from-z
 slice-set-from-z c =
     let inside = c .before .before .before .pre _ (c .before .worked .given .1) in
     search (needs, inside)
 
--- src/making.rt:135:28
 enum-told : tie.Need-enum-told
 enum-told c = search needs
 
--- src/making.rt:136:26
 enum-told-2 : tie.Need-enum-told-2
 enum-told-2 c = search needs
 
--- src/making.rt:126:1
 same-length : tie.Need-same-length
 same-length c = search needs
 
--- src/making.rt:126:1
 returns : tie.Need-returns
 unfolding withValue isTrue
 returns c =
@@ -47,7 +40,6 @@ returns c =
     let f : SFits w64 (c .before .worked .given .0 .0) = search needs in
     (sym (ap isTrue is), rw (back f) (sym (ap (λ (w : Worked). withValue (now (S .args .values)) (S .args .at) w) is)))
 
--- src/making.rt:126:1
 returns-2 : tie.Need-returns-2
 unfolding withValue isTrue
 returns-2 c =
@@ -55,7 +47,6 @@ returns-2 c =
     let is = c .enum-told .given .1 in
     (sym (ap isTrue is), sym (ap (λ (w : Worked). withValue (now (S .args .values)) (S .args .at) w) is))
 
--- src/making.rt:126:1
 returns-3 : tie.Need-returns-3
 unfolding withValue isTrue
 returns-3 c =

@@ -13,27 +13,21 @@ use Rattle.worked_tables.proofs.call.cell_count.Tie as tie
 counted : (n : ℕ) (xs : List ℕ) → n ≤ length xs → Counts n xs
 counted n xs h = (h, sym (length-take-le n xs h))
 
--- src/call.rt:39:9
 read-requires : tie.Need-read-requires
 read-requires c κs = search needs
 
--- src/call.rt:40:28
 enum-known-answer : tie.Need-enum-known-answer
 enum-known-answer c = search needs
 
--- src/call.rt:41:9
 enum-told : tie.Need-enum-told
 enum-told c = search needs
 
--- src/call.rt:41:9
 returns : tie.Need-returns
 returns c = search needs
 
--- src/call.rt:44:9
 returns-2 : tie.Need-returns-2
 returns-2 c = counted _ _ (omega (arith, c .if1 .taken))
 
--- src/call.rt:36:1
 returns-3 : tie.Need-returns-3
 returns-3 c = counted _ _ (omega arith)
 

@@ -11,35 +11,27 @@ Inv-loop table i₀ i = Unit {0}
 abbrev μ-loop : tie.MeasureT-loop
 μ-loop table i₀ i = length table - i
 
--- src/print.rt:40:5
 loop-holds : tie.Need-loop-holds Inv-loop μ-loop
 loop-holds c = search needs
 
--- src/print.rt:41:20
 mul-print-cell : tie.Need-mul-print-cell Inv-loop μ-loop
 mul-print-cell c = search needs
 
--- src/print.rt:41:20
 shared-slice-read-print-cell : tie.Need-shared-slice-read-print-cell Inv-loop μ-loop
 shared-slice-read-print-cell c = search needs
 
--- src/print.rt:41:9
 print-cell-requires : tie.Need-print-cell-requires Inv-loop μ-loop
 print-cell-requires c κs = search needs
 
--- src/print.rt:42:9
 add-i : tie.Need-add-i Inv-loop μ-loop
 add-i c = search needs
 
--- src/print.rt:40:5
 loop-less : tie.Need-loop-less Inv-loop μ-loop
 loop-less c = search needs
 
--- src/print.rt:40:5
 loop-again : tie.Need-loop-again Inv-loop μ-loop
 loop-again c = search needs
 
--- src/print.rt:38:1
 returns : tie.Need-returns Inv-loop μ-loop
 returns c = search needs
 

@@ -11,35 +11,27 @@ Inv-loop inputs i₀ i = Unit {0}
 abbrev μ-loop : tie.MeasureT-loop
 μ-loop inputs i₀ i = length inputs - i
 
--- src/print.rt:28:5
 loop-holds : tie.Need-loop-holds Inv-loop μ-loop
 loop-holds c = search needs
 
--- src/print.rt:29:21
 mul-print-whole : tie.Need-mul-print-whole Inv-loop μ-loop
 mul-print-whole c = search needs
 
--- src/print.rt:29:21
 shared-slice-copy-out-print-whole : tie.Need-shared-slice-copy-out-print-whole Inv-loop μ-loop
 shared-slice-copy-out-print-whole c = search needs
 
--- src/print.rt:29:9
 print-whole-requires : tie.Need-print-whole-requires Inv-loop μ-loop
 print-whole-requires c κs = search needs
 
--- src/print.rt:30:9
 add-i : tie.Need-add-i Inv-loop μ-loop
 add-i c = search needs
 
--- src/print.rt:28:5
 loop-less : tie.Need-loop-less Inv-loop μ-loop
 loop-less c = search needs
 
--- src/print.rt:28:5
 loop-again : tie.Need-loop-again Inv-loop μ-loop
 loop-again c = search needs
 
--- src/print.rt:26:1
 returns : tie.Need-returns Inv-loop μ-loop
 returns c = search needs
 

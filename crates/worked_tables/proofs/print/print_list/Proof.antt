@@ -11,55 +11,42 @@ Inv-loop list i₀ t4 i = Unit {0}
 abbrev μ-loop : tie.MeasureT-loop
 μ-loop list i₀ t4 i = length list - i
 
--- src/print.rt:58:5
 loop-holds : tie.Need-loop-holds Inv-loop μ-loop
 loop-holds c = search needs
 
--- src/print.rt:59:20
 shared-slice-read-byte : tie.Need-shared-slice-read-byte Inv-loop μ-loop
 shared-slice-read-byte c = search needs
 
--- src/print.rt:60:9
 add-i : tie.Need-add-i Inv-loop μ-loop
 add-i c = search needs
 
--- src/print.rt:62:13
 print-byte-requires : tie.Need-print-byte-requires Inv-loop μ-loop
 print-byte-requires c κs = search needs
 
--- src/print.rt:58:5
 loop-less : tie.Need-loop-less Inv-loop μ-loop
 loop-less c = search needs
 
--- src/print.rt:58:5
 loop-again : tie.Need-loop-again Inv-loop μ-loop
 loop-again c = search needs
 
--- src/print.rt:64:19
 slice-aggregate-print : tie.Need-slice-aggregate-print Inv-loop μ-loop
 slice-aggregate-print c = search needs
 
--- src/print.rt:64:13
 print-requires : tie.Need-print-requires Inv-loop μ-loop
 print-requires c κs = search needs
 
--- src/print.rt:58:5
 loop-less-2 : tie.Need-loop-less-2 Inv-loop μ-loop
 loop-less-2 c = search needs
 
--- src/print.rt:58:5
 loop-again-2 : tie.Need-loop-again-2 Inv-loop μ-loop
 loop-again-2 c = search needs
 
--- src/print.rt:58:5
 loop-less-3 : tie.Need-loop-less-3 Inv-loop μ-loop
 loop-less-3 c = search needs
 
--- src/print.rt:58:5
 loop-again-3 : tie.Need-loop-again-3 Inv-loop μ-loop
 loop-again-3 c = search needs
 
--- src/print.rt:56:1
 returns : tie.Need-returns Inv-loop μ-loop
 returns c = search needs
 

@@ -12,38 +12,30 @@ use Rattle.worked_tables.proofs.print.print_whole.Tie as tie
 fits : (c : tie.Start) → SFits w64 (c .args .n)
 fits c = search needs
 
--- src/print.rt:17:9
 magnitude-requires : tie.Need-magnitude-requires
 magnitude-requires c κs = search needs
 
--- src/print.rt:19:15
 slice-aggregate-print : tie.Need-slice-aggregate-print
 slice-aggregate-print c = search needs
 
--- src/print.rt:19:9
 print-requires : tie.Need-print-requires
 print-requires c κs = search needs
 
--- src/print.rt:20:42
 add-print-decimal : tie.Need-add-print-decimal
 add-print-decimal c =
     let s = c .before .before .before in
     let told : s .magnitude .result ≡ mag (s .before .args .n) = s .magnitude .ensures ∙ ap mag (back (fits (s .before))) in
     record { fits = omega (arith, told, fits (s .before) .sfits) }
 
--- src/print.rt:20:9
 print-decimal-requires : tie.Need-print-decimal-requires
 print-decimal-requires c κs = search needs
 
--- src/print.rt:22:9
 print-count-requires : tie.Need-print-count-requires
 print-count-requires c κs = search needs
 
--- src/print.rt:16:1
 returns : tie.Need-returns
 returns c = search needs
 
--- src/print.rt:16:1
 returns-2 : tie.Need-returns-2
 returns-2 c = search needs
 
