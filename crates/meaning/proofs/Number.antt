@@ -21,7 +21,7 @@ use Rattle.meaning.specs.Number.{half, lowest, highest, between, inRange
 
 -- ---- odd primes
 
-noDivisor-all : (n k : ℕ) → T (noDivisor n k) → (d : ℕ) → 1 < d → d ≤ suc k → n % d ≢ 0
+pub noDivisor-all : (n k : ℕ) → T (noDivisor n k) → (d : ℕ) → 1 < d → d ≤ suc k → n % d ≢ 0
 unfolding noDivisor
 noDivisor-all n zero t d h l e = omega arith
 noDivisor-all n (suc k) t d h l e = elim (ℕ-discrete d (suc (suc k))) [

@@ -1,19 +1,21 @@
 -- The table holds exactly the primes below 256. The checker computes two tests, each once: every entry is 2 or an odd prime, and
--- below 256, and every number below 256 that is 2 or an odd prime is an entry.
+-- below 256, and every number below 256 that is 2 or an odd prime is an entry. A third test is that of the great primes that are
+-- known: no number up to their roots divides them.
 use mathlib.Core.Path.{_≡_, refl}
 use mathlib.Core.Bool.{Bool, true, false, not, _&&_, _||_}
 use mathlib.Core.List.{List, [], _∷_}
 use mathlib.Core.Logic.{_⊎_, inl, inr, ⊎-elim, _≢_}
-use Prim.Native.Nat.{ℕ, zero, suc, _*_, _%_, _≤_, _<_}
+use Prim.Native.Nat.{ℕ, zero, suc, _*_, _%_, _^_, _≤_, _<_}
 use native.Mathlib.Omega.{arith}
 use native.Mathlib.Decide.{ℕ-discrete, decLt}
+use native.Mathlib.Nat.{mul-le-mul}
 use lib.Dec.{T, eqb, ltb, eqb→eq, ltb→lt}
 use lib.ListN.{length, getD}
 use Rattle.meaning.specs.Number.{noDivisor, oddPrime}
-use Rattle.meaning.proofs.Number.{odd-prime}
+use Rattle.meaning.proofs.Number.{noDivisor-all, odd-prime}
 use Rattle.algebra.specs.Prime.{Prime}
 use Rattle.algebra.proofs.Test.{left, right}
-use Rattle.algebra.proofs.Prime.{prime-by-trial, prime-no-remainder}
+use Rattle.algebra.proofs.Prime.{prime-by-trial, prime-by-roots, prime-no-remainder}
 use Rattle.number.specs.Table.{primes, FirstDivisor}
 use Rattle.algebra.proofs.PrimeDivisor.{prime-by-prime-roots}
 use Rattle.number.proofs.OddPrime.{odd-prime-passes}
@@ -120,3 +122,40 @@ prime-by-table n l f t = prime-by-prime-roots n (omega arith) try
           let o : q % 2 ≢ 0 = prime-no-remainder q P 2 (omega arith) (omega arith) in
           t q (omega arith) (omega arith) (prime-no-remainder q P 3 (omega arith) (omega arith)) s e
     ]
+
+-- ---- the great primes that are known
+
+abbrev pub OneOf : ℕ → List ℕ → Type 0
+OneOf n [] = ⊥
+OneOf n (x ∷ []) = n ≡ x
+OneOf n (x ∷ y ∷ ys) = (n ≡ x) ⊎ OneOf n (y ∷ ys)
+
+every-one : (f : ℕ → Bool) (n : ℕ) (xs : List ℕ) → T (every f xs) → OneOf n xs → T (f n)
+every-one f n [] t o = absurd o
+every-one f n (x ∷ []) t o = rw o (left (f x) true t)
+every-one f n (x ∷ y ∷ ys) t o =
+    ⊎-elim (λ e. rw e (left (f x) (every f (y ∷ ys)) t)) (every-one f n (y ∷ ys) (right (f x) (every f (y ∷ ys)) t)) o
+
+abbrev pub knownPrimes : List ℕ
+knownPrimes = 2013265921 ∷ 2130706433 ∷ 2147483647 ∷ 4294967291 ∷ []
+
+-- no number up to 2^16 divides n, and the root of n is not above that
+root-test : ℕ → Bool
+root-test n = ltb 1 n && (ltb n (2 ^ 32) && noDivisor n 65535)
+
+known-right : T (every root-test knownPrimes)
+unfolding root-test noDivisor
+known-right = tt
+
+root-prime : (n : ℕ) → T (root-test n) → Prime n
+unfolding root-test
+root-prime n t =
+    let u = right (ltb 1 n) (ltb n (2 ^ 32) && noDivisor n 65535) t in
+    let h : n < 2 ^ 32 = ltb→lt n (2 ^ 32) (left (ltb n (2 ^ 32)) (noDivisor n 65535) u) in
+    prime-by-roots n (ltb→lt 1 n (left (ltb 1 n) (ltb n (2 ^ 32) && noDivisor n 65535) t)) (λ d l s. elim (decLt d 65537) [
+      | yes k ↦ noDivisor-all n 65535 (right (ltb n (2 ^ 32)) (noDivisor n 65535) u) d l (omega arith)
+      | no k ↦ let m : 65537 ≤ d = omega arith in absurd (omega (arith, mul-le-mul m m))
+    ])
+
+pub known-prime : (n : ℕ) → OneOf n knownPrimes → Prime n
+known-prime n o = root-prime n (every-one root-test n knownPrimes known-right o)

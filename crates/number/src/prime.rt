@@ -1,4 +1,5 @@
-// Whether a number is an odd prime. The primes below 256 are tried first, from a table, then the odd numbers from 257 on up to
+// Whether a number is an odd prime. Of four great primes that proof systems use it is known: 15·2^27 + 1, 127·2^24 + 1, 2^31 - 1 and the
+// greatest below 2^32. For any other number the primes below 256 are tried first, from a table, then the odd numbers from 257 on up to
 // the square root, but for multiples of 3: each test is one division of 32-bit numbers.
 use super::root::square_root;
 ghost use mathlib.Core.Path.{_≡_};
@@ -69,6 +70,11 @@ pub fn is_odd_prime(n: u32) -> bool
 {
     if n < 3 {
         return false;
+    }
+    // Of these primes the divisors were tried in the proof.
+    match n {
+        2013265921 | 2130706433 | 2147483647 | 4294967291 => return true,
+        _ => {}
     }
     let at = first_divisor(n);
     if at < 54 {

@@ -1,14 +1,18 @@
--- `number::prime::is_odd_prime`: a divisor from the table decides, and where there is none the trial by odd numbers does.
+-- `number::prime::is_odd_prime`: a prime that is known passes. Else a divisor from the table decides, and where there is none the trial by
+-- odd numbers does.
 use mathlib.Core.Path.{_≡_}
 use native.Mathlib.Omega.{arith}
 use borrow.Author.Needs.{needs}
-use Rattle.number.proofs.OddPrime.{odd-prime-low, prime-divisor-decides}
-use Rattle.number.proofs.PrimeTable.{entry-prime}
+use Rattle.number.proofs.OddPrime.{odd-prime-passes, odd-prime-low, prime-divisor-decides}
+use Rattle.number.proofs.PrimeTable.{entry-prime, known-prime}
 use Rattle.number.proofs.prime.is_odd_prime.Statement.{statement}
 use Rattle.number.proofs.prime.is_odd_prime.Tie as tie
 
 returns : tie.Need-returns
 returns c = odd-prime-low _ (omega arith)
+
+returns-2 : tie.Need-returns-2
+returns-2 c = odd-prime-passes _ (omega arith) (known-prime _ (c .match .keys1))
 
 first-divisor-requires : tie.Need-first-divisor-requires
 first-divisor-requires c κs = search needs
@@ -19,8 +23,8 @@ mul-result c = search needs
 array-read-result : tie.Need-array-read-result
 array-read-result c = search needs
 
-returns-2 : tie.Need-returns-2
-returns-2 c =
+returns-3 : tie.Need-returns-3
+returns-3 c =
     let at = c .before .first-divisor .result in
     prime-divisor-decides _ _ (omega arith) (entry-prime at (c .if2 .taken)) (c .before .first-divisor .ensures .divides (c .if2 .taken))
 
@@ -30,17 +34,18 @@ passes-odd-trial-requires c κs =
     let e : d .result ≡ 54 = omega (arith, d .ensures .within) in
     (omega arith, rw e at (d .ensures))
 
-returns-3 : tie.Need-returns-3
-returns-3 c = search needs
+returns-4 : tie.Need-returns-4
+returns-4 c = search needs
 
 pub is-odd-prime-spec : {M : Type 1} → statement M
 is-odd-prime-spec =
     tie.close
     (tie.spec
     returns
+    returns-2
     first-divisor-requires
     mul-result
     array-read-result
-    returns-2
+    returns-3
     passes-odd-trial-requires
-    returns-3)
+    returns-4)
