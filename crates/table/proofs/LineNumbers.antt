@@ -173,12 +173,14 @@ module _ {w : Word} {numbers : List ℤ} {count : ℕ} (l : KeptLine w numbers c
         let given : Powers (l .state .p) (digitsAt ns i) = rw is at powers in
         given .0
 
+    pub power-below : size numbers i ^ size numbers (suc i) ≤ l .state .p
+    power-below = rw (number-is i (omega arith), number-is (suc i) inside) at power
+
     pub digits-from : DigitsFrom numbers i
     digits-from =
         let base = number-is i (omega arith) in
         let digits = number-is (suc i) inside in
         let a : Allowed (getD numbers i (pos 0)) (getD numbers (suc i) (pos 0)) = rw (base, digits) at allowed in
-        let c : size numbers i ^ size numbers (suc i) ≤ l .state .p = rw (base, digits) at power in
         record {
           base-inside = omega (arith, l .numbers-long, l .few, inside);
           base-natural = not-below (getD numbers i (pos 0)) (a .base-counts);
@@ -188,7 +190,7 @@ module _ {w : Word} {numbers : List ℤ} {count : ℕ} (l : KeptLine w numbers c
           count-natural = not-below (getD numbers (suc i) (pos 0)) (a .count-counts);
           count-one = a .one;
           count-most = a .most;
-          power-most = omega (arith, c, l .p-most late);
+          power-most = omega (arith, power-below, l .p-most late);
         }
 
   -- ---- the values before the line

@@ -56,4 +56,4 @@ module _ {w : Word} {numbers : List ℤ} {count : ℕ} (l : KeptLine w numbers c
   pub group-read : {c : ℕ} → c ≡ b ^ k → GroupOf b k c
   group-read e =
       let d = word-digits l i word in
-      record { base = rw base (d .base-two); some-digit = rw digits (d .count-one); power = e; small = rw e (power-asked .1) }
+      record { base = rw base (d .base-two); some-digit = rw digits (d .count-one); few = power-asked .0; power = e; small = rw e (power-asked .1) }

@@ -1,16 +1,18 @@
--- The rows of a digit group: the test of a digit, and the digits' value by Horner's rule.
+-- The rows of a digit group: the test of a digit, and the digits' value, from the lowest digit on.
 use mathlib.Core.Path.{_≡_, refl, sym, ap, _∙_}
 use mathlib.Core.List.{List, [], _∷_, _++_}
 use mathlib.Core.Bool.{cond}
 use mathlib.Core.Option.{Option, none, some}
-use Prim.Native.Nat.{ℕ, suc, _+_, _-_, _*_, _/_, _%_, _≤_, _<_}
+use Prim.Native.Nat.{ℕ, suc, _+_, _-_, _*_, _^_, _≤_, _<_}
 use native.Mathlib.Omega.{arith}
-use native.Mathlib.Nat.{one-mul, zero-mod, div-add-mod, add-mul-mod-self-left}
+use native.Mathlib.Numerals.{add-one}
+use native.Mathlib.Nat.{add-zero, one-mul, mul-zero, mul-le-mul-right, pow-zero, pow-suc, pow-le-pow-right}
 use lib.ListN.{length, getD}
 use lib.IntN.{ℤ, _-ℤ_}
 use lib.Dec.{eqb}
 use borrow.Author.Tests.{lt-ltb, le-ltb}
 use Rattle.algebra.specs.Digits.{value}
+use Rattle.algebra.proofs.Congruence.{remainder-of-residue}
 use Rattle.meaning.specs.Number.{remainder}
 use Rattle.meaning.specs.Row.{Form, Row, constant, _⊖_, _≅_, eval, holds, digitRows, placeValues, group}
 use Rattle.meaning.specs.Reply.{Reply, reply, firstFail, refusalAt}
@@ -53,51 +55,75 @@ module _ (p : ℕ) (t : List ℕ) (first at b k : ℕ) where
 
 -- ---- the digits' value
 
--- of the digits from the one of number i on
-unfoldable pub valueFrom : List ℕ → (at b k i : ℕ) → ℕ
-valueFrom t at b k i = value b (cellsAt t (at + i) (k - i))
+-- part is b ^ i, and v is the value of the first i digits: with that of the digits from there on, part times, it makes the whole value
+pub record Seen (t : List ℕ) (at b k i v part : ℕ) : Type 0 where
+  pub part-is : part ≡ b ^ i
+  pub below : v < part
+  pub whole : value b (cellsAt t at k) ≡ v + part * value b (cellsAt t (at + i) (k - i))
 
-horner : (p b d v n : ℕ) → v ≡ n % p → (v * b + d) % p ≡ (d + b * n) % p
-horner p b d v n e =
-    let s : d + b * n ≡ (v * b + d) + p * (b * (n / p)) = omega (arith, ap (λ m. b * m) (div-add-mod n p), ap (λ m. b * m) e) in
-    rw s (sym (add-mul-mod-self-left (v * b + d) p (b * (n / p))))
+module _ (t : List ℕ) (at b k : ℕ) where
+  pub seen-none : Seen t at b k 0 0 1
+  seen-none =
+      let e : at + 0 ≡ at = omega arith in
+      let u : k - 0 ≡ k = omega arith in
+      record { part-is = sym (pow-zero b); below = omega arith; whole = rw (e, u) (omega arith) }
 
-module _ (p : ℕ) (t : List ℕ) (at b k : ℕ) (room : at + k ≤ length t) where
-  pub value-none : 0 ≡ valueFrom t at b k k % p
-  unfolding valueFrom value
-  value-none = let e : k - k ≡ 0 = omega arith in rw (e, cellsAt-zero t (at + k)) (sym (zero-mod p))
+  pub seen-next : {i v part : ℕ} → Seen t at b k i v part → at + k ≤ length t → i < k → getD t (at + i) 0 < b
+      → Seen t at b k (i + 1) (v + getD t (at + i) 0 * part) (part * b)
+  unfolding value
+  seen-next {i} {v} {part} s room h l =
+      let d : ℕ = getD t (at + i) 0 in
+      let e : k - i ≡ suc (k - (i + 1)) = omega arith in
+      let u : suc (at + i) ≡ at + (i + 1) = omega arith in
+      let rest : value b (cellsAt t (at + i) (k - i)) ≡ d + b * value b (cellsAt t (at + (i + 1)) (k - (i + 1))) =
+      rw (e, cellsAt-suc t (at + i) (k - (i + 1)) (omega arith), u) refl in
+      let m : d + 1 ≤ b = omega arith in
+      record {
+        part-is = rw (add-one, pow-suc) (ap (λ n. n * b) (s .part-is));
+        below = omega (arith, mul-le-mul-right part m, s .below);
+        whole = s .whole ∙ rw rest (omega arith);
+      }
 
-  pub value-next : (v i : ℕ) → 0 < i → i ≤ k → v ≡ valueFrom t at b k i % p
-      → (v * b + getD t (at + (i - 1)) 0) % p ≡ valueFrom t at b k (i - 1) % p
-  unfolding valueFrom value
-  value-next v i h l e =
-      let s : k - (i - 1) ≡ suc (k - i) = omega arith in
-      let u : suc (at + (i - 1)) ≡ at + i = omega arith in
-      horner p b (getD t (at + (i - 1)) 0) v (value b (cellsAt t (at + i) (k - i))) e
-      ∙ rw (s, cellsAt-suc t (at + (i - 1)) (k - i) (omega arith), u) refl
+  -- so far as k digits nothing is above b ^ k
+  pub seen-most : {i v part : ℕ} → Seen t at b k i v part → 0 < b → i ≤ k → part ≤ b ^ k
+  seen-most s h l = rw (s .part-is) (pow-le-pow-right h l)
 
-  pub value-all : (v : ℕ) → v < p → v ≡ valueFrom t at b k 0 % p → Leaves p t v (placeValues 1 at b k)
-  unfolding valueFrom remainder
-  value-all v h e = record { below = h; is = e ∙ rw (places-value p t 1 at b k room, one-mul) (whole) }
-    where
-      whole : value b (cellsAt t (at + 0) (k - 0)) % p ≡ value b (cellsAt t at k) % p
-      whole = let u : at + 0 ≡ at = omega arith in let w : k - 0 ≡ k = omega arith in rw (u, w) refl
+  pub seen-all : (p : ℕ) {i v part : ℕ} → Seen t at b k i v part → at + k ≤ length t → i ≡ k → b ^ k ≤ p → Leaves p t v (placeValues 1 at b k)
+  unfolding value
+  seen-all p {i} {v} {part} s room e h =
+      let u : k - i ≡ 0 = omega arith in
+      let whole : value b (cellsAt t at k) ≡ v = s .whole ∙ rw (u, cellsAt-zero t (at + i), mul-zero, add-zero) refl in
+      let l : v < p = omega (arith, s .below, s .part-is ∙ ap (λ n. b ^ n) e) in
+      record { below = l; is = rw (places-value p t 1 at b k room, one-mul, whole) (sym (remainder-of-residue p v l)) }
 
 -- ---- the group
 
-pub group-answer : (p : ℕ) (t : List ℕ) (f : Form) (L : ℤ) (first at b k : ℕ) {number v : ℕ} {r digits last : Option Reply}
-    → remainder p (eval t f -ℤ L) ≡ number → Leaves p t v (placeValues 1 at b k)
-    → digits ≡ firstRefusal (holds p t) first (digitRows at b k) → last ≡ cond (eqb number v) none (some (reply 15 (first + k))) → r ≡ firstOf digits last
-    → r ≡ firstRefusal (holds p t) first (group f L at b k)
-unfolding group holds eval
-group-answer p t f L first at b k {number} {v} {r} {digits} {last} e l d s w =
-    first-rows (holds p t) first (first + k) (digitRows at b k) (f ⊖ constant L ≅ placeValues 1 at b k ∷ [])
-    (omega (arith, length-digitRows at b k)) w d
-    (first-row (holds p t) (first + k) (suc (first + k)) (f ⊖ constant L ≅ placeValues 1 at b k) [] refl test s
-    (first-none (holds p t) (suc (first + k))))
-  where
-    test : eqb number v ≡ holds p t (f ⊖ constant L ≅ placeValues 1 at b k)
-    test = rw (e, ← l .is) refl
+module _ (p : ℕ) (t : List ℕ) (f : Form) (L : ℤ) (first at b k : ℕ) where
+  abbrev last-row : List Row
+  last-row = f ⊖ constant L ≅ placeValues 1 at b k ∷ []
+
+  group-split : {r digits last : Option Reply} → r ≡ firstOf digits last → digits ≡ firstRefusal (holds p t) first (digitRows at b k)
+      → last ≡ firstRefusal (holds p t) (first + k) last-row → r ≡ firstRefusal (holds p t) first (group f L at b k)
+  unfolding group
+  group-split = first-rows (holds p t) first (first + k) (digitRows at b k) last-row (omega (arith, length-digitRows at b k))
+
+  -- a digit that fails is the answer
+  pub group-fails : {failed : Reply} → some failed ≡ firstRefusal (holds p t) first (digitRows at b k)
+      → some failed ≡ firstRefusal (holds p t) first (group f L at b k)
+  unfolding firstOf
+  group-fails d = group-split refl d refl
+
+  -- else it is that of the last row
+  pub group-answer : {number v : ℕ} {r : Option Reply} → remainder p (eval t f -ℤ L) ≡ number → Leaves p t v (placeValues 1 at b k)
+      → none ≡ firstRefusal (holds p t) first (digitRows at b k) → r ≡ cond (eqb number v) none (some (reply 15 (first + k)))
+      → r ≡ firstRefusal (holds p t) first (group f L at b k)
+  unfolding firstOf holds eval
+  group-answer {number} {v} e l d w = group-split refl d
+      (first-row (holds p t) (first + k) (suc (first + k)) (f ⊖ constant L ≅ placeValues 1 at b k) [] refl test w
+      (first-none (holds p t) (suc (first + k))))
+    where
+      test : eqb number v ≡ holds p t (f ⊖ constant L ≅ placeValues 1 at b k)
+      test = rw (e, ← l .is) refl
 
 -- a group, and then other rows, the first of which has the number m
 pub group-then : (p : ℕ) (t : List ℕ) (n m : ℕ) (f : Form) (L : ℤ) (at b k : ℕ) (rows : List Row) {r digits later : Option Reply}

@@ -4,7 +4,7 @@ use mathlib.Core.Path.{_≡_, refl, sym, ap, subst, _∙_}
 use mathlib.Core.Bool.{false}
 use mathlib.Core.List.{List, []}
 use mathlib.Core.Option.{Option}
-use Prim.Native.Nat.{ℕ, _+_, _≤_, _<_}
+use Prim.Native.Nat.{ℕ, suc, _+_, _^_, _≤_, _<_}
 use native.Mathlib.Omega.{arith}
 use lib.IntN.{ℤ, pos}
 use lib.ListN.{length, getD, take}
@@ -17,12 +17,14 @@ use Rattle.meaning.specs.Reply.{Reply, firstFail, refusalAt}
 use Rattle.meaning.specs.Gadget.Interface.{Gadget}
 use Rattle.meaning.specs.Meaning.{byWord, gadget}
 use Rattle.meaning.specs.Refusal.{isField}
+use Rattle.table.specs.Cells.{GroupOf}
 use Rattle.table.specs.Rows.{rowsSeen, firstRefusal}
 use Rattle.table.specs.Line.{gadgetOf, knownCount}
 use Rattle.table.specs.LineRows.{RowsAsked, RowsTold}
 use Rattle.table.specs.declared.rows.Rows.the-variants.{AllHold}
-use Rattle.table.proofs.LineNumbers.{size, NameAt, prime-is}
-use Rattle.table.proofs.LineKinds.{OneWord, one-name, one-is, TwoWord, two-first, two-second, two-is}
+use Rattle.table.proofs.LineNumbers.{size, NameAt, prime-is, power-below}
+use Rattle.table.proofs.LineKinds.{DigitWord, OneWord, one-name, one-is, TwoWord, two-first, two-second, two-is}
+use Rattle.table.proofs.LineValues.{group-read}
 
 -- a line that has no row
 pub no-row : (p : ℕ) (w : Word) (numbers : List ℤ) (count : ℕ) (table : List ℕ) (cells : ℕ) (places : List ℕ)
@@ -49,6 +51,14 @@ module _ {p : ℕ} {w : Word} {numbers : List ℤ} {count : ℕ} {table : List �
         → placeOf (a .kept .state) (size numbers i) ≡ place
     unfolding placeOf
     name-placed e = rw (a .places-are) (getD-take (knownCount (a .kept)) places (size numbers i) 0 (name .below) ∙ sym e)
+
+  -- the digit group of the line, as its rows ask it
+  module _ (i : ℕ) (word : DigitWord w numbers count i) {b k : ℕ} (b-is : b ≡ size numbers i) (k-is : k ≡ size numbers (suc i)) where
+    pub group-asked : GroupOf b k (b ^ k) × (b ^ k ≤ p)
+    group-asked = (
+      group-read (a .kept) i word b-is k-is refl,
+      rw (b-is, k-is, ← a .prime (word .late)) (power-below (a .kept) i (word .long) (word .late) (word .digits)),
+    )
 
   -- ---- a line that names one value
 

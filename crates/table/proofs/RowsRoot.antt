@@ -2,10 +2,11 @@
 use mathlib.Core.Path.{_≡_, ap, _∙_}
 use mathlib.Core.List.{List, _∷_, _++_, append-assoc}
 use mathlib.Core.Option.{Option}
-use Prim.Native.Nat.{ℕ, suc, _+_, _*_}
+use Prim.Native.Nat.{ℕ, suc, _+_, _*_, _<_}
 use native.Mathlib.Omega.{arith}
 use native.Mathlib.Numerals.{add-one}
-use lib.IntN.{pos}
+use lib.IntN.{pos, _+ℤ_, _*ℤ_}
+use Rattle.meaning.specs.Number.{remainder}
 use Rattle.meaning.specs.Known.{Known, placeOf}
 use Rattle.meaning.specs.Row.{Form, cell, constant, _⊕_, _⊖_, _⊗_, _≅_, Row, holds, group}
 use Rattle.meaning.specs.Reply.{Reply}
@@ -24,6 +25,13 @@ root-rows-are s v place at b k e h = rw (e, h, add-one) (all-groups (cell at ⊗
     (group (cell place) (pos 0) (at + 2) b k) (group (cell at) (pos 0) (at + 2 + k) b k)
     (group (cell place ⊖ cell (suc at)) (pos 0) (at + 2 + 2 * k) b k)
     (group (cell (suc at) ⊕ constant (pos 2) ⊗ cell at ⊖ cell place) (pos 0) (at + 2 + 3 * k) b k))
+
+-- the sum of a remainder with itself, as a product
+pub twice : {p r : ℕ} (a : ℕ) → (r < p) × (r ≡ remainder p (pos a +ℤ pos a)) → (r < p) × (r ≡ remainder p (pos 2 *ℤ pos a))
+twice {p} a h = (h .0, h .1 ∙ ap (λ n. remainder p (pos n)) double)
+  where
+    double : a + a ≡ 2 * a
+    double = omega arith
 
 pub groups-answer : (p : ℕ) (t : List ℕ) (A B C D : Form) (at b k : ℕ) {g₁ g₂ g₃ g₄ r₁ r₂ r₃ : Option Reply}
     → g₁ ≡ firstRefusal (holds p t) 1 (group A (pos 0) at b k) → g₂ ≡ firstRefusal (holds p t) (k + 2) (group B (pos 0) (at + k) b k)

@@ -1,15 +1,14 @@
--- The rows of a sign: B modulo p by products, and the answer put together from those for the group and for the four rows after it.
+-- The rows of a sign: that B is small, and the answer put together from those for the group and for the four rows after it.
 use mathlib.Core.Path.{_≡_, refl, sym, ap, _∙_}
 use mathlib.Core.Bool.{Bool, cond}
 use mathlib.Core.List.{List, [], _∷_}
 use mathlib.Core.Option.{Option, none, some}
-use Prim.Native.Nat.{ℕ, zero, suc, _+_, _-_, _*_, _%_, _^_, _<_}
+use Prim.Native.Nat.{ℕ, zero, suc, _+_, _-_, _*_, _^_, _≤_, _<_}
 use native.Mathlib.Omega.{arith}
 use native.Mathlib.Numerals.{add-one}
-use native.Mathlib.Nat.{pow-zero, pow-suc, mul-one, mul-assoc}
+use native.Mathlib.Nat.{pow-zero, pow-le-pow-right, one-le-pow, mul-one}
 use lib.Dec.{eqb}
 use lib.IntN.{ℤ, pos, negℤ, _+ℤ_, _-ℤ_, _*ℤ_}
-use Rattle.algebra.proofs.Congruence.{congruent-remainder, congruent-sym, congruent-*, congruent-refl, remainder-iff}
 use Rattle.meaning.specs.Number.{remainder}
 use Rattle.meaning.specs.Known.{Known, placeOf, topPart}
 use Rattle.meaning.specs.Row.{Form, cell, constant, _⊕_, _⊖_, _⊗_, _≅_, eval, Row, holds, group}
@@ -17,30 +16,26 @@ use Rattle.meaning.specs.Reply.{Reply, reply}
 use Rattle.meaning.specs.Gadget.Sign.{signShift, signRows}
 use Rattle.meaning.specs.Gadget.Relu.{reluLine}
 use Rattle.meaning.specs.Gadget.Which.{whichLine}
+use Rattle.reader.proofs.Digits.{top-part}
 use Rattle.reader.proofs.Sizes.{length-groupRows}
-use Rattle.table.specs.Rows.{Leaves, firstOf, firstRefusal}
+use Rattle.table.specs.Cells.{GroupOf}
+use Rattle.table.specs.Rows.{Leaves, firstRefusal, firstOf}
+use Rattle.table.proofs.SignPower.{part-power}
 use Rattle.table.proofs.RowsFirst.{first-none, first-row, first-rows}
 use Rattle.table.proofs.RowsForm.{leaves-constant, leaves-⊖, leaves-⊗, row-test}
 
--- ---- B modulo p
+-- ---- B
 
-pub top-start : (p b : ℕ) → (b - 1) % p ≡ remainder p (pos (topPart b 1))
-unfolding remainder topPart
-top-start p b = rw (pow-zero, mul-one) refl
+-- (b-1)·b^(i-1) is b^i less the power below it
+pub top-below : {b k : ℕ} → GroupOf b k (b ^ k) → (i : ℕ) → 1 ≤ i → i ≤ k → topPart b i < b ^ k
+top-below {b} {k} g i h l =
+    let base : 0 < b = omega (arith, g .base) in
+    let less : b ^ i ≤ b ^ k = pow-le-pow-right base l in
+    omega (arith, top-part b i (b ^ i) base h refl, part-power b i (b ^ i) base h refl, one-le-pow (i - 1) b base, one-le-pow i b base)
 
-top-power : (b i : ℕ) → 0 < i → topPart b (i + 1) ≡ topPart b i * b
+pub greatest-digit-below : {b k : ℕ} → GroupOf b k (b ^ k) → b - 1 < b ^ k
 unfolding topPart
-top-power b i h =
-    let e : i + 1 - 1 ≡ suc (i - 1) = omega arith in
-    rw (e, pow-suc) (sym (mul-assoc (b - 1) (b ^ (i - 1)) b))
-
-pub top-next : (p b i part r : ℕ) → 0 < p → 0 < i → part ≡ remainder p (pos (topPart b i)) → r ≡ remainder p (pos part *ℤ pos b)
-    → r ≡ remainder p (pos (topPart b (i + 1)))
-top-next p b i part r h l e s = s ∙ rw (next, e) (remainder-iff p _ _ h .0
-    (congruent-* (congruent-sym (congruent-remainder p (pos (topPart b i)) h)) (congruent-refl (pos b))))
-  where
-    next : topPart b (i + 1) ≡ topPart b i * b
-    next = top-power b i l
+greatest-digit-below g = rw (pow-zero, mul-one) at (top-below g 1 (omega arith) (g .some-digit))
 
 -- a number that is moved up by B, as the group over it asks
 sign-shift : (x : ℤ) (n : ℕ) → x +ℤ pos n ≡ x -ℤ negℤ (pos n)

@@ -38,6 +38,7 @@ workedSeen False = refusedBy 18
 pub record GroupOf (b k c : ℕ) : Type 0 where
   pub base : 2 ≤ b
   pub some-digit : 1 ≤ k
+  pub few : k ≤ 31
   pub power : c ≡ b ^ k
   pub small : c ≤ powerBound
 

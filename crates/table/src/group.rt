@@ -3,7 +3,6 @@
 // modulo p.
 use super::rows::Rows;
 use super::rows::row_before;
-use super::rows::rows_before;
 use number::Cell;
 use number::Residue;
 use number::power::Power;
@@ -15,11 +14,11 @@ ghost use lib.IntN.{pos, natAbs, _-ℤ_, ℤ};
 ghost use lib.ListN.{length, drop};
 ghost use Rattle.algebra.specs.Digits.{digits};
 ghost use Rattle.meaning.specs.Number.{remainder};
-ghost use Rattle.meaning.specs.Row.{Form, eval, holds, digitRows, placeValues, group};
+ghost use Rattle.meaning.specs.Row.{Form, eval, holds, group};
 ghost use Rattle.meaning.specs.Gadget.Digits.{groupCells};
 ghost use Rattle.number.specs.Bounded.{Bounded};
-ghost use Rattle.table.specs.Rows.{rowsSeen, firstRefusal, Leaves};
-ghost use Rattle.table.specs.Cells.{formBound, powerBound};
+ghost use Rattle.table.specs.Rows.{rowsSeen, firstRefusal};
+ghost use Rattle.table.specs.Cells.{GroupOf, formBound, powerBound};
 
 // c = b ^ k.
 pub fn power_of(b: u32, k: usize) -> u64
@@ -79,51 +78,25 @@ pub fn two_groups(out: &mut [u32], first: i64, second: i64, b: u32, k: usize)
 
 // ---- rows
 
-// The rows of a group over the k cells from the one called `at`, whose number modulo p is `number`. `first` is the number that the first of
-// these rows has in its line.
-pub fn group_rows(
-    table: &[u32],
-    p: u32,
-    number: Residue,
-    first: usize,
-    at: Cell,
-    b: u32,
-    k: usize,
-) -> Rows
-    requires { ⌜ (0 < p) × (at .0 + k ≤ length (now table)) × (first + k < 2 ^ 64) ⌝ }
-    ensures { λ r. ⌜ ((f : Form) (L : ℤ) → remainder p (eval (now (table .entry)) f -ℤ L) ≡ number .0
+// The rows of a group over the k cells from the one called `at`, whose number modulo p is `number`, for every p from b^k on. `first` is the
+// number that the first of these rows has in its line. Digits below b have a value below b^k, so that it is its own remainder: nothing is
+// reduced. In each turn it is the value of the digits before, and part is the power of b below which it is.
+pub fn group_rows(table: &[u32], number: Residue, first: usize, at: Cell, b: u32, k: usize) -> Rows
+    requires { ⌜ GroupOf b k (b ^ k) × (at .0 + k ≤ length (now table)) × (first + k < 2 ^ 64) ⌝ }
+    ensures { λ r. ⌜ ((p : ℕ) (f : Form) (L : ℤ) → b ^ k ≤ p → remainder p (eval (now (table .entry)) f -ℤ L) ≡ number .0
         → rowsSeen r ≡ firstRefusal (holds p (now (table .entry))) first (group f L (at .0) b k)) ⌝ }
 {
-    let value = place_value(table, p, at, b, k);
-    let last = row_before(number.0 == value.0, first + k, Rows::AllHold);
-    rows_before(digit_rows(table, first, at, b, k), last)
-}
-
-// The rows of the digits. They hold or fail modulo every p alike.
-fn digit_rows(table: &[u32], first: usize, at: Cell, b: u32, k: usize) -> Rows
-    requires { ⌜ (at .0 + k ≤ length (now table)) × (first + k < 2 ^ 64) ⌝ }
-    ensures { λ r. ⌜ ((p : ℕ) → rowsSeen r ≡ firstRefusal (holds p (now (table .entry))) first (digitRows (at .0) b k)) ⌝ }
-{
+    let mut value: u32 = 0;
+    let mut part: u32 = 1;
     let mut i: usize = 0;
     while i < k {
-        if b <= table[at.0 + i] {
+        let digit = table[at.0 + i];
+        if b <= digit {
             return Rows::Fails(first + i);
         }
+        value = value + digit * part;
+        part = part * b;
         i += 1;
     }
-    Rows::AllHold
-}
-
-// d0 + d1·b + .. + d(k-1)·b^(k-1) modulo p, from the highest digit down: a turn is exact in a u64, as the value is below p before it.
-fn place_value(table: &[u32], p: u32, at: Cell, b: u32, k: usize) -> Residue
-    requires { ⌜ (0 < p) × (at .0 + k ≤ length (now table)) ⌝ }
-    ensures { λ r. ⌜ Leaves p (now (table .entry)) (r .0) (placeValues 1 (at .0) b k) ⌝ }
-{
-    let mut value: u64 = 0;
-    let mut left = k;
-    while 0 < left {
-        left -= 1;
-        value = (value * b as u64 + table[at.0 + left] as u64) % p as u64;
-    }
-    Residue(value as u32)
+    row_before(number.0 == value, first + k, Rows::AllHold)
 }

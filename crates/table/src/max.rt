@@ -33,7 +33,7 @@ ghost use Rattle.meaning.specs.Row.{holds};
 ghost use Rattle.meaning.specs.Refusal.{value, refusedBy};
 ghost use Rattle.meaning.specs.Gadget.Max.{maxLine};
 ghost use Rattle.number.specs.Bounded.{Bounded};
-ghost use Rattle.table.specs.Cells.{workedSeen, maxCells, valueBound};
+ghost use Rattle.table.specs.Cells.{workedSeen, GroupOf, maxCells, valueBound};
 ghost use Rattle.table.specs.Rows.{rowsSeen, firstRefusal};
 ghost use Rattle.table.specs.LineValues.{ValuesAsked, WorkTold, CellsAsked, CellsTold};
 ghost use Rattle.table.specs.LineRows.{RowsAsked, RowsTold};
@@ -97,7 +97,7 @@ pub fn max_line_cells(numbers: &[i64], p: u32, values: &[i64], part: &mut [u32])
 
 fn max_rows(table: &[u32], p: u32, place_u: Cell, place_v: Cell, at: Cell, b: u32, k: usize) -> Rows
     requires { ⌜ (0 < p) × Below p (now table) × («place_u» .0 < length (now table)) × («place_v» .0 < length (now table))
-        × (at .0 + 1 + 2 * k ≤ length (now table)) ⌝ }
+        × (at .0 + 1 + 2 * k ≤ length (now table)) × GroupOf b k (b ^ k) × (b ^ k ≤ p) ⌝ }
     ensures { λ r. ⌜ ((s : Known) (u v : ℕ) → s .p ≡ p → placeOf s u ≡ «place_u» .0 → placeOf s v ≡ «place_v» .0 → s .cells ≡ at .0
         → rowsSeen r ≡ firstRefusal (holds p (now (table .entry))) 0 (maxLine s u v b k .rows)) ⌝ }
 {
@@ -105,8 +105,8 @@ fn max_rows(table: &[u32], p: u32, place_u: Cell, place_v: Cell, at: Cell, b: u3
     let over_u = difference(made, residue_at(table, place_u), p);
     let over_v = difference(made, residue_at(table, place_v), p);
     let either = product(over_u, over_v, p);
-    let group_u = group_rows(table, p, over_u, 1, Cell(at.0 + 1), b, k);
-    let group_v = group_rows(table, p, over_v, k + 2, Cell(at.0 + 1 + k), b, k);
+    let group_u = group_rows(table, over_u, 1, Cell(at.0 + 1), b, k);
+    let group_v = group_rows(table, over_v, k + 2, Cell(at.0 + 1 + k), b, k);
     row_before(either.0 == 0, 0, rows_before(group_u, group_v))
 }
 

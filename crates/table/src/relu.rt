@@ -94,12 +94,12 @@ pub fn relu_line_cells(numbers: &[i64], p: u32, values: &[i64], part: &mut [u32]
 // ---- rows
 
 fn relu_rows(table: &[u32], p: u32, place: Cell, at: Cell, b: u32, k: usize) -> Rows
-    requires { ⌜ (1 < p) × Below p (now table) × (place .0 < length (now table)) × (at .0 + k + 3 ≤ length (now table)) × (0 < b) × (0 < k) ⌝ }
+    requires { ⌜ (1 < p) × Below p (now table) × (place .0 < length (now table)) × (at .0 + k + 3 ≤ length (now table)) × GroupOf b k (b ^ k) × (b ^ k ≤ p) ⌝ }
     ensures { λ r. ⌜ ((s : Known) (v : ℕ) → s .p ≡ p → placeOf s v ≡ place .0 → s .cells ≡ at .0
         → rowsSeen r ≡ firstRefusal (holds p (now (table .entry))) 0 (reluLine s v b k .rows)) ⌝ }
 {
     let value = residue_at(table, place);
-    let number = sum(value, top_part(p, b, k), p);
+    let number = sum(value, top_part(b, k), p);
     let flag = residue_at(table, Cell(at.0 + 1 + k));
     let kept = product(flag, value, p);
     let made = residue_at(table, at);

@@ -36,7 +36,7 @@ ghost use Rattle.meaning.specs.Row.{Form, holds};
 ghost use Rattle.meaning.specs.Refusal.{value, refusedBy};
 ghost use Rattle.meaning.specs.Gadget.Root.{rootValue, rootLine};
 ghost use Rattle.number.specs.Bounded.{Bounded};
-ghost use Rattle.table.specs.Cells.{workedSeen, restCells, rootCells, powerBound, valueBound};
+ghost use Rattle.table.specs.Cells.{workedSeen, GroupOf, restCells, rootCells, powerBound, valueBound};
 ghost use Rattle.table.specs.Rows.{rowsSeen, firstRefusal, Leaves, fourGroups};
 ghost use Rattle.table.specs.LineValues.{ValuesAsked, WorkTold, CellsAsked, CellsTold};
 ghost use Rattle.table.specs.LineRows.{RowsAsked, RowsTold};
@@ -120,7 +120,8 @@ pub fn root_line_cells(numbers: &[i64], p: u32, values: &[i64], part: &mut [u32]
 // ---- rows
 
 fn root_rows(table: &[u32], p: u32, place: Cell, at: Cell, b: u32, k: usize) -> Rows
-    requires { ⌜ (2 < p) × Below p (now table) × (place .0 < length (now table)) × (at .0 + 2 + 4 * k ≤ length (now table)) ⌝ }
+    requires { ⌜ (2 < p) × Below p (now table) × (place .0 < length (now table)) × (at .0 + 2 + 4 * k ≤ length (now table))
+        × GroupOf b k (b ^ k) × (b ^ k ≤ p) ⌝ }
     ensures { λ r. ⌜ ((s : Known) (v : ℕ) → s .p ≡ p → placeOf s v ≡ place .0 → s .cells ≡ at .0
         → rowsSeen r ≡ firstRefusal (holds p (now (table .entry))) 0 (rootLine s v b k .rows)) ⌝ }
 {
@@ -129,16 +130,15 @@ fn root_rows(table: &[u32], p: u32, place: Cell, at: Cell, b: u32, k: usize) -> 
     let square = residue_at(table, Cell(at.0 + 1));
     let squared = product(root, root, p);
     let over = difference(value, square, p);
-    let twice = product(Residue(2), root, p);
+    let twice = sum(root, root, p);
     let under = difference(sum(square, twice, p), value, p);
-    let later = four_groups(table, p, value, root, over, under, Cell(at.0 + 2), b, k);
+    let later = four_groups(table, value, root, over, under, Cell(at.0 + 2), b, k);
     row_before(squared.0 == square.0, 0, later)
 }
 
-// The four groups, after one row, over the forms A to D that leave these remainders.
+// The four groups, after one row, over the forms A to D that leave these remainders modulo some p.
 fn four_groups(
     table: &[u32],
-    p: u32,
     value: Residue,
     root: Residue,
     over: Residue,
@@ -147,15 +147,15 @@ fn four_groups(
     b: u32,
     k: usize,
 ) -> Rows
-    requires { ⌜ (0 < p) × (at .0 + 4 * k ≤ length (now table)) ⌝ }
-    ensures { λ r. ⌜ ((A B C D : Form) → Leaves p (now (table .entry)) (value .0) A → Leaves p (now (table .entry)) (root .0) B
+    requires { ⌜ (at .0 + 4 * k ≤ length (now table)) × GroupOf b k (b ^ k) ⌝ }
+    ensures { λ r. ⌜ ((p : ℕ) (A B C D : Form) → b ^ k ≤ p → Leaves p (now (table .entry)) (value .0) A → Leaves p (now (table .entry)) (root .0) B
         → Leaves p (now (table .entry)) (over .0) C → Leaves p (now (table .entry)) (under .0) D
         → rowsSeen r ≡ firstRefusal (holds p (now (table .entry))) 1 (fourGroups A B C D (at .0) b k)) ⌝ }
 {
-    let first = group_rows(table, p, value, 1, at, b, k);
-    let second = group_rows(table, p, root, k + 2, Cell(at.0 + k), b, k);
-    let third = group_rows(table, p, over, 2 * k + 3, Cell(at.0 + 2 * k), b, k);
-    let fourth = group_rows(table, p, under, 3 * k + 4, Cell(at.0 + 3 * k), b, k);
+    let first = group_rows(table, value, 1, at, b, k);
+    let second = group_rows(table, root, k + 2, Cell(at.0 + k), b, k);
+    let third = group_rows(table, over, 2 * k + 3, Cell(at.0 + 2 * k), b, k);
+    let fourth = group_rows(table, under, 3 * k + 4, Cell(at.0 + 3 * k), b, k);
     let last_two = rows_before(third, fourth);
     rows_before(first, rows_before(second, last_two))
 }

@@ -4,6 +4,7 @@
 use super::group::apart;
 use super::group::group_cells;
 use super::group::group_rows;
+use super::group::power_of;
 use super::rows::Rows;
 use super::rows::residue_at;
 use super::rows::row_before;
@@ -75,18 +76,14 @@ fn flag_cells(out: &mut [u32], p: u32, digit: u64, b: u32)
 
 // ---- rows
 
-// B modulo p.
-pub fn top_part(p: u32, b: u32, k: usize) -> Residue
-    requires { ⌜ (0 < p) × (0 < b) × (0 < k) ⌝ }
-    ensures { λ r. ⌜ r .0 ≡ remainder p (pos (topPart b k)) ⌝ }
+// B, which is its own remainder modulo every p from b^k on.
+pub fn top_part(b: u32, k: usize) -> Residue
+    requires { ⌜ GroupOf b k (b ^ k) ⌝ }
+    ensures { λ r. ⌜ ((p : ℕ) → b ^ k ≤ p → r .0 ≡ remainder p (pos (topPart b k))) ⌝ }
 {
-    let mut part = (b - 1) % p;
-    let mut i: usize = 1;
-    while i < k {
-        part = product(Residue(part), Residue(b), p).0;
-        i += 1;
-    }
-    Residue(part)
+    let part = power_of(b, k - 1);
+    let top = (b - 1) as u64 * part;
+    Residue(top as u32)
 }
 
 // The rows over the group at the k cells from `at` on, and over f and w after them; `last` is whether the row that the line puts last
@@ -100,17 +97,17 @@ pub fn sign_rows(
     b: u32,
     k: usize,
 ) -> Rows
-    requires { ⌜ (1 < p) × Below p (now table) × (at .0 + k + 2 ≤ length (now table)) × (0 < b) × (0 < k) ⌝ }
+    requires { ⌜ (1 < p) × Below p (now table) × (at .0 + k + 2 ≤ length (now table)) × GroupOf b k (b ^ k) × (b ^ k ≤ p) ⌝ }
     ensures { λ r. ⌜ ((form : Form) (row : Form → Row) → remainder p (eval (now (table .entry)) form -ℤ signShift b k) ≡ number .0
         → last ≡ holds p (now (table .entry)) (row (cell (at .0 + k)))
         → rowsSeen r ≡ firstRefusal (holds p (now (table .entry))) 0 (signRows form (at .0) b k row)) ⌝ }
 {
     let digit = residue_at(table, Cell(at.0 + (k - 1)));
-    let top = difference(digit, Residue((b - 1) % p), p);
+    let top = difference(digit, Residue(b - 1), p);
     let flag = residue_at(table, Cell(at.0 + k));
     let witness = residue_at(table, Cell(at.0 + (k + 1)));
     let later = flag_rows(p, top, flag, witness, last, k + 1);
-    rows_before(group_rows(table, p, number, 0, at, b, k), later)
+    rows_before(group_rows(table, number, 0, at, b, k), later)
 }
 
 // The rows t·w ≡ 1-f, t·f ≡ 0 and w·f ≡ 0, the first of them of the number `row` in its line, and then the last. The answer is the same in

@@ -29,7 +29,7 @@ ghost use Rattle.number.specs.Bounded.{Bounded};
 ghost use Rattle.table.specs.Rows.{rowsSeen, firstRefusal};
 ghost use Rattle.table.specs.LineValues.{ValuesAsked, WorkTold, CellsAsked, CellsTold};
 ghost use Rattle.table.specs.LineRows.{RowsAsked, RowsTold};
-ghost use Rattle.table.specs.Cells.{powerBound};
+ghost use Rattle.table.specs.Cells.{GroupOf, powerBound};
 
 // ---- working
 
@@ -76,13 +76,14 @@ pub fn span_line_cells(numbers: &[i64], values: &[i64], part: &mut [u32])
 // ---- rows
 
 fn span_rows(table: &[u32], p: u32, place: Cell, at: Cell, b: u32, k: usize, shift: i64) -> Rows
-    requires { ⌜ (0 < p) × Below p (now table) × (place .0 < length (now table)) × (at .0 + k ≤ length (now table)) ⌝ }
+    requires { ⌜ (0 < p) × Below p (now table) × (place .0 < length (now table)) × (at .0 + k ≤ length (now table))
+        × GroupOf b k (b ^ k) × (b ^ k ≤ p) ⌝ }
     ensures { λ r. ⌜ ((s : Known) (v : ℕ) → s .p ≡ p → placeOf s v ≡ place .0 → s .cells ≡ at .0
         → rowsSeen r ≡ firstRefusal (holds p (now (table .entry))) 0 (spanLine s v b k shift .rows)) ⌝ }
 {
     let lowest = remainder_of(Whole(shift), p);
     let number = difference(residue_at(table, place), lowest, p);
-    group_rows(table, p, number, 0, at, b, k)
+    group_rows(table, number, 0, at, b, k)
 }
 
 pub fn span_line_rows(numbers: &[i64], table: &[u32], p: u32, at: Cell, places: &[usize]) -> Rows

@@ -103,12 +103,12 @@ fn which_rows(
     k: usize,
 ) -> Rows
     requires { ⌜ (1 < p) × Below p (now table) × («place_u» .0 < length (now table)) × («place_v» .0 < length (now table))
-        × (at .0 + k + 3 ≤ length (now table)) × (0 < b) × (0 < k) ⌝ }
+        × (at .0 + k + 3 ≤ length (now table)) × GroupOf b k (b ^ k) × (b ^ k ≤ p) ⌝ }
     ensures { λ r. ⌜ ((s : Known) (u v : ℕ) → s .p ≡ p → placeOf s u ≡ «place_u» .0 → placeOf s v ≡ «place_v» .0 → s .cells ≡ at .0
         → rowsSeen r ≡ firstRefusal (holds p (now (table .entry))) 0 (whichLine s u v b k .rows)) ⌝ }
 {
     let apart = difference(residue_at(table, place_u), residue_at(table, place_v), p);
-    let number = sum(apart, top_part(p, b, k), p);
+    let number = sum(apart, top_part(b, k), p);
     let flag = residue_at(table, Cell(at.0 + 1 + k));
     let other = difference(Residue(1), flag, p);
     let made = residue_at(table, at);

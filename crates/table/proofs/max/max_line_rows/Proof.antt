@@ -2,7 +2,7 @@
 use native.Mathlib.Omega.{arith}
 use Rattle.meaning.specs.Gadget.Max.{maxLine}
 use Rattle.table.proofs.LineKinds.{max-word, base-asked, count-asked, two-first, two-second}
-use Rattle.table.proofs.RowsLine.{name-asked, name-inside, p-three, two-room, two-told}
+use Rattle.table.proofs.RowsLine.{name-asked, name-inside, p-three, group-asked, two-room, two-told}
 use Rattle.table.proofs.max.max_line_rows.Statement.{statement}
 use Rattle.table.proofs.max.max_line_rows.Tie as tie
 
@@ -37,12 +37,15 @@ max-rows-requires c κs =
     let u = name-inside (start .pre) 0 (two-first (start .pre .kept) word) (at-u .place-at .ensures) in
     let v = name-inside (start .pre) 1 (two-second (start .pre .kept) word) (at-v .place-at2 .ensures) in
     let three = p-three (start .pre) (word .has-digits .late) in
+    let group = group-asked (start .pre) 2 (word .has-digits) (at-b .base-at .ensures) (c .size-at .ensures) in
     let room = two-room (start .pre) word (at-b .base-at .ensures) (c .size-at .ensures) in (
       omega arith,
       start .pre .below,
       omega arith,
       omega arith,
       omega (arith, room),
+      group .0,
+      group .1,
     )
 
 returns : tie.Need-returns

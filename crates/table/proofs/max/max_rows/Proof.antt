@@ -92,7 +92,8 @@ returns c s u v p-is place-u-is place-v-is cells-is =
     let over-v = leaves-⊖ (y-is at-y) (v-is at-v) (at-over-v .difference2 .ensures) in
     rw (max-rows-are s u v (a .place-u .0) (a .place-v .0) (a .at .0) (a .b) (a .k) place-u-is place-v-is cells-is)
     (max-answer (a .p) (a .table .now) F G (a .at .0) (a .b) (a .k) (start .pre .0) (leaves-⊗ over-u over-v (at-either .product .ensures))
-    (at-first .group-rows .ensures F (pos 0) (leaves-plain F over-u)) (at-second .group-rows2 .ensures G (pos 0) (leaves-plain G over-v))
+    (at-first .group-rows .ensures (a .p) F (pos 0) (start .pre .6) (leaves-plain F over-u))
+    (at-second .group-rows2 .ensures (a .p) G (pos 0) (start .pre .6) (leaves-plain G over-v))
     (at-both .rows-before .ensures) (c .row-before .ensures))
 
 pub max-rows-spec : {M : Type 1} → statement M

@@ -1,8 +1,8 @@
 -- `table::relu::relu_line_rows`: the line's numbers are what `relu_rows` takes.
 use native.Mathlib.Omega.{arith}
 use Rattle.meaning.specs.Gadget.Relu.{reluLine}
-use Rattle.table.proofs.LineKinds.{relu-word, word-digits, base-asked, count-asked, one-name}
-use Rattle.table.proofs.RowsLine.{name-asked, name-inside, p-three, one-room, one-told}
+use Rattle.table.proofs.LineKinds.{relu-word, base-asked, count-asked, one-name}
+use Rattle.table.proofs.RowsLine.{name-asked, name-inside, p-three, group-asked, one-room, one-told}
 use Rattle.table.proofs.relu.relu_line_rows.Statement.{statement}
 use Rattle.table.proofs.relu.relu_line_rows.Tie as tie
 
@@ -30,14 +30,14 @@ relu-rows-requires c κs =
     let start = at-place .before .before .before in
     let word = relu-word (start .args .numbers .now) in
     let three = p-three (start .pre) (word .has-digits .late) in
-    let d = word-digits (start .pre .kept) 1 (word .has-digits) in
+    let group = group-asked (start .pre) 1 (word .has-digits) (at-b .base-at .ensures) (at-k .size-at .ensures) in
     let room = one-room (start .pre) word (at-b .base-at .ensures) (at-k .size-at .ensures) in (
       omega arith,
       start .pre .below,
       name-inside (start .pre) 0 (one-name (start .pre .kept) word) (at-place .place-at .ensures),
       omega (arith, room),
-      omega (arith, d .base-two, at-b .base-at .ensures),
-      omega (arith, d .count-one, at-k .size-at .ensures),
+      group .0,
+      group .1,
     )
 
 returns : tie.Need-returns

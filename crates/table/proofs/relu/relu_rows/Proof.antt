@@ -29,8 +29,9 @@ value-is c =
 top : (c : tie.After-top-part) → let a = c .before .before .before .args in
     Leaves (a .p) (a .table .now) (c .top-part .result .0) (constant (pos (topPart (a .b) (a .k))))
 top c =
-    let a = c .before .before .before .args in
-    leaves-whole (a .p) (a .table .now) (pos (topPart (a .b) (a .k))) (omega arith) (c .top-part .ensures)
+    let start = c .before .before .before in
+    let a = start .args in
+    leaves-whole (a .p) (a .table .now) (pos (topPart (a .b) (a .k))) (omega arith) (c .top-part .ensures (a .p) (start .pre .5))
 
 sum-requires : tie.Need-sum-requires
 sum-requires c κs = (value-is (c .before) .below, top c .below)

@@ -7,7 +7,7 @@ use Rattle.meaning.specs.Row.{cell, constant, _⊕_, _⊖_, _⊗_, _≅_, holds
 use Rattle.table.specs.Rows.{Leaves, fourGroups}
 use Rattle.table.proofs.RowsFirst.{first-row}
 use Rattle.table.proofs.RowsForm.{leaves-read, leaves-constant, leaves-⊕, leaves-⊖, leaves-⊗, row-test}
-use Rattle.table.proofs.RowsRoot.{root-rows-are}
+use Rattle.table.proofs.RowsRoot.{root-rows-are, twice}
 use Rattle.table.proofs.root.root_rows.Statement.{statement}
 use Rattle.table.proofs.root.root_rows.Tie as tie
 
@@ -26,13 +26,20 @@ residue-at-requires-3 c κs = search needs
 product-requires : tie.Need-product-requires
 product-requires c κs = search needs
 
--- v and q
+-- v, y and q
 value-is : (c : tie.After-residue-at) → let a = c .before .before .args in
     Leaves (a .p) (a .table .now) (c .residue-at .result .0) (cell (a .place .0))
 value-is c =
     let start = c .before .before in
     let a = start .args in
     leaves-read (a .p) (a .table .now) (a .place .0) (start .pre .1) (start .pre .2) (c .residue-at .ensures)
+
+root-is : (c : tie.After-residue-at2) → let a = c .before .before .before .args in
+    Leaves (a .p) (a .table .now) (c .residue-at2 .result .0) (cell (a .at .0))
+root-is c =
+    let start = c .before .before .before in
+    let a = start .args in
+    leaves-read (a .p) (a .table .now) (a .at .0) (start .pre .1) (omega arith) (c .residue-at2 .ensures)
 
 square-is : (c : tie.After-residue-at3) → let a = c .before .before .before .before .before .args in
     Leaves (a .p) (a .table .now) (c .residue-at3 .result .0) (cell (a .at .0 + 1))
@@ -44,14 +51,14 @@ square-is c =
 difference-requires : tie.Need-difference-requires
 difference-requires c κs = (value-is (c .before .before .before .before) .below, square-is (c .before) .below)
 
-product-requires-2 : tie.Need-product-requires-2
-product-requires-2 c κs = search needs
-
 sum-requires : tie.Need-sum-requires
-sum-requires c κs = (square-is (c .before .before .before) .below, c .product2 .ensures .0)
+sum-requires c κs = let root = root-is (c .before .before .before .before) .below in (root, root)
+
+sum-requires-2 : tie.Need-sum-requires-2
+sum-requires-2 c κs = (square-is (c .before .before .before) .below, c .sum .ensures .0)
 
 difference-requires-2 : tie.Need-difference-requires-2
-difference-requires-2 c κs = (c .sum .ensures .0, value-is (c .before .before .before .before .before .before .before) .below)
+difference-requires-2 c κs = (c .sum2 .ensures .0, value-is (c .before .before .before .before .before .before .before) .below)
 
 add-t15-2 : tie.Need-add-t15-2
 add-t15-2 c =
@@ -81,13 +88,13 @@ returns c s v p-is place-is cells-is =
     let Y = cell (a .at .0) in
     let Q = cell (a .at .0 + 1) in
     let value = value-is (at-root .before) in
-    let root = leaves-read (a .p) t (a .at .0) (start .pre .1) (omega arith) (at-root .residue-at2 .ensures) in
+    let root = root-is at-root in
     let square = square-is at-square in
-    let twice = leaves-⊗ (leaves-constant (a .p) t 2 (start .pre .0)) root (at-twice .product2 .ensures) in
+    let twice-is = leaves-⊗ (leaves-constant (a .p) t 2 (start .pre .0)) root (twice _ (at-twice .sum .ensures)) in
     let over = leaves-⊖ value square (at-over .difference .ensures) in
-    let under = leaves-⊖ (leaves-⊕ square twice (at-sum .sum .ensures)) value (at-under .difference2 .ensures) in
+    let under = leaves-⊖ (leaves-⊕ square twice-is (at-sum .sum2 .ensures)) value (at-under .difference2 .ensures) in
     let under-form = Q ⊕ constant (pos 2) ⊗ Y ⊖ V′ in
-    let later = at-later .four-groups .ensures V′ Y (V′ ⊖ Q) under-form value root over under in
+    let later = at-later .four-groups .ensures (a .p) V′ Y (V′ ⊖ Q) under-form (start .pre .5) value root over under in
     rw (root-rows-are s v (a .place .0) (a .at .0) (a .b) (a .k) place-is cells-is)
     (first-row (holds (a .p) t) 0 1 (Y ⊗ Y ≅ Q) (fourGroups V′ Y (V′ ⊖ Q) under-form (a .at .0 + 2) (a .b) (a .k)) (omega arith)
     (row-test (leaves-⊗ root root (at-squared .product .ensures)) square) (c .row-before .ensures) later)
@@ -102,8 +109,8 @@ root-rows-spec =
     residue-at-requires-3
     product-requires
     difference-requires
-    product-requires-2
     sum-requires
+    sum-requires-2
     difference-requires-2
     add-t15-2
     four-groups-requires

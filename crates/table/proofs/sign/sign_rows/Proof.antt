@@ -1,16 +1,13 @@
 -- `table::sign::sign_rows`: the group, and then the rows of the flag.
-use mathlib.Core.Path.{sym}
-use Prim.Native.Nat.{_+_, _-_}
+use Prim.Native.Nat.{_+_, _-_, _<_}
 use native.Mathlib.Omega.{arith}
-use native.Mathlib.Nat.{mod-lt}
 use lib.IntN.{pos}
 use borrow.Author.Needs.{needs}
 use Rattle.meaning.specs.Row.{cell, constant, _⊖_}
 use Rattle.meaning.specs.Gadget.Sign.{signShift}
-use Rattle.number.proofs.Remainder.{remainder-positive}
 use Rattle.table.specs.Rows.{Leaves}
-use Rattle.table.proofs.RowsForm.{leaves-read, leaves-whole, leaves-⊖}
-use Rattle.table.proofs.RowsSign.{sign-answer}
+use Rattle.table.proofs.RowsForm.{leaves-read, leaves-constant, leaves-⊖}
+use Rattle.table.proofs.RowsSign.{greatest-digit-below, sign-answer}
 use Rattle.table.proofs.sign.sign_rows.Statement.{statement}
 use Rattle.table.proofs.sign.sign_rows.Tie as tie
 
@@ -26,9 +23,6 @@ residue-at-requires c κs = search needs
 sub-t16 : tie.Need-sub-t16
 sub-t16 c = search needs
 
-rem-t17 : tie.Need-rem-t17
-rem-t17 c = search needs
-
 -- the top digit
 digit-is : (c : tie.After-residue-at) → let a = c .before .before .before .args in
     Leaves (a .p) (a .table .now) (c .residue-at .result .0) (cell (a .at .0 + (a .k - 1)))
@@ -37,8 +31,12 @@ digit-is c =
     let a = start .args in
     leaves-read (a .p) (a .table .now) (a .at .0 + (a .k - 1)) (start .pre .1) (omega arith) (c .residue-at .ensures)
 
+-- and the greatest digit
+full-below : (c : tie.After-residue-at) → c .before .before .before .args .b - 1 < c .before .before .before .args .p
+full-below c = let start = c .before .before .before in omega (arith, greatest-digit-below (start .pre .3), start .pre .4)
+
 difference-requires : tie.Need-difference-requires
-difference-requires c κs = (digit-is c .below, mod-lt (c .before .before .before .args .b - 1) (omega arith))
+difference-requires c κs = (digit-is c .below, full-below c)
 
 add-t13 : tie.Need-add-t13
 add-t13 c = search needs
@@ -91,10 +89,10 @@ returns c form row number-is last-is =
     let D = cell (a .at .0 + (a .k - 1)) in
     let F = cell (a .at .0 + a .k) in
     let W = cell (a .at .0 + (a .k + 1)) in
-    let full = leaves-whole (a .p) t (pos (a .b - 1)) (omega arith) (sym (remainder-positive (a .p) (a .b - 1))) in
+    let full = leaves-constant (a .p) t (a .b - 1) (full-below (at-top .before)) in
     let top = leaves-⊖ (digit-is (at-top .before)) full (at-top .difference .ensures) in
     let witness = leaves-read (a .p) t (a .at .0 + (a .k + 1)) (start .pre .1) (omega arith) (at-witness .residue-at3 .ensures) in
-    sign-answer (a .p) t form (a .at .0) (a .b) (a .k) row (at-group .group-rows .ensures form (signShift (a .b) (a .k)) number-is)
+    sign-answer (a .p) t form (a .at .0) (a .b) (a .k) row (at-group .group-rows .ensures (a .p) form (signShift (a .b) (a .k)) (start .pre .4) number-is)
     (at-rows .flag-rows .ensures t (D ⊖ constant (pos (a .b - 1))) F W (row F) top (flag-is at-flag) witness last-is)
     (c .rows-before .ensures)
 
@@ -106,7 +104,6 @@ sign-rows-spec =
     add-t14
     residue-at-requires
     sub-t16
-    rem-t17
     difference-requires
     add-t13
     residue-at-requires-2

@@ -1,66 +1,47 @@
--- `table::sign::top_part`: in each turn part is (b-1)·b^(i-1) modulo p.
-use mathlib.Core.Path.{_≡_}
-use Prim.Native.Nat.{_-_, _≤_, _<_}
+-- `table::sign::top_part`: b - 1 times the power below b^k.
+use mathlib.Core.Path.{_≡_, sym, ap, _∙_}
+use Prim.Native.Nat.{_-_, _*_, _^_, _≤_, _<_}
 use native.Mathlib.Omega.{arith}
-use lib.IntN.{pos}
+use native.Mathlib.Nat.{pow-le-pow-right}
 use borrow.Author.Needs.{needs}
-use Rattle.meaning.specs.Number.{remainder}
+use Rattle.algebra.proofs.Congruence.{remainder-of-residue}
 use Rattle.meaning.specs.Known.{topPart}
-use Rattle.table.proofs.RowsSign.{top-start, top-next}
+use Rattle.table.proofs.RowsSign.{top-below}
 use Rattle.table.proofs.sign.top_part.Statement.{statement}
 use Rattle.table.proofs.sign.top_part.Tie as tie
 
-abbrev Inv-loop : tie.InvT-loop
-Inv-loop p b k part₀ i₀ part i = (0 < i) × (i ≤ k) × (part ≡ remainder p (pos (topPart b i)))
+sub-power-of : tie.Need-sub-power-of
+sub-power-of c = search needs
 
-abbrev μ-loop : tie.MeasureT-loop
-μ-loop p b k part₀ i₀ part i = k - i
+power-of-requires : tie.Need-power-of-requires
+power-of-requires c κs =
+    let a = c .args in
+    let h : 0 < a .b = omega (arith, c .pre .base) in
+    let l : a .b ^ (a .k - 1) ≤ a .b ^ a .k = pow-le-pow-right h (omega arith) in
+    (omega (arith, c .pre .few), omega (arith, c .pre .small))
 
-sub-part : tie.Need-sub-part Inv-loop μ-loop
-sub-part c = search needs
+sub-top : tie.Need-sub-top
+sub-top c = search needs
 
-rem-part : tie.Need-rem-part Inv-loop μ-loop
-rem-part c = search needs
+cast-top : tie.Need-cast-top
+cast-top c = search needs
 
-loop-holds : tie.Need-loop-holds Inv-loop μ-loop
-loop-holds c = (search needs, search needs, top-start (c .args .p) (c .args .b))
+-- B, and that it is below b^k
+is : (c : tie.After-power-of) → (c .before .args .b - 1) * c .power-of .result ≡ topPart (c .before .args .b) (c .before .args .k)
+unfolding topPart
+is c = ap (λ n. (c .before .args .b - 1) * n) (c .power-of .ensures)
 
-product-requires : tie.Need-product-requires Inv-loop μ-loop
-product-requires c κs = search needs
+below : (c : tie.After-power-of) → let a = c .before .args in topPart (a .b) (a .k) < a .b ^ a .k
+below c = let g = c .before .pre in top-below g (c .before .args .k) (g .some-digit) (omega arith)
 
-add-i : tie.Need-add-i Inv-loop μ-loop
-add-i c = search needs
+mul-top : tie.Need-mul-top
+mul-top c = omega (arith, is c, below c, c .before .pre .small)
 
-loop-less : tie.Need-loop-less Inv-loop μ-loop
-loop-less c = search needs
+cast-t6 : tie.Need-cast-t6
+cast-t6 c = omega (arith, is c, below c, c .before .pre .small)
 
-loop-again : tie.Need-loop-again Inv-loop μ-loop
-loop-again c =
-    let at-loop = c .before .before in
-    let start = at-loop .before in
-    let i = at-loop .loop .i in (
-      search needs,
-      search needs,
-      top-next (start .args .p) (start .args .b) i (at-loop .loop .part) (c .product .result .0) (start .pre .0)
-          (at-loop .loop .inv .0) (at-loop .loop .inv .2) (c .product .ensures .1),
-    )
-
-returns : tie.Need-returns Inv-loop μ-loop
-returns c =
-    let e : c .before .loop .i ≡ c .before .before .args .k = omega arith in
-    rw e at (c .before .loop .inv .2)
+returns : tie.Need-returns
+returns c p h = is c ∙ sym (remainder-of-residue p _ (omega (arith, below c)))
 
 pub top-part-spec : {M : Type 1} → statement M
-top-part-spec =
-    tie.close
-    (tie.spec
-    Inv-loop
-    μ-loop
-    sub-part
-    rem-part
-    loop-holds
-    product-requires
-    add-i
-    loop-less
-    loop-again
-    returns)
+top-part-spec = tie.close (tie.spec sub-power-of power-of-requires sub-top cast-top mul-top cast-t6 returns)

@@ -8,7 +8,7 @@ use mir.Val.{SFits}
 use Rattle.number.proofs.Word.{back}
 use Rattle.meaning.specs.Gadget.Span.{spanLine}
 use Rattle.table.proofs.LineKinds.{span-word, base-asked, count-asked, one-name}
-use Rattle.table.proofs.RowsLine.{name-asked, name-inside, p-three, one-room, one-told}
+use Rattle.table.proofs.RowsLine.{name-asked, name-inside, p-three, group-asked, one-room, one-told}
 use Rattle.table.proofs.span.span_line_rows.Statement.{statement}
 use Rattle.table.proofs.span.span_line_rows.Tie as tie
 
@@ -45,8 +45,15 @@ span-rows-requires c κs =
     let start = at-place .before .before .before in
     let word = span-word (start .args .numbers .now) in
     let three = p-three (start .pre) (word .has-digits .late) in
-    let room = one-room (start .pre) word (at-b .base-at .ensures) (at-k .size-at .ensures) in
-    (omega arith, start .pre .below, name-inside (start .pre) 0 (one-name (start .pre .kept) word) (at-place .place-at .ensures), omega (arith, room))
+    let group = group-asked (start .pre) 1 (word .has-digits) (at-b .base-at .ensures) (at-k .size-at .ensures) in
+    let room = one-room (start .pre) word (at-b .base-at .ensures) (at-k .size-at .ensures) in (
+      omega arith,
+      start .pre .below,
+      name-inside (start .pre) 0 (one-name (start .pre .kept) word) (at-place .place-at .ensures),
+      omega (arith, room),
+      group .0,
+      group .1,
+    )
 
 returns : tie.Need-returns
 returns c a =

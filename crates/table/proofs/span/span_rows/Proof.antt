@@ -40,10 +40,11 @@ unfolding spanLine
 returns c s v p-is place-is cells-is =
     let at-number = c .before in
     let at-value = at-number .before in
-    let a = at-value .before .before .before .args in
+    let start = at-value .before .before .before in
+    let a = start .args in
     let X = cell (a .place .0) in
     let number = leaves-⊖ (value-is at-value) (lowest-is (at-value .before)) (at-number .difference .ensures) in
-    rw (place-is, cells-is) (c .group-rows .ensures X (a .shift) (leaves-number X (a .shift) number))
+    rw (place-is, cells-is) (c .group-rows .ensures (a .p) X (a .shift) (start .pre .5) (leaves-number X (a .shift) number))
 
 pub span-rows-spec : {M : Type 1} → statement M
 span-rows-spec =

@@ -1,8 +1,8 @@
 -- `table::which::which_line_rows`: the line's numbers are what `which_rows` takes.
 use native.Mathlib.Omega.{arith}
 use Rattle.meaning.specs.Gadget.Which.{whichLine}
-use Rattle.table.proofs.LineKinds.{which-word, word-digits, base-asked, count-asked, two-first, two-second}
-use Rattle.table.proofs.RowsLine.{name-asked, name-inside, p-three, two-room, two-told}
+use Rattle.table.proofs.LineKinds.{which-word, base-asked, count-asked, two-first, two-second}
+use Rattle.table.proofs.RowsLine.{name-asked, name-inside, p-three, group-asked, two-room, two-told}
 use Rattle.table.proofs.which.which_line_rows.Statement.{statement}
 use Rattle.table.proofs.which.which_line_rows.Tie as tie
 
@@ -37,15 +37,15 @@ which-rows-requires c κs =
     let u = name-inside (start .pre) 0 (two-first (start .pre .kept) word) (at-u .place-at .ensures) in
     let v = name-inside (start .pre) 1 (two-second (start .pre .kept) word) (at-v .place-at2 .ensures) in
     let three = p-three (start .pre) (word .has-digits .late) in
-    let d = word-digits (start .pre .kept) 2 (word .has-digits) in
+    let group = group-asked (start .pre) 2 (word .has-digits) (at-b .base-at .ensures) (c .size-at .ensures) in
     let room = two-room (start .pre) word (at-b .base-at .ensures) (c .size-at .ensures) in (
       omega arith,
       start .pre .below,
       omega arith,
       omega arith,
       omega (arith, room),
-      omega (arith, d .base-two, at-b .base-at .ensures),
-      omega (arith, d .count-one, c .size-at .ensures),
+      group .0,
+      group .1,
     )
 
 returns : tie.Need-returns

@@ -42,8 +42,9 @@ top-part-requires c κs = search needs
 top : (c : tie.After-top-part) → let a = c .before .before .before .before .before .args in
     Leaves (a .p) (a .table .now) (c .top-part .result .0) (constant (pos (topPart (a .b) (a .k))))
 top c =
-    let a = c .before .before .before .before .before .args in
-    leaves-whole (a .p) (a .table .now) (pos (topPart (a .b) (a .k))) (omega arith) (c .top-part .ensures)
+    let start = c .before .before .before .before .before in
+    let a = start .args in
+    leaves-whole (a .p) (a .table .now) (pos (topPart (a .b) (a .k))) (omega arith) (c .top-part .ensures (a .p) (start .pre .6))
 
 sum-requires : tie.Need-sum-requires
 sum-requires c κs = (c .before .difference .ensures .0, top c .below)
