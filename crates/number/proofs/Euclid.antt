@@ -1,7 +1,7 @@
 -- Euclid's algorithm modulo a prime: how it starts, what a step keeps, and what it ends with.
 use mathlib.Core.Path.{_≡_, refl, ap}
 use mathlib.Core.List.{[], _∷_}
-use Prim.Native.Nat.{ℕ, zero, _+_, _*_, _/_, _%_, _≤_, _<_}
+use Prim.Native.Nat.{ℕ, zero, suc, _+_, _*_, _/_, _%_, _≤_, _<_}
 use native.Mathlib.Omega.{arith}
 use native.Mathlib.Decide.{decLt}
 use native.Mathlib.Nat.{div-add-mod', dvd-refl, dvd-zero, dvd-mod-iff, le-of-dvd, pos-of-dvd-of-pos}
@@ -74,3 +74,9 @@ pub euclid-end : {p t r0 s0 s1 : ℕ} → Step p t r0 0 s0 s1 → s0 ≡ inverse
 euclid-end {p} {t} {r0} {s0} S =
     let e : r0 ≡ 1 = S .coprime r0 (dvd-refl r0) (dvd-zero r0) in
     inverse-unique p t s0 (S .prime) (S .below) (S .first .below) (rw e at (S .first .times))
+
+-- p - 1 is its own inverse: its square is 1 more than p - 2 times p
+pub own-inverse : (p t : ℕ) → Prime p → t + 1 ≡ p → t ≡ inverse p t
+own-inverse p zero P e = absurd (omega (arith, P .above-one))
+own-inverse p (suc q) P e = inverse-unique p (suc q) (suc q) P (omega arith) (omega arith)
+    (record { quotient = pos q; equation = ap pos (omega (arith, ap (λ n. q * n) e)) })

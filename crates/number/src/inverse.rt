@@ -14,6 +14,10 @@ pub fn inverse_of(t: Residue, p: u32) -> Residue
     requires { ⌜ Prime p × (0 < t .0) × (t .0 < p) ⌝ }
     ensures { λ w. ⌜ w .0 ≡ inverse p (t .0) ⌝ }
 {
+    // -1 is its own inverse.
+    if t.0 == p - 1 {
+        return t;
+    }
     euclid(p, t.0, Residue(0), Residue(1), t, p)
 }
 

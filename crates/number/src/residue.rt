@@ -3,7 +3,7 @@
 use super::whole::Whole;
 use super::whole::magnitude;
 ghost use mathlib.Core.Path.{_≡_};
-ghost use Prim.Native.Nat.{_<_};
+ghost use Prim.Native.Nat.{_%_, _<_};
 ghost use lib.IntN.{pos, _+ℤ_, _-ℤ_, _*ℤ_};
 ghost use Rattle.meaning.specs.Number.{remainder, signed};
 
@@ -24,12 +24,24 @@ pub fn signed_value(r: Residue, p: u32) -> Whole
     }
 }
 
+// n modulo p. A number below p, as most are, is left as it is, without a division.
+fn reduced(n: u64, p: u32) -> u32
+    requires { ⌜ 0 < p ⌝ }
+    ensures { λ r. ⌜ r ≡ n % p ⌝ }
+{
+    if n < p as u64 {
+        n as u32
+    } else {
+        (n % p as u64) as u32
+    }
+}
+
 // The remainder that x leaves modulo p, also of the lowest i64: below zero, x is -(m + 1) for its magnitude m.
 pub fn remainder_of(x: Whole, p: u32) -> Residue
     requires { ⌜ 0 < p ⌝ }
     ensures { λ r. ⌜ r .0 ≡ remainder p (x .0) ⌝ }
 {
-    let m = (magnitude(x) % p as u64) as u32;
+    let m = reduced(magnitude(x), p);
     if x.0 < 0 {
         Residue(p - (m + 1))
     } else {
@@ -68,5 +80,5 @@ pub fn product(a: Residue, b: Residue, p: u32) -> Residue
     ensures { λ r. ⌜ (r .0 < p) × (r .0 ≡ remainder p (pos (a .0) *ℤ pos (b .0))) ⌝ }
 {
     let exact = a.0 as u64 * b.0 as u64;
-    Residue((exact % p as u64) as u32)
+    Residue(reduced(exact, p))
 }

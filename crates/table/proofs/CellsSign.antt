@@ -27,7 +27,7 @@ module _ (p t : ℕ) (l : List ℕ) (room : 2 ≤ length l) where
   unfolding flagCells
   flag-other w n e = rw (false-eqb t 0 n, ← e) (two-written 0 w l room)
 
-pub sign-cells-are : (p b k : ℕ) (x : ℤ) (n part : ℕ) → n ≡ natAbs (x -ℤ signShift b k) → part ≡ b ^ (k - 1)
-    → digits b k n ++ flagCells p (remainder p (pos (n / part % b) -ℤ pos (b - 1))) ≡ signCells p b k x
+pub sign-cells-are : (p b k : ℕ) (x : ℤ) (n : ℕ) → n ≡ natAbs (x -ℤ signShift b k)
+    → digits b k n ++ flagCells p (remainder p (pos (n / b ^ (k - 1) % b) -ℤ pos (b - 1))) ≡ signCells p b k x
 unfolding signCells signTop groupCells flagCells
-sign-cells-are p b k x n part e f = rw (e, f) refl
+sign-cells-are p b k x n e = rw e refl

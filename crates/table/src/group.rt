@@ -9,7 +9,7 @@ use number::power::Power;
 use number::power::capped_power;
 ghost use mathlib.Core.Path.{_≡_};
 ghost use mathlib.Core.List.{_++_};
-ghost use Prim.Native.Nat.{_+_, _^_, _≤_, _<_, ℕ};
+ghost use Prim.Native.Nat.{_+_, _/_, _%_, _^_, _≤_, _<_, ℕ};
 ghost use lib.IntN.{pos, natAbs, _-ℤ_, ℤ};
 ghost use lib.ListN.{length, drop};
 ghost use Rattle.algebra.specs.Digits.{digits};
@@ -45,6 +45,25 @@ pub fn apart(x: i64, y: i64) -> u64
 
 // ---- cells
 
+// n / b, and what it leaves. For base 2, the one most in use, the divisor stands in the code, and no division is left of it.
+pub fn divided(n: u64, b: u32) -> u64
+    requires { ⌜ 0 < b ⌝ }
+    ensures { λ r. ⌜ r ≡ n / b ⌝ }
+{
+    if b == 2 { n / 2 } else { n / b as u64 }
+}
+
+fn digit(n: u64, b: u32) -> u32
+    requires { ⌜ 0 < b ⌝ }
+    ensures { λ r. ⌜ r ≡ n % b ⌝ }
+{
+    if b == 2 {
+        (n % 2) as u32
+    } else {
+        (n % b as u64) as u32
+    }
+}
+
 // The digits of n, from the lowest on: each is what division by b leaves.
 pub fn group_cells(out: &mut [u32], n: u64, b: u32, k: usize)
     requires { ⌜ (0 < b) × (k ≤ length (now out)) ⌝ }
@@ -53,8 +72,8 @@ pub fn group_cells(out: &mut [u32], n: u64, b: u32, k: usize)
     let mut rest = n;
     let mut i: usize = 0;
     while i < k {
-        out[i] = (rest % b as u64) as u32;
-        rest = rest / b as u64;
+        out[i] = digit(rest, b);
+        rest = divided(rest, b);
         i += 1;
     }
 }

@@ -2,6 +2,7 @@
 // digits of x + B, whose top digit is b - 1 just where x is not negative, then f, which says so, and w, which shows it where f is 0. The
 // rows are those of the group over x with shift -B, three that tie f to the top digit by w, and last the line's own.
 use super::group::apart;
+use super::group::divided;
 use super::group::group_cells;
 use super::group::group_rows;
 use super::group::power_of;
@@ -38,7 +39,7 @@ pub fn sign_works(x: i64, b: u32, c: u64) -> bool
     requires { ⌜ (0 < b) × (c ≤ powerBound) ⌝ }
     ensures { λ r. ⌜ ((k : ℕ) → 1 ≤ k → c ≡ b ^ k → r ≡ signStatement b k x) ⌝ }
 {
-    let part = c / b as u64;
+    let part = divided(c, b);
     let low = 0 - (c - part) as i64;
     let high = part as i64 - 1;
     within(Whole(low), Whole(x), Whole(high))
@@ -50,11 +51,11 @@ pub fn sign_cells(out: &mut [u32], p: u32, x: i64, b: u32, k: usize, c: u64)
     requires { ⌜ OddPrime p × GroupOf b k c × (k + 2 ≤ length (now out)) × Bounded powerBound x ⌝ }
     ensures { λ _. ⌜ now (out .exit) ≡ signCells p b k x ++ drop (k + 2) (now (out .entry)) ⌝ }
 {
-    let part = c / b as u64;
+    let part = divided(c, b);
     let shift = 0 - (c - part) as i64;
     let n = apart(x, shift);
-    let digit = n / part % b as u64;
     group_cells(out, n, b, k);
+    let digit = out[k - 1] as u64;
     flag_cells(&mut out[k..], p, digit, b);
 }
 

@@ -1,5 +1,6 @@
 -- `number::residue::remainder_of`: by the sign, from the remainder of the magnitude.
 use mathlib.Core.Path.{sym, ap, _∙_}
+use Prim.Native.Nat.{_<_}
 use native.Mathlib.Omega.{arith}
 use native.Mathlib.Numerals.{add-one}
 use native.Mathlib.Nat.{mod-lt}
@@ -16,38 +17,36 @@ use Rattle.number.proofs.residue.remainder_of.Tie as tie
 magnitude-requires : tie.Need-magnitude-requires
 magnitude-requires c κs = search needs
 
-rem-m : tie.Need-rem-m
-rem-m c = search needs
+reduced-requires : tie.Need-reduced-requires
+reduced-requires c κs = search needs
 
-cast-m : tie.Need-cast-m
-cast-m c = omega (arith, mod-lt (c .magnitude .result) (c .before .pre))
+-- the remainder of the magnitude
+below : (c : tie.After-reduced) → c .reduced .result < c .before .before .args .p
+below c = rw (c .reduced .ensures) (mod-lt _ (c .before .before .pre))
 
-add-t9 : tie.Need-add-t9
-add-t9 c =
-    let s = c .before .before .before in
-    omega (arith, mod-lt (s .magnitude .result) (s .before .pre))
+add-t7 : tie.Need-add-t7
+add-t7 c = omega (arith, below (c .before .before .before))
 
-sub-t10 : tie.Need-sub-t10
-sub-t10 c =
-    let s = c .before .before .before in
-    omega (arith, mod-lt (s .magnitude .result) (s .before .pre))
+sub-t8 : tie.Need-sub-t8
+sub-t8 c = omega (arith, below (c .before .before .before))
 
 returns : tie.Need-returns
 returns c =
-    let s = c .before .before .before .before in
+    let r = c .before .before .before in
+    let s = r .before .before in
     let f : SFits w64 (s .args .x .0) = search needs in
     let p = s .args .p in
     let x = s .args .x .0 in
-    rw (c .before .before .before .magnitude .ensures, remainder-negative p x (negative f (c .if1 .taken) .1), add-one)
+    rw (r .reduced .ensures, r .before .magnitude .ensures, remainder-negative p x (negative f (c .if1 .taken) .1), add-one)
 
 returns-2 : tie.Need-returns-2
 returns-2 c =
-    let s = c .before .before .before .before in
+    let r = c .before .before .before in
+    let s = r .before .before in
     let f : SFits w64 (s .args .x .0) = search needs in
     let p = s .args .p in
     let e = ap (remainder p) (not-negative f (c .if1 .left)) ∙ remainder-positive p (mag (s .args .x .0)) in
-    rw (c .before .before .before .magnitude .ensures) (sym e)
+    rw (r .reduced .ensures, r .before .magnitude .ensures) (sym e)
 
 pub remainder-of-spec : {M : Type 1} → statement M
-remainder-of-spec =
-    tie.close (tie.spec magnitude-requires rem-m cast-m add-t9 sub-t10 returns returns-2)
+remainder-of-spec = tie.close (tie.spec magnitude-requires reduced-requires add-t7 sub-t8 returns returns-2)

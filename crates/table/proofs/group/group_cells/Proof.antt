@@ -1,7 +1,5 @@
 -- `table::group::group_cells`: before each digit, `Filling` holds of what is written and of what is left of n.
 use Prim.Native.Nat.{_-_}
-use native.Mathlib.Omega.{arith}
-use native.Mathlib.Nat.{mod-lt}
 use borrow.Author.Needs.{needs}
 use Rattle.table.proofs.CellsGroup.{Filling, filling-start, filling-turn, filling-end}
 use Rattle.table.proofs.group.group_cells.Statement.{statement}
@@ -16,13 +14,8 @@ abbrev μ-loop : tie.MeasureT-loop
 loop-holds : tie.Need-loop-holds Inv-loop μ-loop
 loop-holds c = filling-start _ _ _ _
 
-rem-out : tie.Need-rem-out Inv-loop μ-loop
-rem-out c = search needs
-
-cast-out : tie.Need-cast-out Inv-loop μ-loop
-cast-out c =
-    let s = c .before .before in
-    omega (arith, mod-lt (c .before .loop .rest) (s .pre .0))
+digit-requires : tie.Need-digit-requires Inv-loop μ-loop
+digit-requires c κs = search needs
 
 mul-out : tie.Need-mul-out Inv-loop μ-loop
 mul-out c = search needs
@@ -30,8 +23,8 @@ mul-out c = search needs
 slice-write-out : tie.Need-slice-write-out Inv-loop μ-loop
 slice-write-out c = search needs
 
-div-rest : tie.Need-div-rest Inv-loop μ-loop
-div-rest c = search needs
+divided-requires : tie.Need-divided-requires Inv-loop μ-loop
+divided-requires c κs = search needs
 
 add-i : tie.Need-add-i Inv-loop μ-loop
 add-i c = search needs
@@ -40,7 +33,10 @@ loop-less : tie.Need-loop-less Inv-loop μ-loop
 loop-less c = search needs
 
 loop-again : tie.Need-loop-again Inv-loop μ-loop
-loop-again c = filling-turn _ _ _ (c .before .loop .inv) (c .loop-test .taken) (c .before .before .pre .1)
+loop-again c =
+    let at-test = c .before .before in
+    rw (c .divided .ensures, c .before .digit .ensures)
+    (filling-turn _ _ _ (at-test .before .loop .inv) (at-test .loop-test .taken) (at-test .before .before .before .pre .1))
 
 same-length : tie.Need-same-length Inv-loop μ-loop
 same-length c = search needs
@@ -55,11 +51,10 @@ group-cells-spec =
     Inv-loop
     μ-loop
     loop-holds
-    rem-out
-    cast-out
+    digit-requires
     mul-out
     slice-write-out
-    div-rest
+    divided-requires
     add-i
     loop-less
     loop-again

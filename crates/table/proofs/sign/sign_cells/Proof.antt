@@ -6,16 +6,16 @@ use native.Mathlib.Omega.{arith}
 use native.Mathlib.Nat.{div-le-self, mod-lt}
 use lib.Dec.{lit≤}
 use lib.IntN.{pos, natAbs, _-ℤ_}
-use lib.ListN.{drop}
+use lib.ListN.{drop, getD, List·getD-append}
 use Rattle.algebra.specs.Congruence.{remainder}
 use Rattle.algebra.specs.Digits.{digits}
-use Rattle.algebra.proofs.Digits.{length-digits, power-positive}
+use Rattle.algebra.proofs.Digits.{length-digits, digit-at}
 use Rattle.meaning.specs.Gadget.Sign.{signShift}
 use Rattle.number.proofs.Word.{back}
 use Rattle.number.proofs.Bounded.{bounded-more}
 use Rattle.table.specs.Cells.{flagCells}
 use Rattle.table.proofs.Whole.{negation-bounded, negation-fits, negation-is}
-use Rattle.table.proofs.SignPower.{part-power, rest-shift}
+use Rattle.table.proofs.SignPower.{rest-shift}
 use Rattle.table.proofs.CellsPart.{written-after}
 use Rattle.table.proofs.CellsSign.{sign-cells-are}
 use borrow.Author.Needs.{needs}
@@ -26,46 +26,65 @@ use Rattle.table.proofs.sign.sign_cells.Tie as tie
 base : (s : tie.Start) → 0 < s .args .b
 base s = omega (arith, s .pre .1 .base)
 
-rest-small : (s : tie.Start) → s .args .c - s .args .c / s .args .b ≤ 4294967296
-rest-small s = omega (arith, s .pre .1 .small)
+rest-small : (c : tie.After-divided) → c .before .before .args .c - c .divided .result ≤ 4294967296
+rest-small c = omega (arith, c .before .before .pre .1 .small)
 
-div-part : tie.Need-div-part
-div-part c = search needs
+divided-requires : tie.Need-divided-requires
+divided-requires c κs = base (c .before)
 
 sub-shift : tie.Need-sub-shift
-sub-shift c = div-le-self (c .before .args .c) (c .before .args .b)
+sub-shift c = rw (c .divided .ensures) (div-le-self (c .before .before .args .c) (c .before .before .args .b))
 
 cast-shift : tie.Need-cast-shift
 cast-shift c = search needs
 
 sub-shift-2 : tie.Need-sub-shift-2
-sub-shift-2 c = negation-fits _ (rest-small (c .before))
+sub-shift-2 c = negation-fits _ (rest-small c)
 
 apart-requires : tie.Need-apart-requires
 apart-requires c κs =
-    let s = c .before in (
+    let s = c .before .before in (
       rw (back (s .fits .x)) (bounded-more (s .pre .3) (lit≤ tt)),
-      rw (negation-is _ (rest-small s)) (bounded-more (negation-bounded _ (rest-small s)) (lit≤ tt)),
+      rw (negation-is _ (rest-small c)) (bounded-more (negation-bounded _ (rest-small c)) (lit≤ tt)),
     )
 
-part : (s : tie.Start) → s .args .c / s .args .b ≡ s .args .b ^ (s .args .k - 1)
-part s = let g = s .pre .1 in part-power _ _ _ (base s) (g .some-digit) (g .power)
-
-number : (c : tie.After-apart) → let a = c .before .before .args in c .apart .result ≡ natAbs (a .x -ℤ signShift (a .b) (a .k))
+number : (c : tie.After-apart) → let a = c .before .before .before .args in c .apart .result ≡ natAbs (a .x -ℤ signShift (a .b) (a .k))
 number c =
-    let s = c .before .before in
+    let s = c .before .before .before in
     let g = s .pre .1 in
-    (rw (negation-is _ (rest-small s), back (s .fits .x)) at (c .apart .ensures))
+    (rw (negation-is _ (rest-small (c .before)), back (s .fits .x), c .before .divided .ensures) at (c .apart .ensures))
     ∙ ap (λ z. natAbs (s .args .x -ℤ z)) (rest-shift _ _ _ (base s) (g .some-digit) (g .power))
-
-div-digit : tie.Need-div-digit
-div-digit c = let s = c .before .before in rw (part s) (power-positive (s .args .b) (s .args .k - 1) (base s))
-
-rem-digit : tie.Need-rem-digit
-rem-digit c = search needs
 
 group-cells-requires : tie.Need-group-cells-requires
 group-cells-requires c κs = search needs
+
+-- the top digit, as it was written
+top : (c : tie.After-group-cells) → let a = c .before .before .before .before .before .args in
+    getD (c .group-cells .last .0) (a .k - 1) 0 ≡ c .before .before .apart .result / a .b ^ (a .k - 1) % a .b
+top c =
+    let start = c .before .before .before .before .before in
+    let a = start .args in
+    let n = c .before .before .apart .result in
+    let l : a .k - 1 < a .k = omega (arith, start .pre .1 .some-digit) in
+    ap (λ cells. getD cells (a .k - 1) 0) (c .group-cells .ensures)
+    ∙ List·getD-append (digits (a .b) (a .k) n) _ 0 (a .k - 1) (omega (arith, length-digits (a .b) (a .k) n))
+    ∙ digit-at (a .b) (a .k) n (a .k - 1) l
+
+top-below : (c : tie.After-group-cells) → let a = c .before .before .before .before .before .args in
+    getD (c .group-cells .last .0) (a .k - 1) 0 < a .b
+top-below c = rw (top c) (mod-lt _ (base (c .before .before .before .before .before)))
+
+sub-digit : tie.Need-sub-digit
+sub-digit c = search needs
+
+mul-digit : tie.Need-mul-digit
+mul-digit c = search needs
+
+slice-read-digit : tie.Need-slice-read-digit
+slice-read-digit c = search needs
+
+cast-digit : tie.Need-cast-digit
+cast-digit c = omega (arith, top-below (c .before .before .before))
 
 mul-flag-cells : tie.Need-mul-flag-cells
 mul-flag-cells c = search needs
@@ -81,8 +100,8 @@ part-flag-cells-end c = search needs
 
 flag-cells-requires : tie.Need-flag-cells-requires
 flag-cells-requires c κs =
-    let s = c .before .before .before .before .before .before .before in
-    (s .pre .0, mod-lt _ (base s), search needs)
+    let at-cells = c .before .before .before .before in
+    (at-cells .before .before .before .before .before .pre .0, top-below at-cells, search needs)
 
 same-length : tie.Need-same-length
 same-length c = search needs
@@ -90,32 +109,33 @@ same-length c = search needs
 returns : tie.Need-returns
 returns c =
     let last = c .before .before in
-    let first = last .before .before .before .before in
+    let first = last .before .before .before .before .before in
     let number-at = first .before .before in
-    let s = number-at .before .before in
-    let a = s .args in
+    let a = number-at .before .before .before .args in
     let n = number-at .apart .result in
     written-after (a .k) 2 (a .k + 2) (a .out .now) (first .group-cells .last .0) (last .flag-cells .last .0)
     (digits (a .b) (a .k) n)
-    (flagCells (a .p) (remainder (a .p) (pos (n / (a .c / a .b) % a .b) -ℤ pos (a .b - 1))))
+    (flagCells (a .p) (remainder (a .p) (pos (n / a .b ^ (a .k - 1) % a .b) -ℤ pos (a .b - 1))))
     (length-digits (a .b) (a .k) n)
     (first .group-cells .ensures)
-    (last .flag-cells .ensures)
+    (rw (top first) at (last .flag-cells .ensures))
     refl
-    ∙ ap (λ l. l ++ drop (a .k + 2) (a .out .now)) (sign-cells-are (a .p) (a .b) (a .k) (a .x) n (a .c / a .b) (number number-at) (part s))
+    ∙ ap (λ l. l ++ drop (a .k + 2) (a .out .now)) (sign-cells-are (a .p) (a .b) (a .k) (a .x) n (number number-at))
 
 pub sign-cells-spec : {M : Type 1} → statement M
 sign-cells-spec =
     tie.close
     (tie.spec
-    div-part
+    divided-requires
     sub-shift
     cast-shift
     sub-shift-2
     apart-requires
-    div-digit
-    rem-digit
     group-cells-requires
+    sub-digit
+    mul-digit
+    slice-read-digit
+    cast-digit
     mul-flag-cells
     sub-flag-cells
     part-flag-cells-start

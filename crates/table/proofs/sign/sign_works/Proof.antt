@@ -1,6 +1,6 @@
 -- `table::sign::sign_works`: c / b is b^(k-1), and the rest of c is B, so `within` tests the definition's range.
 use mathlib.Core.Path.{ap₂, _∙_}
-use Prim.Native.Nat.{ℕ, _-_, _/_, _≤_}
+use Prim.Native.Nat.{ℕ, _-_, _≤_}
 use native.Mathlib.Omega.{arith}
 use native.Mathlib.Nat.{div-le-self}
 use lib.IntN.{ℤ, pos, _-ℤ_}
@@ -13,23 +13,26 @@ use borrow.Author.Needs.{needs}
 use Rattle.table.proofs.sign.sign_works.Statement.{statement}
 use Rattle.table.proofs.sign.sign_works.Tie as tie
 
-div-part : tie.Need-div-part
-div-part c = search needs
+divided-requires : tie.Need-divided-requires
+divided-requires c κs = search needs
+
+part-most : (c : tie.After-divided) → c .divided .result ≤ c .before .args .c
+part-most c = rw (c .divided .ensures) (div-le-self (c .before .args .c) (c .before .args .b))
 
 sub-low : tie.Need-sub-low
-sub-low c = div-le-self (c .args .c) (c .args .b)
+sub-low c = part-most c
 
 cast-low : tie.Need-cast-low
 cast-low c = search needs
 
 sub-low-2 : tie.Need-sub-low-2
-sub-low-2 c = let l = div-le-self (c .args .c) (c .args .b) in negation-fits (c .args .c - c .args .c / c .args .b) (omega arith)
+sub-low-2 c = negation-fits (c .before .args .c - c .divided .result) (omega arith)
 
 cast-high : tie.Need-cast-high
-cast-high c = record { sfits = omega (arith, div-le-self (c .args .c) (c .args .b)) }
+cast-high c = record { sfits = omega (arith, part-most c) }
 
 sub-high : tie.Need-sub-high
-sub-high c = let l = div-le-self (c .args .c) (c .args .b) in one-less-fits (c .args .c / c .args .b) (omega arith)
+sub-high c = one-less-fits (c .divided .result) (omega (arith, part-most c))
 
 within-requires : tie.Need-within-requires
 within-requires c κs = search needs
@@ -37,15 +40,16 @@ within-requires c κs = search needs
 returns : tie.Need-returns
 unfolding signStatement
 returns c k h e =
-    let s = c .before in
-    let n = s .args .c / s .args .b in
-    let l : n ≤ s .args .c = div-le-self (s .args .c) (s .args .b) in
+    let at-part = c .before in
+    let s = at-part .before in
+    let n = at-part .divided .result in
+    let l = part-most at-part in
     c .within .ensures
-    ∙ rw (negation-is (s .args .c - n) (omega arith), one-less-is n (omega arith), back (s .fits .x))
+    ∙ rw (negation-is (s .args .c - n) (omega arith), one-less-is n (omega arith), back (s .fits .x), at-part .divided .ensures)
     (ap₂ (λ (low : ℤ) (m : ℕ). between low (s .args .x) (pos m -ℤ pos 1))
     (rest-shift _ k _ (s .pre .0) h e) (part-power _ k _ (s .pre .0) h e))
 
 pub sign-works-spec : {M : Type 1} → statement M
 sign-works-spec =
     tie.close
-    (tie.spec div-part sub-low cast-low sub-low-2 cast-high sub-high within-requires returns)
+    (tie.spec divided-requires sub-low cast-low sub-low-2 cast-high sub-high within-requires returns)
