@@ -39,7 +39,7 @@ fn root_ends(p: u32, b: u64, k: u32) -> Made
     requires { ⌜ Field p × (1 ≤ b) ⌝ }
     ensures { λ r. ⌜ madeSeen r ≡ rootTold p (b ^ k) ⌝ }
 {
-    let Power::Of(c) = capped_power(b, k, p as u64) else {
+    let Power::Of(c) = capped_power(b, k, p) else {
         return Made::Breaks(10);
     };
     if c < 3 {

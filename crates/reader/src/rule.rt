@@ -194,7 +194,7 @@ pub fn digit_rule(p: u32, b: u64, k: u32, e: Ends, shift: i64) -> bool
     requires { ⌜ Field p × (1 ≤ b) × BoundedEnds greatestApart e × Bounded greatest shift ⌝ }
     ensures { λ r. ⌜ r ≡ digitRule p b k (endsSeen e) shift ⌝ }
 {
-    let Power::Of(c) = capped_power(b, k, p as u64) else {
+    let Power::Of(c) = capped_power(b, k, p) else {
         return false;
     };
     is_narrow(p, c, e, shift)
@@ -205,7 +205,7 @@ pub fn sign_rule(p: u32, b: u64, k: u32, e: Ends) -> bool
     requires { ⌜ Field p × (1 ≤ b) × (1 ≤ k) × BoundedEnds greatestApart e ⌝ }
     ensures { λ r. ⌜ r ≡ digitRule p b k (endsSeen e) (signShift b k) ⌝ }
 {
-    let Power::Of(c) = capped_power(b, k, p as u64) else {
+    let Power::Of(c) = capped_power(b, k, p) else {
         return false;
     };
     let top = c - c / b;

@@ -56,7 +56,7 @@ fn span_ends(p: u32, b: u64, k: u32, old: Ends, shift: i64) -> Made
     ensures { λ r. ⌜ madeSeen r
         ≡ cond (digitRule p b k (endsSeen old) shift) (sharedTold (shared b k shift (endsSeen old))) (refuses 10) ⌝ }
 {
-    let Power::Of(c) = capped_power(b, k, p as u64) else {
+    let Power::Of(c) = capped_power(b, k, p) else {
         return Made::Breaks(10);
     };
     if !is_narrow(p, c, old, shift) {

@@ -1,21 +1,21 @@
--- `number::power::capped_power`: in each turn c is b ^ i, at most the cap. It is taken on only where c · b is at most the cap too,
--- which the test of c against cap / b says without the product.
+-- `number::power::capped_power`: in each turn `Left` says what is left to do. Where the base, or c with one factor more, is above the cap, so
+-- is the power.
 use mathlib.Core.Path.{_≡_, sym, ap, _∙_}
 use mathlib.Core.Logic.{⊎-elim}
-use Prim.Native.Nat.{_+_, _-_, _*_, _^_, _≤_, _<_}
+use Prim.Native.Nat.{_%_, _^_, _≤_, _<_}
 use native.Mathlib.Omega.{arith}
-use native.Mathlib.Numerals.{add-one}
-use native.Mathlib.Nat.{pow-zero, pow-suc, pow-le-pow-right, le-div-iff-mul-le, div-lt-iff-lt-mul}
+use native.Mathlib.Nat.{pow-zero, pow-le-pow-right}
 use borrow.Author.Needs.{needs}
-use Rattle.number.proofs.CappedPower.{capped-of, capped-above, low-power}
+use Rattle.number.proofs.Word.{wide-product}
+use Rattle.number.proofs.CappedPower.{capped-of, capped-above, low-power, power-one, Left, left-start, left-end, base-above, product-above, left-turn}
 use Rattle.number.proofs.power.capped_power.Statement.{statement}
 use Rattle.number.proofs.power.capped_power.Tie as tie
 
 abbrev Inv-loop : tie.InvT-loop
-Inv-loop b k cap most c₀ i₀ c i = (i ≤ k) × (c ≡ b ^ i) × (c ≤ cap)
+Inv-loop b k cap most c₀ base₀ n₀ c base n = Left b k cap c base n
 
 abbrev μ-loop : tie.MeasureT-loop
-μ-loop b k cap most c₀ i₀ c i = k - i
+μ-loop b k cap most c₀ base₀ n₀ c base n = n
 
 -- below 2, c is the power, by either arm
 low : (c : tie.Joined2 Inv-loop μ-loop) → c .if2 .c ≡ c .before .before .args .b ^ c .before .before .args .k
@@ -40,51 +40,45 @@ returns-3 c =
     let l : a .b ^ 0 ≤ a .b ^ a .k = pow-le-pow-right h (omega arith) in
     capped-above _ _ _ (omega (arith, pow-zero (a .b)))
 
-div-most : tie.Need-div-most Inv-loop μ-loop
-div-most c = search needs
-
 loop-holds : tie.Need-loop-holds Inv-loop μ-loop
-loop-holds c = (search needs, sym (pow-zero _), search needs)
-
--- the next power
-next : (c : tie.In-loop Inv-loop μ-loop)
-    → c .before .loop .c * c .before .before .before .before .args .b ≡ c .before .before .before .before .args .b ^ (c .before .loop .i + 1)
-next c = let b = c .before .before .before .before .args .b in rw (add-one, pow-suc) (ap (λ n. n * b) (c .before .loop .inv .1))
+loop-holds c = left-start (omega arith) (omega arith)
 
 returns-4 : tie.Need-returns-4 Inv-loop μ-loop
-returns-4 c =
-    let a = c .before .before .before .before .before .args in
-    let s = c .before .before .loop in
-    let h : 0 < a .b = omega arith in
-    let m : a .cap < s .c * a .b = div-lt-iff-lt-mul h .0 (c .if5 .taken) in
-    let l : a .b ^ (s .i + 1) ≤ a .b ^ a .k = pow-le-pow-right h (omega arith) in
-    capped-above _ _ _ (omega (arith, next (c .before)))
+returns-4 c = let at-test = c .before in capped-above _ _ _ (base-above (at-test .before .loop .inv) (at-test .loop-test .taken) (c .if5 .taken))
+
+-- the factor of the turn, by either arm
+factor : (c : tie.Joined6 Inv-loop μ-loop) → let now = c .before .before .before .loop in c .if6 .factor ≡ now .base ^ (now .n % 2)
+factor c =
+    let now = c .before .before .before .loop in
+    ⊎-elim
+    (λ w. w .1 ∙ sym (ap (λ m. now .base ^ m) (w .0 .taken) ∙ power-one (now .base)))
+    (λ w. let even : now .n % 2 ≡ 0 = omega (arith, w .0 .left) in w .1 ∙ sym (ap (λ m. now .base ^ m) even ∙ pow-zero (now .base)))
+    (c .if6 .came)
+
+factor-small : (c : tie.Joined6 Inv-loop μ-loop) → c .if6 .factor < 2 ^ 32
+factor-small c = ⊎-elim (λ w. rw (w .1) (omega arith)) (λ w. rw (w .1) (omega arith)) (c .if6 .came)
 
 mul-c : tie.Need-mul-c Inv-loop μ-loop
-mul-c c =
-    let s = c .before .before .before .before .before in
-    let h : 0 < s .args .b = omega arith in
-    let l : c .before .before .loop .c * s .args .b ≤ s .args .cap = le-div-iff-mul-le h .0 (c .if5 .left) in
-    search needs
+mul-c c = let left = c .before .before .before .before .loop .inv in wide-product (omega (arith, left .within)) (factor-small (c .before))
 
-add-i : tie.Need-add-i Inv-loop μ-loop
-add-i c = search needs
+returns-5 : tie.Need-returns-5 Inv-loop μ-loop
+returns-5 c =
+    let at-factor = c .before .before in
+    capped-above _ _ _ (product-above (at-factor .before .before .before .loop .inv) (factor at-factor) (c .if7 .taken))
+
+mul-base : tie.Need-mul-base Inv-loop μ-loop
+mul-base c = wide-product (omega arith) (omega arith)
 
 loop-less : tie.Need-loop-less Inv-loop μ-loop
 loop-less c = search needs
 
 loop-again : tie.Need-loop-again Inv-loop μ-loop
 loop-again c =
-    let a = c .before .before .before .before .before .args in
-    let h : 0 < a .b = omega arith in
-    (search needs, next (c .before), le-div-iff-mul-le h .0 (c .if5 .left))
+    let at-factor = c .before .before in
+    left-turn (at-factor .before .before .before .loop .inv) (factor at-factor) (c .if7 .left)
 
-returns-5 : tie.Need-returns-5 Inv-loop μ-loop
-returns-5 c =
-    let s = c .before .loop in
-    let a = c .before .before .before .before .args in
-    let e : s .i ≡ a .k = omega arith in
-    capped-of _ _ _ _ (s .inv .1 ∙ ap (λ n. a .b ^ n) e) (s .inv .2)
+returns-6 : tie.Need-returns-6 Inv-loop μ-loop
+returns-6 c = let left = c .before .loop .inv in capped-of _ _ _ _ (left-end left (omega arith)) (left .within)
 
 pub capped-power-spec : {M : Type 1} → statement M
 capped-power-spec =
@@ -95,11 +89,11 @@ capped-power-spec =
     returns
     returns-2
     returns-3
-    div-most
     loop-holds
     returns-4
     mul-c
-    add-i
+    returns-5
+    mul-base
     loop-less
     loop-again
-    returns-5)
+    returns-6)

@@ -65,8 +65,8 @@ returns-3 c =
     let a = c .before .before .before .before .before .before .args in
     rw (← power (c .before .before) .power) (sym (root-wide (a .p) (c .before .before .before .c .given .0 .0) (c .if2 .taken)))
 
-sub-t7 : tie.Need-sub-t7
-sub-t7 c = search needs
+sub-t11 : tie.Need-sub-t11
+sub-t11 c = search needs
 
 cast-t12 : tie.Need-cast-t12
 cast-t12 c =
@@ -96,6 +96,6 @@ root-ends-spec =
     cast-most
     mul-if2
     returns-3
-    sub-t7
+    sub-t11
     cast-t12
     returns-4)
