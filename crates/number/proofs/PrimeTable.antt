@@ -5,10 +5,10 @@ use mathlib.Core.Path.{_≡_, refl}
 use mathlib.Core.Bool.{Bool, true, false, not, _&&_, _||_}
 use mathlib.Core.List.{List, [], _∷_}
 use mathlib.Core.Logic.{_⊎_, inl, inr, ⊎-elim, _≢_}
-use Prim.Native.Nat.{ℕ, zero, suc, _*_, _%_, _^_, _≤_, _<_}
+use Prim.Native.Nat.{ℕ, zero, suc, _+_, _-_, _*_, _%_, _^_, _≤_, _<_}
 use native.Mathlib.Omega.{arith}
 use native.Mathlib.Decide.{ℕ-discrete, decLt}
-use native.Mathlib.Nat.{mul-le-mul}
+use native.Mathlib.Nat.{zero-add, mul-le-mul}
 use lib.Dec.{T, eqb, ltb, eqb→eq, ltb→lt}
 use lib.ListN.{length, getD}
 use Rattle.meaning.specs.Number.{noDivisor, oddPrime}
@@ -16,7 +16,7 @@ use Rattle.meaning.proofs.Number.{noDivisor-all, odd-prime}
 use Rattle.algebra.specs.Prime.{Prime}
 use Rattle.algebra.proofs.Test.{left, right}
 use Rattle.algebra.proofs.Prime.{prime-by-trial, prime-by-roots, prime-no-remainder}
-use Rattle.number.specs.Table.{primes, FirstDivisor}
+use Rattle.number.specs.Table.{primes, wheel, FirstDivisor}
 use Rattle.algebra.proofs.PrimeDivisor.{prime-by-prime-roots}
 use Rattle.number.proofs.OddPrime.{odd-prime-passes}
 
@@ -112,16 +112,57 @@ prime-listed q P h =
 
 -- ---- the trial by the table and by the odd numbers above it
 
-pub prime-by-table : (n : ℕ) → 3 ≤ n → FirstDivisor n 54 → ((d : ℕ) → 257 ≤ d → d % 2 ≡ 1 → d % 3 ≢ 0 → d * d ≤ n → n % d ≢ 0) → Prime n
+-- d has no factor 2, 3 or 5
+abbrev pub Tried : ℕ → Type 0
+Tried d = (d % 2 ≢ 0) × (d % 3 ≢ 0) × (d % 5 ≢ 0)
+
+pub prime-by-table : (n : ℕ) → 3 ≤ n → FirstDivisor n 0 primes 54 → ((d : ℕ) → 256 ≤ d → Tried d → d * d ≤ n → n % d ≢ 0) → Prime n
 prime-by-table n l f t = prime-by-prime-roots n (omega arith) try
   where
     try : (q : ℕ) → Prime q → q * q ≤ n → n % q ≢ 0
     try q P s e = elim (decLt q 256) [
-      | yes h ↦ let w = prime-listed q P h in f .earlier (w .0) (w .1) (rw (w .2) e)
+      | yes h ↦ let w = prime-listed q P h in f .earlier (w .0) (w .1) (rw (zero-add, w .2) e)
       | no h ↦
-          let o : q % 2 ≢ 0 = prime-no-remainder q P 2 (omega arith) (omega arith) in
-          t q (omega arith) (omega arith) (prime-no-remainder q P 3 (omega arith) (omega arith)) s e
+          let free : (d : ℕ) → 1 < d → d < 256 → q % d ≢ 0 = λ d l k. prime-no-remainder q P d l (omega arith) in
+          t q (omega arith) (free 2 (omega arith) (omega arith), free 3 (omega arith) (omega arith), free 5 (omega arith) (omega arith)) s e
     ]
+
+-- ---- the wheel
+
+step-test : ℕ → Bool
+step-test s = ltb 0 s && ltb s 30
+
+steps-right : T (every step-test wheel)
+unfolding step-test
+steps-right = tt
+
+pub step-small : (i : ℕ) → i < 8 → (0 < getD wheel i 0) × (getD wheel i 0 < 30)
+unfolding step-test
+step-small i h =
+    let s = getD wheel i 0 in
+    let t = every-at step-test wheel steps-right i h in
+    (ltb→lt 0 s (left (ltb 0 s) (ltb s 30) t), ltb→lt s 30 (right (ltb 0 s) (ltb s 30) t))
+
+wheel-test : ℕ → Bool
+wheel-test r = eqb (r % 2) 0 || (eqb (r % 3) 0 || (eqb (r % 5) 0 || listed r wheel))
+
+wheel-right : T (everyBelow wheel-test 30)
+unfolding wheel-test
+wheel-right = tt
+
+-- past a multiple m of 30, a number without these factors is on the wheel
+pub on-wheel : (m k : ℕ) → m % 30 ≡ 0 → m ≤ k → k < m + 30 → Tried k → (i : ℕ) × (i < 8) × (m + getD wheel i 0 ≡ k)
+unfolding wheel-test
+on-wheel m k e h l free =
+    let r : ℕ = k - m in
+    let t : T (wheel-test r) = everyBelow-at wheel-test 30 wheel-right r (omega arith) in
+    ⊎-elim (λ s. absurd (free .0 (omega (arith, eqb→eq (r % 2) 0 s)))) (λ t₂.
+    ⊎-elim (λ s. absurd (free .1 (omega (arith, eqb→eq (r % 3) 0 s)))) (λ t₃.
+    ⊎-elim (λ s. absurd (free .2 (omega (arith, eqb→eq (r % 5) 0 s)))) (λ t₄.
+    let w = listed-place r wheel t₄ in (w .0, w .1, omega (arith, w .2)))
+    (either (eqb (r % 5) 0) (listed r wheel) t₃))
+    (either (eqb (r % 3) 0) (eqb (r % 5) 0 || listed r wheel) t₂))
+    (either (eqb (r % 2) 0) (eqb (r % 3) 0 || (eqb (r % 5) 0 || listed r wheel)) t)
 
 -- ---- the great primes that are known
 

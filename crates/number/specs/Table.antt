@@ -1,9 +1,9 @@
--- The primes below 256 as a table, and what a search of the table for a divisor says.
+-- The primes below 256 as a table, the numbers below 30 without the factors 2, 3 and 5, and what a search of a table for a divisor says.
 use mathlib.Core.Path.{_≡_}
 use mathlib.Core.List.{List, [], _∷_}
 use mathlib.Core.Logic.{_≢_}
-use Prim.Native.Nat.{ℕ, _%_, _≤_, _<_}
-use lib.ListN.{getD}
+use Prim.Native.Nat.{ℕ, _+_, _%_, _≤_, _<_}
+use lib.ListN.{length, getD}
 
 abbrev pub primes : List ℕ
 primes =
@@ -12,8 +12,11 @@ primes =
     157 ∷ 163 ∷ 167 ∷ 173 ∷ 179 ∷ 181 ∷ 191 ∷ 193 ∷ 197 ∷ 199 ∷ 211 ∷ 223 ∷ 227 ∷ 229 ∷ 233 ∷ 239 ∷ 241 ∷ 251 ∷
     []
 
--- place is where the first entry of the table stands that divides n, and 54 where none does
-pub record FirstDivisor (n place : ℕ) : Type 0 where
-  pub within : place ≤ 54
-  pub earlier : (k : ℕ) → k < place → n % getD primes k 0 ≢ 0
-  pub divides : place < 54 → n % getD primes place 0 ≡ 0
+abbrev pub wheel : List ℕ
+wheel = 1 ∷ 7 ∷ 11 ∷ 13 ∷ 17 ∷ 19 ∷ 23 ∷ 29 ∷ []
+
+-- place is where the first entry of the table stands that with d added divides n, and the table's length where none does
+pub record FirstDivisor (n d : ℕ) (table : List ℕ) (place : ℕ) : Type 0 where
+  pub within : place ≤ length table
+  pub earlier : (k : ℕ) → k < place → n % (d + getD table k 0) ≢ 0
+  pub divides : place < length table → n % (d + getD table place 0) ≡ 0

@@ -1,11 +1,12 @@
 // Whether a number is an odd prime. Of four great primes that proof systems use it is known: 15·2^27 + 1, 127·2^24 + 1, 2^31 - 1 and the
-// greatest below 2^32. For any other number the primes below 256 are tried first, from a table, then the odd numbers from 257 on up to
-// the square root, but for multiples of 3: each test is one division of 32-bit numbers.
+// greatest below 2^32. For any other number the primes below 256 are tried first, from a table, then the odd numbers from 241 on up to
+// the square root, but for multiples of 3 and 5: each test is one division of 32-bit numbers.
 use super::root::square_root;
 ghost use mathlib.Core.Path.{_≡_};
-ghost use Prim.Native.Nat.{_≤_};
+ghost use Prim.Native.Nat.{ℕ, _+_, _^_, _≤_, _<_};
+ghost use lib.ListN.{length, getD};
 ghost use Rattle.meaning.specs.Number.{oddPrime};
-ghost use Rattle.number.specs.Table.{FirstDivisor};
+ghost use Rattle.number.specs.Table.{primes, FirstDivisor};
 
 // The primes below 256.
 const PRIMES: [u32; 54] = [
@@ -65,6 +66,9 @@ const PRIMES: [u32; 54] = [
     251,
 ];
 
+// The numbers below 30 that have no factor 2, 3 or 5.
+const WHEEL: [u32; 8] = [1, 7, 11, 13, 17, 19, 23, 29];
+
 pub fn is_odd_prime(n: u32) -> bool
     ensures { λ r. ⌜ r ≡ oddPrime n ⌝ }
 {
@@ -76,22 +80,23 @@ pub fn is_odd_prime(n: u32) -> bool
         2013265921 | 2130706433 | 2147483647 | 4294967291 => return true,
         _ => {}
     }
-    let at = first_divisor(n);
+    let primes = PRIMES;
+    let at = first_divisor(n, 0, &primes);
     if at < 54 {
         // A prime of the table that divides n: n is prime only where it is that prime itself.
-        return PRIMES[at] == n;
+        return primes[at] == n;
     }
     passes_odd_trial(n)
 }
 
-// The place of the first prime of the table that divides n, or 54 where none does.
-fn first_divisor(n: u32) -> usize
-    ensures { λ r. ⌜ FirstDivisor n r ⌝ }
+// The place of the first number of the table that with d added divides n, or its length where none does.
+fn first_divisor(n: u32, d: u32, table: &[u32]) -> usize
+    requires { ⌜ ((k : ℕ) → k < length (now table) → (0 < getD (now table) k 0) × (d + getD (now table) k 0 < 2 ^ 32)) ⌝ }
+    ensures { λ r. ⌜ FirstDivisor n d (now (table .entry)) r ⌝ }
 {
-    let primes = PRIMES;
     let mut i: usize = 0;
-    while i < 54 {
-        if n % primes[i] == 0 {
+    while i < table.len() {
+        if n % (d + table[i]) == 0 {
             return i;
         }
         i += 1;
@@ -99,22 +104,20 @@ fn first_divisor(n: u32) -> usize
     i
 }
 
-// Whether n is prime, where no prime of the table divides it: the odd numbers from 257 on are left to try, up to the square root, which is
-// taken once. 3 was tried, so its multiples need not be: of the odd numbers d, d + 2 and d + 4 a turn tries the first two.
+// Whether n is prime, where no prime of the table divides it: the odd numbers above are left to try, up to the square root, which is
+// taken once. 3 and 5 were tried, so their multiples need not be: of 30 numbers a turn tries eight.
 fn passes_odd_trial(n: u32) -> bool
-    requires { ⌜ (3 ≤ n) × FirstDivisor n 54 ⌝ }
+    requires { ⌜ (3 ≤ n) × FirstDivisor n 0 primes 54 ⌝ }
     ensures { λ r. ⌜ r ≡ oddPrime n ⌝ }
 {
     let root = square_root(n as u64) as u32;
-    let mut d: u32 = 257;
-    while d <= root {
-        if n % d == 0 {
+    let wheel = WHEEL;
+    let mut d: u32 = 240;
+    while d < root {
+        if first_divisor(n, d, &wheel) < 8 {
             return false;
         }
-        if n % (d + 2) == 0 {
-            return false;
-        }
-        d += 6;
+        d += 30;
     }
     true
 }

@@ -2,9 +2,10 @@
 -- odd numbers does.
 use mathlib.Core.Path.{_≡_}
 use native.Mathlib.Omega.{arith}
+use native.Mathlib.Nat.{zero-add}
 use borrow.Author.Needs.{needs}
 use Rattle.number.proofs.OddPrime.{odd-prime-passes, odd-prime-low, prime-divisor-decides}
-use Rattle.number.proofs.PrimeTable.{entry-prime, known-prime}
+use Rattle.number.proofs.PrimeTable.{entry-prime, entry-below, known-prime}
 use Rattle.number.proofs.prime.is_odd_prime.Statement.{statement}
 use Rattle.number.proofs.prime.is_odd_prime.Tie as tie
 
@@ -14,8 +15,12 @@ returns c = odd-prime-low _ (omega arith)
 returns-2 : tie.Need-returns-2
 returns-2 c = odd-prime-passes _ (omega arith) (known-prime _ (c .match .keys1))
 
+slice-aggregate-first-divisor : tie.Need-slice-aggregate-first-divisor
+slice-aggregate-first-divisor c = search needs
+
+-- the law of the table holds of the table in the code
 first-divisor-requires : tie.Need-first-divisor-requires
-first-divisor-requires c κs = search needs
+first-divisor-requires c κs k h = (omega (arith, entry-prime k h .above-one), omega (arith, entry-below k h))
 
 mul-result : tie.Need-mul-result
 mul-result c = search needs
@@ -25,8 +30,8 @@ array-read-result c = search needs
 
 returns-3 : tie.Need-returns-3
 returns-3 c =
-    let at = c .before .first-divisor .result in
-    prime-divisor-decides _ _ (omega arith) (entry-prime at (c .if2 .taken)) (c .before .first-divisor .ensures .divides (c .if2 .taken))
+    let d = c .before .first-divisor in
+    prime-divisor-decides _ _ (omega arith) (entry-prime (d .result) (c .if2 .taken)) (rw zero-add at (d .ensures .divides (c .if2 .taken)))
 
 passes-odd-trial-requires : tie.Need-passes-odd-trial-requires
 passes-odd-trial-requires c κs =
@@ -43,6 +48,7 @@ is-odd-prime-spec =
     (tie.spec
     returns
     returns-2
+    slice-aggregate-first-divisor
     first-divisor-requires
     mul-result
     array-read-result
