@@ -178,7 +178,7 @@ every-one f n (x ∷ y ∷ ys) t o =
     ⊎-elim (λ e. rw e (left (f x) (every f (y ∷ ys)) t)) (every-one f n (y ∷ ys) (right (f x) (every f (y ∷ ys)) t)) o
 
 abbrev pub knownPrimes : List ℕ
-knownPrimes = 2013265921 ∷ 2130706433 ∷ 2147483647 ∷ 4294967291 ∷ []
+knownPrimes = 998244353 ∷ 2013265921 ∷ 2130706433 ∷ 2147483647 ∷ 4294967291 ∷ []
 
 -- no number up to 2^16 divides n, and the root of n is not above that
 root-test : ℕ → Bool

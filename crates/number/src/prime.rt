@@ -1,5 +1,5 @@
-// Whether a number is an odd prime. Of four great primes that proof systems use it is known: 15·2^27 + 1, 127·2^24 + 1, 2^31 - 1 and the
-// greatest below 2^32. For any other number the primes below 256 are tried first, from a table, then the odd numbers from 241 on up to
+// Whether a number is an odd prime. Of five great primes that proof systems use it is known: 119·2^23 + 1, 15·2^27 + 1, 127·2^24 + 1,
+// 2^31 - 1 and the greatest below 2^32. For any other number the primes below 256 are tried first, from a table, then the odd numbers from 241 on up to
 // the square root, but for multiples of 3 and 5: each test is one division of 32-bit numbers.
 use super::root::square_root;
 ghost use mathlib.Core.Path.{_≡_};
@@ -77,7 +77,7 @@ pub fn is_odd_prime(n: u32) -> bool
     }
     // Of these primes the divisors were tried in the proof.
     match n {
-        2013265921 | 2130706433 | 2147483647 | 4294967291 => return true,
+        998244353 | 2013265921 | 2130706433 | 2147483647 | 4294967291 => return true,
         _ => {}
     }
     let primes = PRIMES;
