@@ -68,7 +68,7 @@ module _ {line : List ℕ} {before after : List ℤ} {r : Parsed} (read : LineRe
   unfolding parsedSeen
   no-line-seen q = refused-none 3 _ (sym (read .seen) ∙ rw q)
 
-  module _ {w : Word} {n : ℕ} (q : r ≡ Line w n) where
+  module _ {w : Word} {n next : ℕ} (q : r ≡ Line w n next) where
     pub line-seen : lineOf line ≡ some (record { word = wordOf w; numbers = take n after })
     unfolding parsedSeen
     line-seen = value-some 3 _ (sym (read .seen) ∙ rw q)

@@ -4,14 +4,14 @@ use mathlib.Core.Path.{_≡_, refl, ap}
 use mathlib.Core.Bool.{Bool, true, false, _&&_}
 use mathlib.Core.List.{List, [], _∷_}
 use mathlib.Core.Option.{none, some}
-use Prim.Native.Nat.{ℕ, suc, _+_, _≤_, _<_}
+use Prim.Native.Nat.{ℕ, zero, suc, _+_, _≤_, _<_}
 use native.Mathlib.Decide.{ℕ-discrete}
 use native.Mathlib.Numerals.{add-one}
 use native.Mathlib.Omega.{arith}
 use borrow.Author.Tests.{eq-eqb, ne-eqb}
 use lib.Dec.{eqb}
-use lib.ListN.{length, getD, drop, drop-of-length-le}
-use lib.Seq.{drop-cons}
+use lib.ListN.{length, getD, take, drop, drop-of-length-le}
+use lib.Seq.{drop-cons, take-nil}
 use Rattle.meaning.specs.Text.{sameBytes}
 
 pub and-false : (t : Bool) → t && false ≡ false
@@ -23,6 +23,11 @@ none-some q = let e : _≡_ {A = ℕ} 0 1 = cc in omega arith
 
 pub drop-more : (xs : List ℕ) (i : ℕ) → i < length xs → drop i xs ≡ getD xs i 0 ∷ drop (i + 1) xs
 drop-more xs i h = rw (add-one, ← drop-cons xs i 0 h)
+
+pub drop-take : (n m : ℕ) (xs : List ℕ) → drop n (take (n + m) xs) ≡ take m (drop n xs)
+drop-take zero m xs = let e : 0 + m ≡ m = omega arith in rw e
+drop-take (suc n) m [] = rw (take-nil (suc n + m), take-nil m)
+drop-take (suc n) m (x ∷ xs) = let e : suc n + m ≡ suc (n + m) = omega arith in rw e (drop-take n m xs)
 
 -- ---- a law for each way out of `is_same`
 

@@ -1,6 +1,9 @@
 pub mod Bytes
 pub mod Numbers
 pub mod Places
+pub mod Ends
+pub mod Sizing
+pub mod Signed
 pub mod Words
 pub mod Lines
 pub mod Storing

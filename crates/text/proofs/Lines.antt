@@ -14,20 +14,19 @@ use lib.Seq.{length-take-le, take-suc-set}
 use Rattle.meaning.specs.Text.{fieldsOf}
 use Rattle.meaning.specs.Line.{field, input, span, sum, relu, which, max, root, words, wordAmong, isCount, consNumber, numbersOf, assemble, lineOfFields, lineOf}
 use Rattle.meaning.specs.Line.{Word as MeantWord, Line as MeantLine}
-use Rattle.meaning.specs.Refusal.{orRefused}
-use Rattle.meaning.proofs.Results.{refused-none, value-some}
-use Rattle.text.specs.declared.NumberAt.{NumberAt}
-use Rattle.text.specs.declared.NumberAt.the-variants.{Of, NoNumber}
+use Rattle.meaning.proofs.Results.{refused-none}
+use Rattle.text.specs.declared.Number.{Number}
+use Rattle.text.specs.declared.Number.the-variants.{Of, NoNumber}
 use Rattle.text.specs.declared.Word.{Word}
 use Rattle.text.specs.declared.Spelled.{Spelled}
 use Rattle.text.specs.declared.Spelled.the-variants.{Known, NoWord}
 use Rattle.text.specs.Number.{NumberRead}
-use Rattle.text.specs.Word.{wordOf, wordSeen}
-use Rattle.text.specs.Place.{Found}
+use Rattle.text.specs.Word.{wordOf, WordRead}
+use Rattle.text.specs.Place.{Found, fieldAt}
 use Rattle.text.specs.Parsed.{mostNumbers}
 use Rattle.text.proofs.Bytes.{and-false}
 use Rattle.text.proofs.Numbers.{number-is-none, number-is, number-ends}
-use Rattle.text.proofs.Places.{partsAfter, parts-from, parts-none, fields-some, fields-next}
+use Rattle.text.proofs.Places.{partsAfter, parts-none, fields-from, fields-found, fields-some, fields-next}
 
 -- ---- what is left to read of a line
 
@@ -73,28 +72,32 @@ unfolding afterNumbers
 before-all none = refl
 before-all (some ns) = refl
 
-module _ (line : List ℕ) {end : ℕ} (found : Found 9 line 0 end) (r : Spelled)
-    (seen : wordSeen r ≡ orRefused 3 (wordAmong words (take (end - 0) (drop 0 line)))) where
-  pub no-word : r ≡ NoWord → wordAmong words (take (end - 0) (drop 0 line)) ≡ none
-  unfolding wordSeen
-  no-word q = refused-none 3 _ (sym seen ∙ ap wordSeen q)
+module _ (line : List ℕ) (at : ℕ) {r : Spelled} (read : WordRead line at r) where
+  pub no-word : r ≡ NoWord → wordAmong words (fieldAt line at) ≡ none
+  unfolding WordRead
+  no-word q = refused-none 3 _ (rw q at read)
 
-  pub some-word : {w : Word} → r ≡ Known w → wordAmong words (take (end - 0) (drop 0 line)) ≡ some (wordOf w)
-  unfolding wordSeen
-  some-word q = value-some 3 _ (sym seen ∙ ap wordSeen q)
-
-  pub line-no-word : r ≡ NoWord → lineOf line ≡ none
+  pub line-no-word : r ≡ NoWord → lineOf (drop at line) ≡ none
   unfolding lineOf lineOfFields fieldsOf assemble
-  line-no-word q = rw (parts-from 9 line found, no-word q)
+  line-no-word q = rw (fields-from line at, no-word q)
 
-  pub line-word : {w : Word} → r ≡ Known w → lineOf line ≡ lineAfter w [] (partsAfter 9 line end)
-  unfolding lineOf lineOfFields fieldsOf lineAfter
-  line-word {w} q =
-      rw (parts-from 9 line found, some-word q) (ap (assemble (some (wordOf w))) (before-all (numbersOf (partsAfter 9 line end))))
+  module _ {w : Word} {place : ℕ} (q : r ≡ Known w place) where
+    pub some-word : wordAmong words (fieldAt line at) ≡ some (wordOf w)
+    unfolding WordRead
+    some-word = (rw q at read) .0
+
+    pub word-ends : Found 9 line at place
+    unfolding WordRead
+    word-ends = (rw q at read) .1
+
+    pub line-word : lineOf (drop at line) ≡ lineAfter w [] (partsAfter 9 line place)
+    unfolding lineOf lineOfFields fieldsOf lineAfter
+    line-word =
+        rw (fields-found line word-ends, some-word) (ap (assemble (some (wordOf w))) (before-all (numbersOf (partsAfter 9 line place))))
 
 -- ---- the numbers: a law for each turn of the loop and each way out
 
-module _ (line : List ℕ) (w : Word) (end : ℕ) (h : end < length line) {r : NumberAt} (read : NumberRead line (end + 1) r) where
+module _ (line : List ℕ) (w : Word) (end : ℕ) (h : end < length line) {r : Number} (read : NumberRead line (end + 1) r) where
   pub line-no-number : (ns : List ℤ) → r ≡ NoNumber → lineAfter w ns (partsAfter 9 line end) ≡ none
   unfolding lineAfter numbersOf consNumber afterNumbers assemble
   line-no-number ns q = rw (fields-some line end h, number-is-none line (end + 1) read q)

@@ -5,26 +5,25 @@ use mathlib.Core.Bool.{Bool, true, false, cond, _&&_}
 use mathlib.Core.List.{List, [], _∷_}
 use mathlib.Core.Option.{Option, none, some}
 use Prim.Native.Nat.{ℕ, zero, suc, _+_, _*_, _-_, _≤_, _<_}
+use native.Mathlib.Decide.{decLt}
 use native.Mathlib.Omega.{arith}
 use borrow.Author.Tests.{le-leb, lt-leb, ne-eqb, leb-true, ltb-true, ltb-false, eqb-true, eqb-false}
 use lib.Dec.{leb, ltb, eqb}
 use lib.IntN.{ℤ, pos, negℤ, natAbs, _-ℤ_, +ℤ-idl}
-use lib.ListN.{length, getD, drop}
+use lib.ListN.{length, getD, drop, length-drop}
 use mir.Syntax.{w64}
 use mir.Val.{SFits, toZ, ofZ}
 use mir.ValLaws.{toZ-pos, toZ-ofZ}
 use Rattle.meaning.specs.Text.{sameBytes, isDigit, allDigits, decimal, isPlain, largest, sized, number}
-use Rattle.meaning.specs.Refusal.{orRefused}
-use Rattle.meaning.proofs.Results.{none-refused, some-value, refused-none}
+use Rattle.meaning.proofs.Results.{none-refused, refused-none}
+use Rattle.text.specs.declared.Number.{Number}
 use Rattle.text.specs.declared.Number.the-variants.{Of, NoNumber}
-use Rattle.text.specs.declared.NumberAt.{NumberAt}
-use Rattle.text.specs.declared.NumberAt.the-variants.{Of as OfAt, NoNumber as NoNumberAt}
 use Rattle.text.specs.declared.Size.{Size}
 use Rattle.text.specs.declared.Size.the-variants.{Small, NoSize}
-use Rattle.text.specs.Number.{numberSeen, plainSize, SizeRead, NumberRead}
+use Rattle.text.specs.Number.{plainSize, SizeRead, NumberRead}
 use Rattle.text.specs.Place.{indexOf, Found, fieldAt}
 use Rattle.text.proofs.Bytes.{and-false, none-some}
-use Rattle.text.proofs.Places.{index-end, found-next, field-empty, field-byte, field-more, field-length, field-whole}
+use Rattle.text.proofs.Places.{index-past, index-end, found-next, field-empty, field-byte, field-more, field-whole}
 
 -- ---- a digit
 
@@ -36,6 +35,12 @@ module _ (x : ℕ) where
   pub digit-from : 48 ≤ x → isDigit x ≡ leb x 57
   unfolding isDigit
   digit-from low = simp (le-leb 48 x low)
+
+  pub digit-is : 48 ≤ x → x ≤ 57 → isDigit x ≡ true
+  digit-is low high = digit-from low ∙ le-leb x 57 high
+
+  pub digit-above : 57 < x → isDigit x ≡ false
+  digit-above high = digit-from (omega arith) ∙ lt-leb x 57 high
 
   digit-at : (t u : Bool) → leb 48 x ≡ t → leb x 57 ≡ u → t && u ≡ true → (48 ≤ x) × (x ≤ 57)
   digit-at true true p q both = (leb-true 48 x p, leb-true x 57 q)
@@ -181,36 +186,32 @@ number-plain-at false x xs no-zero no-minus = simp (ne-eqb x 48 no-zero, ne-eqb 
 -- ---- a number: a law for each way out of `number_at`
 
 module _ (line : List ℕ) (at : ℕ) where
-  pub number-end : length line ≤ at → NumberRead line at NoNumberAt
-  unfolding NumberRead number
-  number-end h = none-refused 3 (rw (field-empty line at (index-end 9 line at h)))
-
   module _ (h : at < length line) where
-    module _ (zero-byte : getD line at 0 ≡ 48) {next : ℕ} (found : Found 9 line (at + 1) next) where
+    module _ (zero-byte : getD line at 0 ≡ 48) where
       zero-more : fieldAt line at ≡ 48 ∷ fieldAt line (at + 1)
       zero-more = field-more line at h (λ e. omega arith) ∙ rw zero-byte
 
-      pub zero-number : next ≡ at + 1 → NumberRead line at (OfAt (pos 0) (at + 1))
+      pub zero-number : indexOf 9 (drop (at + 1) line) ≡ 0 → NumberRead line at (Of (pos 0) (at + 1))
       unfolding NumberRead number sameBytes
-      zero-number q =
-          (rw (zero-more, field-empty line (at + 1) (omega (arith, found .is))), found-next 9 line at h (λ e. omega arith) (rw q at found))
+      zero-number q = (
+        rw (zero-more, field-empty line (at + 1) q),
+        record { low = omega arith; high = omega arith; is = omega (arith, q, index-past 9 line at h (λ e. omega arith)) },
+      )
 
-      pub zero-none : (next ≡ at + 1 → ⊥) → NumberRead line at NoNumberAt
+      pub zero-none : (length (fieldAt line (at + 1)) ≡ 0 → ⊥) → NumberRead line at NoNumber
       unfolding NumberRead
-      zero-none q =
-          let more = number-zero-more (fieldAt line (at + 1)) (λ e. q (omega (arith, found .low, field-length line (at + 1) found))) in
-          none-refused 3 (rw zero-more more)
+      zero-none more = none-refused 3 (rw zero-more (number-zero-more (fieldAt line (at + 1)) more))
 
     module _ (minus : getD line at 0 ≡ 45) where
       minus-sized : number (fieldAt line at) ≡ sized (fieldAt line (at + 1)) (λ n. negℤ (pos n))
       minus-sized = rw (field-more line at h (λ e. omega arith), minus) (number-minus-is (fieldAt line (at + 1)))
 
       module _ {r : Size} (read : SizeRead line (at + 1) r) where
-        pub minus-none : r ≡ NoSize → NumberRead line at NoNumberAt
+        pub minus-none : r ≡ NoSize → NumberRead line at NoNumber
         unfolding NumberRead
         minus-none q = none-refused 3 (minus-sized ∙ sized-none line (at + 1) read _ q)
 
-        pub minus-number : {n place : ℕ} → r ≡ Small n place → NumberRead line at (OfAt (toZ w64 (ofZ w64 (pos 0 -ℤ toZ w64 n))) place)
+        pub minus-number : {n place : ℕ} → r ≡ Small n place → NumberRead line at (Of (toZ w64 (ofZ w64 (pos 0 -ℤ toZ w64 n))) place)
         unfolding NumberRead
         minus-number {n} q =
             let small = size-small line (at + 1) read q in (
@@ -218,27 +219,32 @@ module _ (line : List ℕ) (at : ℕ) where
               found-next 9 line at h (λ e. omega arith) (size-ends line (at + 1) read q),
             )
 
-    module _ (no-zero : getD line at 0 ≡ 48 → ⊥) (no-minus : getD line at 0 ≡ 45 → ⊥) where
-      plain-sized : number (fieldAt line at) ≡ sized (fieldAt line at) pos
-      plain-sized = rw (field-byte line at h) (number-plain-at (eqb (getD line at 0) 9) _ (fieldAt line (at + 1)) no-zero no-minus)
+  module _ (no-zero : at < length line → getD line at 0 ≡ 48 → ⊥) (no-minus : at < length line → getD line at 0 ≡ 45 → ⊥) where
+    -- where no byte is left there is no number either way
+    plain-sized : number (fieldAt line at) ≡ sized (fieldAt line at) pos
+    unfolding number sized isPlain
+    plain-sized = elim (decLt at (length line)) [
+      | yes h ↦ rw (field-byte line at h) (number-plain-at (eqb (getD line at 0) 9) _ (fieldAt line (at + 1)) (no-zero h) (no-minus h))
+      | no h ↦ rw (field-empty line at (index-end 9 line at (omega arith)))
+    ]
 
-      module _ {r : Size} (read : SizeRead line at r) where
-        pub plain-none : r ≡ NoSize → NumberRead line at NoNumberAt
-        unfolding NumberRead
-        plain-none q = none-refused 3 (plain-sized ∙ sized-none line at read _ q)
+    module _ {r : Size} (read : SizeRead line at r) where
+      pub plain-none : r ≡ NoSize → NumberRead line at NoNumber
+      unfolding NumberRead
+      plain-none q = none-refused 3 (plain-sized ∙ sized-none line at read _ q)
 
-        pub plain-number : {n place : ℕ} → r ≡ Small n place → NumberRead line at (OfAt (toZ w64 (ofZ w64 (pos n))) place)
-        unfolding NumberRead
-        plain-number {n} q =
-            (rw (toZ-ofZ w64 (pos n) (size-fits line at read q)) (plain-sized ∙ sized-is line at read q _), size-ends line at read q)
+      pub plain-number : {n place : ℕ} → r ≡ Small n place → NumberRead line at (Of (toZ w64 (ofZ w64 (pos n))) place)
+      unfolding NumberRead
+      plain-number {n} q =
+          (rw (toZ-ofZ w64 (pos n) (size-fits line at read q)) (plain-sized ∙ sized-is line at read q _), size-ends line at read q)
 
 -- what `number_at` answered
-module _ (line : List ℕ) (at : ℕ) {r : NumberAt} (read : NumberRead line at r) where
-  pub number-is-none : r ≡ NoNumberAt → number (fieldAt line at) ≡ none
+module _ (line : List ℕ) (at : ℕ) {r : Number} (read : NumberRead line at r) where
+  pub number-is-none : r ≡ NoNumber → number (fieldAt line at) ≡ none
   unfolding NumberRead
   number-is-none q = refused-none 3 _ (rw q at read)
 
-  module _ {z : ℤ} {place : ℕ} (q : r ≡ OfAt z place) where
+  module _ {z : ℤ} {place : ℕ} (q : r ≡ Of z place) where
     pub number-is : number (fieldAt line at) ≡ some z
     unfolding NumberRead
     number-is = (rw q at read) .0
@@ -279,27 +285,25 @@ unfolding number
 tab-number [] h = refl
 tab-number (x ∷ xs) h = tab-number-at _ _ x xs refl refl h
 
--- ---- the number that all of some bytes spell: a law for each way out of `number_of`
+-- ---- the number that all of some bytes spell
 
-module _ (field : List ℕ) {r : NumberAt} (read : NumberRead field 0 r) where
-  whole-none-at : (has-tab : Bool) → ltb (indexOf 9 field) (length field) ≡ has-tab → r ≡ NoNumberAt → number field ≡ none
-  whole-none-at true p q = tab-number field (ltb-true _ _ p)
-  whole-none-at false p q = ap number (sym (field-whole field (ltb-false _ _ p))) ∙ number-is-none field 0 read q
+module _ (line : List ℕ) (at : ℕ) {r : Number} (read : NumberRead line at r) where
+  whole-none-at : (has-tab : Bool) → ltb (indexOf 9 (drop at line)) (length (drop at line)) ≡ has-tab → r ≡ NoNumber → number (drop at line) ≡ none
+  whole-none-at true p q = tab-number (drop at line) (ltb-true _ _ p)
+  whole-none-at false p q = ap number (sym (field-whole line at (ltb-false _ _ p))) ∙ number-is-none line at read q
 
-  pub whole-none : r ≡ NoNumberAt → numberSeen NoNumber ≡ orRefused 3 (number field)
-  unfolding numberSeen
-  whole-none q = sym (none-refused 3 (whole-none-at _ refl q))
+  pub whole-none : r ≡ NoNumber → number (drop at line) ≡ none
+  whole-none q = whole-none-at _ refl q
 
-  module _ {z : ℤ} {end : ℕ} (q : r ≡ OfAt z end) where
-    pub whole-tab : end < length field → numberSeen NoNumber ≡ orRefused 3 (number field)
-    unfolding numberSeen
-    whole-tab h = sym (none-refused 3 (tab-number field (omega (arith, number-ends field 0 read q .is))))
+  module _ {z : ℤ} {end : ℕ} (q : r ≡ Of z end) where
+    pub whole-tab : end < length line → number (drop at line) ≡ none
+    whole-tab h = tab-number (drop at line) (omega (arith, number-ends line at read q .is, length-drop at line))
 
-    pub whole-number : length field ≤ end → SFits w64 z → numberSeen (Of (toZ w64 (ofZ w64 z))) ≡ orRefused 3 (number field)
-    unfolding numberSeen
-    whole-number h fits =
-        let all : fieldAt field 0 ≡ field = field-whole field (omega (arith, number-ends field 0 read q .is)) in
-        rw (toZ-ofZ w64 z fits) (sym (some-value 3 (ap number (sym all) ∙ number-is field 0 read q)))
+    pub whole-number : length line ≤ end → number (drop at line) ≡ some z
+    whole-number h =
+        let found = number-ends line at read q in
+        let all : fieldAt line at ≡ drop at line = field-whole line at (omega (arith, found .is, found .low, length-drop at line)) in
+        ap number (sym all) ∙ number-is line at read q
 
 -- ---- no number is larger than the limit
 

@@ -66,9 +66,9 @@ module _ (line : List ℕ) (at : ℕ) where
       rw (field-found found) (length-take-le (place - at) (drop at line) (omega (arith, found .low, found .high, length-drop at line)))
 
 -- bytes without a tab are one field
-pub field-whole : (line : List ℕ) → length line ≤ indexOf 9 line → fieldAt line 0 ≡ line
+pub field-whole : (line : List ℕ) (at : ℕ) → length (drop at line) ≤ indexOf 9 (drop at line) → fieldAt line at ≡ drop at line
 unfolding fieldAt
-field-whole line h = take-all (indexOf 9 line) line h
+field-whole line at h = take-all (indexOf 9 (drop at line)) (drop at line) h
 
 index-at : (t : Bool) (separator x : ℕ) (xs : List ℕ) → eqb x separator ≡ t → (indexOf separator xs < length xs → getD xs (indexOf separator xs) 0 ≡ separator)
     → cond t 0 (suc (indexOf separator xs)) < suc (length xs) → getD (x ∷ xs) (cond t 0 (suc (indexOf separator xs))) 0 ≡ separator
@@ -164,14 +164,21 @@ module _ (separator : ℕ) (xs : List ℕ) where
   unfolding partsAfter
   parts-more place h = rw (add-one) (simp (lt-ltb place (length xs) h))
 
+-- the field at a place, and those after it
+pub fields-from : (line : List ℕ) (at : ℕ) → let left = drop at line in split 9 left ≡ fieldAt line at ∷ partsAfter 9 left (indexOf 9 left)
+unfolding fieldAt
+fields-from line at = split-index 9 (drop at line)
+
+pub fields-found : (line : List ℕ) {at place : ℕ} → Found 9 line at place → split 9 (drop at line) ≡ fieldAt line at ∷ partsAfter 9 line place
+fields-found line {at} found = parts-from 9 line found ∙ rw (field-found line at found)
+
 -- the fields after one that ends at a tab: the next, and those after it
 module _ (line : List ℕ) (place : ℕ) (h : place < length line) where
   pub fields-some : let left = drop (place + 1) line in partsAfter 9 line place ≡ fieldAt line (place + 1) ∷ partsAfter 9 left (indexOf 9 left)
-  unfolding fieldAt
-  fields-some = parts-more 9 line place h ∙ split-index 9 (drop (place + 1) line)
+  fields-some = parts-more 9 line place h ∙ fields-from line (place + 1)
 
   pub fields-next : {next : ℕ} → Found 9 line (place + 1) next → partsAfter 9 line place ≡ fieldAt line (place + 1) ∷ partsAfter 9 line next
-  fields-next found = parts-more 9 line place h ∙ parts-from 9 line found ∙ rw (field-found line (place + 1) found)
+  fields-next found = parts-more 9 line place h ∙ fields-found line found
 
 -- ---- an ended text
 
@@ -193,7 +200,7 @@ ended-index-at true n m h = omega arith
 ended-index-at false n m h = omega arith
 
 -- a search for byte 10 in an ended text finds one
-ended-index : (text : List ℕ) → isEnded text ≡ true → indexOf 10 text < length text
+pub ended-index : (text : List ℕ) → isEnded text ≡ true → indexOf 10 text < length text
 unfolding isEnded indexOf
 ended-index [] ended = let z : _≡_ {A = ℕ} 0 1 = cc in omega arith
 ended-index (x ∷ []) ended = rw ended (omega arith)

@@ -12,39 +12,40 @@ use lib.Seq.{length-take-le, take-nil, take-suc-set, drop-drop, drop-set-lt}
 use Rattle.meaning.specs.Text.{fieldsOf}
 use Rattle.meaning.specs.Line.{words, wordAmong}
 use Rattle.meaning.specs.Line.{Word as MeantWord}
-use Rattle.text.specs.declared.NumberAt.{NumberAt}
-use Rattle.text.specs.declared.NumberAt.the-variants.{Of, NoNumber}
+use Rattle.text.specs.declared.Number.{Number}
+use Rattle.text.specs.declared.Number.the-variants.{Of, NoNumber}
 use Rattle.text.specs.Number.{NumberRead}
-use Rattle.text.specs.Place.{Found}
+use Rattle.text.specs.Place.{Found, fieldAt}
 use Rattle.text.specs.Parsed.{mostNumbers, ifSome, leadingNumbers, leadingOfFields, leading}
 use Rattle.text.proofs.Numbers.{number-is-none, number-is, number-ends}
-use Rattle.text.proofs.Places.{partsAfter, parts-from, parts-none, fields-some, fields-next}
+use Rattle.text.proofs.Places.{partsAfter, parts-none, fields-from, fields-found, fields-some, fields-next}
 
 -- the leading numbers stand first, and what comes after them is as it was before
 abbrev pub Stored : (line : List ℕ) (before numbers : List ℤ) → Type 0
 Stored line before numbers = numbers ≡ leading line ++ drop (length (leading line)) before
 
--- before the field after `end`: the first `count` of the leading numbers stand, and what comes after them is as it was before
-pub record Storing (line : List ℕ) (before numbers : List ℤ) (end count : ℕ) : Type 0 where
-  pub stands : leading line ≡ take count numbers ++ take (mostNumbers - count) (leadingNumbers (partsAfter 9 line end))
+-- before the field after `end`, of the line that starts at `at`: the first `count` of the leading numbers stand, and what comes after them is
+-- as it was before
+pub record Storing (line : List ℕ) (at : ℕ) (before numbers : List ℤ) (end count : ℕ) : Type 0 where
+  pub stands : leading (drop at line) ≡ take count numbers ++ take (mostNumbers - count) (leadingNumbers (partsAfter 9 line end))
   pub rest : drop count numbers ≡ drop count before
 
 -- ---- the word
 
-module _ (line : List ℕ) {end : ℕ} (found : Found 9 line 0 end) (numbers : List ℤ) where
-  pub stored-no-word : wordAmong words (take (end - 0) (drop 0 line)) ≡ none → Stored line numbers numbers
+module _ (line : List ℕ) (at : ℕ) (numbers : List ℤ) where
+  pub stored-no-word : wordAmong words (fieldAt line at) ≡ none → Stored (drop at line) numbers numbers
   unfolding leading leadingOfFields fieldsOf ifSome
-  stored-no-word q = let nothing : leading line ≡ [] = rw (parts-from 9 line found, q) in rw nothing
+  stored-no-word q = let nothing : leading (drop at line) ≡ [] = rw (fields-from line at, q) in rw nothing
 
-  pub storing-start : {w : MeantWord} → wordAmong words (take (end - 0) (drop 0 line)) ≡ some w → Storing line numbers numbers end 0
+  pub storing-start : {place : ℕ} → Found 9 line at place → {w : MeantWord} → wordAmong words (fieldAt line at) ≡ some w → Storing line at numbers numbers place 0
   unfolding leading leadingOfFields fieldsOf ifSome
-  storing-start q = record { stands = rw (parts-from 9 line found, q); rest = refl }
+  storing-start found q = record { stands = rw (fields-found line found, q); rest = refl }
 
 -- ---- the numbers
 
-module _ (line : List ℕ) (before numbers : List ℤ) (end count : ℕ) (storing : Storing line before numbers end count) (room : length numbers ≡ mostNumbers) where
-  module _ (h : end < length line) {r : NumberAt} (read : NumberRead line (end + 1) r) where
-    pub storing-turn : {n : ℤ} {next : ℕ} → r ≡ Of n next → count < mostNumbers → Storing line before (set numbers count n) next (count + 1)
+module _ (line : List ℕ) (at : ℕ) (before numbers : List ℤ) (end count : ℕ) (storing : Storing line at before numbers end count) (room : length numbers ≡ mostNumbers) where
+  module _ (h : end < length line) {r : Number} (read : NumberRead line (end + 1) r) where
+    pub storing-turn : {n : ℤ} {next : ℕ} → r ≡ Of n next → count < mostNumbers → Storing line at before (set numbers count n) next (count + 1)
     unfolding leadingNumbers ifSome
     storing-turn {n} {next} q k =
         let places : mostNumbers - count ≡ suc (mostNumbers - (count + 1)) = omega arith in
@@ -61,19 +62,19 @@ module _ (line : List ℕ) (before numbers : List ℤ) (end count : ℕ) (storin
 
   module _ (most : count ≤ mostNumbers) where
     -- where none of the leading numbers is to come
-    stored-all : take (mostNumbers - count) (leadingNumbers (partsAfter 9 line end)) ≡ [] → Stored line before numbers
+    stored-all : take (mostNumbers - count) (leadingNumbers (partsAfter 9 line end)) ≡ [] → Stored (drop at line) before numbers
     stored-all nothing =
-        let all : leading line ≡ take count numbers = storing .stands ∙ rw nothing (append-nil (take count numbers)) in
+        let all : leading (drop at line) ≡ take count numbers = storing .stands ∙ rw nothing (append-nil (take count numbers)) in
         rw (all, length-take-le count numbers (omega arith), ← storing .rest) (sym (take-append-drop count numbers))
 
-    pub stored-full : mostNumbers ≤ count → Stored line before numbers
+    pub stored-full : mostNumbers ≤ count → Stored (drop at line) before numbers
     stored-full full = let places : mostNumbers - count ≡ 0 = omega arith in stored-all (rw places)
 
-    pub stored-no-field : length line ≤ end → Stored line before numbers
+    pub stored-no-field : length line ≤ end → Stored (drop at line) before numbers
     unfolding leadingNumbers
     stored-no-field h = stored-all (rw (parts-none 9 line end h) (take-nil (mostNumbers - count)))
 
-    pub stored-no-number : end < length line → {r : NumberAt} → NumberRead line (end + 1) r → r ≡ NoNumber → Stored line before numbers
+    pub stored-no-number : end < length line → {r : Number} → NumberRead line (end + 1) r → r ≡ NoNumber → Stored (drop at line) before numbers
     unfolding leadingNumbers ifSome
     stored-no-number h read q =
         stored-all (rw (fields-some line end h, number-is-none line (end + 1) read q) (take-nil (mostNumbers - count)))

@@ -1,22 +1,220 @@
--- Laws of words: one word more of those that a field is compared with.
-use mathlib.Core.Path.{_≡_, sym, _∙_}
-use mathlib.Core.Bool.{Bool, true, false}
-use mathlib.Core.List.{List, _∷_}
-use mathlib.Core.Option.{some}
-use Prim.Native.Nat.{ℕ}
-use lib.ListN.{drop}
-use Rattle.meaning.specs.Text.{sameBytes}
-use Rattle.meaning.specs.Line.{Word, spelling, words, wordAmong}
+-- Laws of words: the two bytes that tell which word a field may be, the comparison with that word's spelling, and what it says of all words.
+use mathlib.Core.Path.{_≡_, refl, sym, ap, _∙_}
+use mathlib.Core.Bool.{Bool, true, false, cond, _&&_}
+use mathlib.Core.List.{List, [], _∷_}
+use mathlib.Core.Logic.{_≢_, _⊎_}
+use mathlib.Core.Option.{none, some}
+use Prim.Native.Nat.{ℕ, zero, suc, _+_, _-_, _≤_, _<_}
+use native.Mathlib.Decide.{decLt}
+use native.Mathlib.Omega.{arith}
+use borrow.Author.Tests.{ltb-true, eqb-true}
+use lib.Dec.{eqb, ltb}
+use lib.ListN.{length, getD, take, drop, length-drop, drop-of-length-le, length-take}
+use lib.Seq.{getD-take, getD-drop}
+use Rattle.meaning.specs.Text.{bytes, sameBytes}
+use Rattle.meaning.specs.Line.{Word, field, input, span, sum, relu, which, max, root, spelling, words, wordAmong}
+use Rattle.meaning.proofs.Results.{none-refused}
+use Rattle.text.specs.declared.Word.{Word as Read}
+use Rattle.text.specs.declared.Spelled.{Spelled}
+use Rattle.text.specs.declared.Spelled.the-variants.{Known, NoWord}
+use Rattle.text.specs.Word.{wordOf, WordRead, OnlyWord, Spells}
+use Rattle.text.specs.Place.{indexOf, Found, fieldAt}
+use Rattle.text.proofs.Bytes.{drop-more}
+use Rattle.text.proofs.Places.{Searched, search-past, index-end, field-empty, field-byte, field-more}
+use Rattle.text.proofs.Ends.{InLine, cut-length, cut-byte, before-end, end-here, place-next, field-ends}
 
--- the first k words are not this field's: those after them are left to compare with
-abbrev pub Left : ℕ → List ℕ → Type 0
-Left k field = wordAmong words field ≡ wordAmong (drop k words) field
+-- ---- the word that two bytes tell
 
-module _ (w : Word) (ws : List Word) (field : List ℕ) {same : Bool} (q : same ≡ sameBytes (spelling w) field) where
-  pub word-is : same ≡ true → wordAmong (w ∷ ws) field ≡ some w
-  unfolding wordAmong
-  word-is holds = rw (sym q ∙ holds)
+unfoldable pub toldBy : (first second : ℕ) → Word
+toldBy first second =
+    cond (eqb first 115) (cond (eqb second 117) sum span)
+    (cond (eqb first 114) (cond (eqb second 101) relu root)
+    (cond (eqb first 102) field (cond (eqb first 105) input (cond (eqb first 119) which max))))
 
-  pub word-not : same ≡ false → wordAmong (w ∷ ws) field ≡ wordAmong ws field
-  unfolding wordAmong
-  word-not fails = rw (sym q ∙ fails)
+told-spelling : (w : Word) → toldBy (getD (spelling w) 0 0) (getD (spelling w) 1 0) ≡ w
+unfolding toldBy spelling bytes
+told-spelling field = refl
+told-spelling input = refl
+told-spelling span = refl
+told-spelling sum = refl
+told-spelling relu = refl
+told-spelling which = refl
+told-spelling max = refl
+told-spelling root = refl
+
+spelling-long : (w : Word) → 1 < length (spelling w)
+unfolding spelling bytes
+spelling-long field = omega arith
+spelling-long input = omega arith
+spelling-long span = omega arith
+spelling-long sum = omega arith
+spelling-long relu = omega arith
+spelling-long which = omega arith
+spelling-long max = omega arith
+spelling-long root = omega arith
+
+-- a byte of the field at a place is a byte of the text
+field-at : {text : List ℕ} {at end : ℕ} → InLine text at end → (k : ℕ) → k < length (fieldAt (take end text) at)
+    → getD (fieldAt (take end text) at) k 0 ≡ getD text (at + k) 0
+unfolding fieldAt
+field-at {text} {at} {end} l k h =
+    let line = take end text in
+    let n = indexOf 9 (drop at line) in
+    let long = length-take n (drop at line) in
+    getD-take n (drop at line) k 0 (omega (arith, long)) ∙ getD-drop at line k 0
+    ∙ getD-take end text (at + k) 0 (omega (arith, long, length-drop at line, cut-length l))
+
+pub told-only : {text : List ℕ} {at end : ℕ} → InLine text at end → (w : Word) → fieldAt (take end text) at ≡ spelling w → w ≡ toldBy (getD text at 0) (getD text (at + 1) 0)
+told-only {text} {at} {end} l w q =
+    let long = spelling-long w in
+    let e : at + 0 ≡ at = omega arith in
+    let same = ap length q in
+    let first : getD (spelling w) 0 0 ≡ getD text at 0 =
+    ap (λ (xs : List ℕ). getD xs 0 0) (sym q) ∙ (rw e at (field-at l 0 (omega (arith, same)))) in
+    let second : getD (spelling w) 1 0 ≡ getD text (at + 1) 0 = ap (λ (xs : List ℕ). getD xs 1 0) (sym q) ∙ field-at l 1 (omega (arith, same)) in
+    sym (told-spelling w) ∙ rw (first, second)
+
+-- ---- a field beside a spelling
+
+-- no byte of a spelling ends a field or a line
+allAbove : List ℕ → Bool
+allAbove [] = true
+allAbove (x ∷ xs) = ltb 10 x && allAbove xs
+
+above-both : (t u : Bool) → t && u ≡ true → (t ≡ true) × (u ≡ true)
+above-both true true q = (refl, refl)
+above-both true false q = (refl, q)
+above-both false u q = let z : _≡_ {A = ℕ} 0 1 = cc in absurd (omega arith)
+
+above-at : (xs : List ℕ) → allAbove xs ≡ true → (k : ℕ) → k < length xs → 10 < getD xs k 0
+unfolding allAbove
+above-at [] q k h = absurd (omega arith)
+above-at (x ∷ xs) q zero h = ltb-true 10 x (above-both (ltb 10 x) (allAbove xs) q .0)
+above-at (x ∷ xs) q (suc k) h = above-at xs (above-both (ltb 10 x) (allAbove xs) q .1) k (omega arith)
+
+spelling-above : (w : Word) → allAbove (spelling w) ≡ true
+unfolding allAbove spelling bytes
+spelling-above field = refl
+spelling-above input = refl
+spelling-above span = refl
+spelling-above sum = refl
+spelling-above relu = refl
+spelling-above which = refl
+spelling-above max = refl
+spelling-above root = refl
+
+same-rest : {x : ℕ} {xs ys : List ℕ} → x ∷ xs ≡ x ∷ ys → xs ≡ ys
+same-rest q = cc
+
+-- the first i bytes of the field are those of the spelling: what is left of both is the same just where all is
+pub record Spelling (text : List ℕ) (at end : ℕ) (spelled : List ℕ) (i : ℕ) : Type 0 where
+  pub place : InLine text (at + i) end
+  pub short : i ≤ length spelled
+  pub searched : Searched 9 (take end text) at (at + i)
+  pub forth : fieldAt (take end text) at ≡ spelled → fieldAt (take end text) (at + i) ≡ drop i spelled
+  pub back : fieldAt (take end text) (at + i) ≡ drop i spelled → fieldAt (take end text) at ≡ spelled
+
+pub spelling-start : {text : List ℕ} {at end : ℕ} → InLine text at end → (spelled : List ℕ) → Spelling text at end spelled 0
+spelling-start {text} {at} {end} l spelled =
+    let e : at + 0 ≡ at = omega arith in record {
+      place = rw e l;
+      short = omega arith;
+      searched = rw e (record { low = omega arith; high = omega (arith, cut-length l, l .found .low); same = refl });
+      forth = rw e (λ q. q);
+      back = rw e (λ q. q);
+    }
+
+module _ {text : List ℕ} {at end : ℕ} (w : Word) {i : ℕ} (s : Spelling text at end (spelling w) i) where
+  module _ (h : i < length (spelling w)) where
+    left-spelled : drop i (spelling w) ≡ getD (spelling w) i 0 ∷ drop (i + 1) (spelling w)
+    left-spelled = drop-more (spelling w) i h
+
+    pub spelling-differs : (getD text (at + i) 0 ≢ getD (spelling w) i 0) → fieldAt (take end text) at ≢ spelling w
+    spelling-differs q e =
+        let left = s .forth e ∙ left-spelled in
+        let long = ap length left in
+        let e₀ : (at + i) + 0 ≡ at + i = omega arith in
+        q (sym (rw e₀ at (field-at (s .place) 0 (omega (arith, long)))) ∙ ap (λ (xs : List ℕ). getD xs 0 0) left)
+
+    module _ (q : getD text (at + i) 0 ≡ getD (spelling w) i 0) where
+      letter : 10 < getD text (at + i) 0
+      letter = rw q (above-at (spelling w) (spelling-above w) i h)
+
+      inside : at + i < end
+      inside = before-end (s .place) (λ e. omega (arith, letter))
+
+      left-field : fieldAt (take end text) (at + i) ≡ getD (spelling w) i 0 ∷ fieldAt (take end text) (at + (i + 1))
+      left-field =
+          let byte = cut-byte (s .place) inside in
+          let e : (at + i) + 1 ≡ at + (i + 1) = omega arith in
+          rw (byte, q, e) at (field-more (take end text) (at + i) (omega (arith, cut-length (s .place), inside)) (rw byte (λ t. omega (arith, letter))))
+
+      pub spelling-next : Spelling text at end (spelling w) (i + 1)
+      spelling-next =
+          let e : (at + i) + 1 ≡ at + (i + 1) = omega arith in
+          let byte = cut-byte (s .place) inside in record {
+            place = rw e at (place-next (s .place) (λ t. omega (arith, letter)));
+            short = omega arith;
+            searched = search-past (s .searched) (omega (arith, cut-length (s .place), inside)) (rw byte (λ t. omega (arith, letter))) (sym e);
+            forth = λ t. same-rest (sym left-field ∙ s .forth t ∙ left-spelled);
+            back = λ t. s .back (left-field ∙ rw t (sym left-spelled));
+          }
+
+  module _ (h : length (spelling w) ≤ i) where
+    none-spelled : drop i (spelling w) ≡ []
+    none-spelled = drop-of-length-le (spelling w) h
+
+    pub spelling-end : (getD text (at + i) 0 ≡ 9) ⊎ (getD text (at + i) 0 ≡ 10) → (fieldAt (take end text) at ≡ spelling w) × Found 9 (take end text) at (at + i)
+    spelling-end stop =
+        let here = field-ends (s .place) stop in
+        let found = s .searched in (
+          s .back (field-empty (take end text) (at + i) here ∙ sym none-spelled),
+          record { low = found .low; high = found .high; is = omega (arith, found .same, here) },
+        )
+
+    pub spelling-more : (getD text (at + i) 0 ≡ 9 → ⊥) → (getD text (at + i) 0 ≡ 10 → ⊥) → fieldAt (take end text) at ≢ spelling w
+    spelling-more no-tab no-end e =
+        let inside = before-end (s .place) no-end in
+        let byte = cut-byte (s .place) inside in
+        let more = field-more (take end text) (at + i) (omega (arith, cut-length (s .place), inside)) (rw byte no-tab) in
+        let long = ap length (sym more ∙ s .forth e ∙ none-spelled) in
+        omega (arith, long)
+
+-- ---- the word among all words
+
+same-spelled : (xs ys : List ℕ) → sameBytes xs ys ≡ true → xs ≡ ys
+unfolding sameBytes
+same-spelled [] [] q = refl
+same-spelled [] (y ∷ ys) q = let z : _≡_ {A = ℕ} 0 1 = cc in absurd (omega arith)
+same-spelled (x ∷ xs) [] q = let z : _≡_ {A = ℕ} 0 1 = cc in absurd (omega arith)
+same-spelled (x ∷ xs) (y ∷ ys) q =
+    let both = above-both _ _ q in
+    rw (eqb-true x y (both .0), same-spelled xs ys (both .1))
+
+among-none : (ws : List Word) (f : List ℕ) → ((w : Word) → f ≢ spelling w) → wordAmong ws f ≡ none
+unfolding wordAmong
+among-none [] f no-word = refl
+among-none (w ∷ ws) f no-word = rw (differs (sameBytes (spelling w) f) refl) (among-none ws f no-word)
+  where
+    differs : (t : Bool) → sameBytes (spelling w) f ≡ t → t ≡ false
+    differs true q = absurd (no-word w (sym (same-spelled (spelling w) f q)))
+    differs false q = refl
+
+among-spelling : (w : Word) → wordAmong words (spelling w) ≡ some w
+unfolding wordAmong words spelling bytes sameBytes
+among-spelling field = refl
+among-spelling input = refl
+among-spelling span = refl
+among-spelling sum = refl
+among-spelling relu = refl
+among-spelling which = refl
+among-spelling max = refl
+among-spelling root = refl
+
+-- the only word that a field may be was compared with it
+pub word-read : (line : List ℕ) (at : ℕ) (w : Read) (r : Spelled) → OnlyWord line at w → Spells line at w r → WordRead line at r
+unfolding WordRead Spells
+word-read line at w (Known found place) only s =
+    (rw (s .1, among-spelling (wordOf w), s .0), s .2)
+word-read line at w NoWord only s =
+    none-refused 3 (among-none words (fieldAt line at) (λ other q. s (q ∙ ap spelling (only other q))))

@@ -1,4 +1,4 @@
+pub mod Place
 pub mod Number
 pub mod Word
-pub mod Place
 pub mod Parsed

@@ -5,25 +5,23 @@ use mathlib.Core.Bool.{cond, _&&_}
 use mathlib.Core.List.{List}
 use mathlib.Core.Option.{Option, none, some}
 use lib.Dec.{leb}
-use lib.IntN.{ℤ}
 use Rattle.meaning.specs.Text.{decimal, isPlain, largest, number}
-use Rattle.meaning.specs.Refusal.{Result, value, refusedBy, orRefused}
+use Rattle.meaning.specs.Refusal.{refusedBy, orRefused}
 use Rattle.text.specs.declared.Number.{Number}
 use Rattle.text.specs.declared.Number.the-variants.{Of, NoNumber}
-use Rattle.text.specs.declared.NumberAt.{NumberAt}
-use Rattle.text.specs.declared.NumberAt.the-variants.{Of as OfAt, NoNumber as NoNumberAt}
 use Rattle.text.specs.declared.Size.{Size}
 use Rattle.text.specs.declared.Size.the-variants.{Small, NoSize}
-use Rattle.text.specs.Place.{Found, fieldAt}
-
-unfoldable pub numberSeen : Number → Result ℤ
-numberSeen (Of z) = value z
-numberSeen NoNumber = refusedBy 3
+use Rattle.text.specs.Place.{Found, lineAt, fieldAt}
 
 -- the answer is the number of the field at a place, and the place where that field ends
-unfoldable pub NumberRead : List ℕ → ℕ → NumberAt → Type 0
-NumberRead line at (OfAt z place) = (number (fieldAt line at) ≡ some z) × Found 9 line at place
-NumberRead line at NoNumberAt = orRefused 3 (number (fieldAt line at)) ≡ refusedBy 3
+unfoldable pub NumberRead : List ℕ → ℕ → Number → Type 0
+NumberRead line at (Of z place) = (number (fieldAt line at) ≡ some z) × Found 9 line at place
+NumberRead line at NoNumber = orRefused 3 (number (fieldAt line at)) ≡ refusedBy 3
+
+-- the answer is the number of the line at a place, and the place where that line ends
+unfoldable pub WholeRead : List ℕ → ℕ → Number → Type 0
+WholeRead text at (Of z place) = (number (lineAt text at) ≡ some z) × Found 10 text at place
+WholeRead text at NoNumber = orRefused 3 (number (lineAt text at)) ≡ refusedBy 3
 
 -- the size of the number above 0 that these bytes spell: what the definition of a number asks of the bytes after its sign
 unfoldable pub plainSize : List ℕ → Option ℕ

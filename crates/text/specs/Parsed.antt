@@ -1,7 +1,7 @@
 -- How the line reader's answer and the numbers that it wrote are read as a value of the definitions, and what it leaves in the numbers
 -- that were lent to it. Bytes that spell no line are refusal 3.
 use mathlib.Core.Path.{_≡_}
-use Prim.Native.Nat.{ℕ, _≤_}
+use Prim.Native.Nat.{ℕ, _+_, _≤_}
 use mathlib.Core.List.{List, [], _∷_, _++_}
 use mathlib.Core.Option.{Option, none, some}
 use lib.IntN.{ℤ}
@@ -11,17 +11,23 @@ use Rattle.meaning.specs.Line.{words, wordAmong, lineOf}
 use Rattle.meaning.specs.Line.{Line as Meant}
 use Rattle.meaning.specs.Refusal.{Result, value, refusedBy, orRefused}
 use Rattle.text.specs.Word.{wordOf}
+use Rattle.text.specs.Place.{endOf}
 use Rattle.text.specs.declared.Parsed.{Parsed}
 use Rattle.text.specs.declared.Parsed.the-variants.{Line, NoLine}
 
 unfoldable pub parsedSeen : Parsed → List ℤ → Result Meant
-parsedSeen (Line w n) ns = value (record { word = wordOf w; numbers = take n ns })
+parsedSeen (Line w n next) ns = value (record { word = wordOf w; numbers = take n ns })
 parsedSeen NoLine ns = refusedBy 3
 
 -- how many numbers were written, by the answer
 unfoldable pub countSeen : Parsed → ℕ
-countSeen (Line w n) = n
+countSeen (Line w n next) = n
 countSeen NoLine = 0
+
+-- the place in the answer is where the line after the one at `at` starts
+unfoldable pub NextAfter : List ℕ → ℕ → Parsed → Type 0
+NextAfter text at (Line w n next) = next ≡ endOf text at + 1
+NextAfter text at NoLine = Unit {0}
 
 -- the most numbers that a line has: those of a sum with 16 pairs
 abbrev pub mostNumbers : ℕ

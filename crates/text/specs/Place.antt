@@ -18,6 +18,18 @@ pub record Found (separator : ℕ) (xs : List ℕ) (at place : ℕ) : Type 0 whe
   pub high : place ≤ length xs
   pub is : place ≡ at + indexOf separator (drop at xs)
 
+-- where the line ends that goes on at `at`: at the first byte 10 from there on
+abbrev pub endOf : List ℕ → ℕ → ℕ
+endOf text at = at + indexOf 10 (drop at text)
+
+-- the bytes of the text before that
+abbrev pub upTo : List ℕ → ℕ → List ℕ
+upTo text at = take (endOf text at) text
+
+-- the line that starts at `at`: the bytes up to the first byte 10, or to the end
+unfoldable pub lineAt : List ℕ → ℕ → List ℕ
+lineAt text at = let left = drop at text in take (indexOf 10 left) left
+
 -- the field that starts at `at`: the bytes up to the first tab, or to the end
 unfoldable pub fieldAt : List ℕ → ℕ → List ℕ
 fieldAt line at = let left = drop at line in take (indexOf 9 left) left

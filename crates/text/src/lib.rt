@@ -3,15 +3,16 @@
 // A reader answers with an enum. `specs/` says how each answer is read as a value of the definitions or as a refusal's number, and a
 // contract says that it is the definition's. Nothing is read past a slice's end and no sum overflows, however long the bytes are.
 ghost use mathlib.Core.Path.{_≡_};
-ghost use Prim.Native.Nat.{_≤_};
+ghost use mathlib.Core.Bool.{true, _||_};
+ghost use Prim.Native.Nat.{_≤_, _<_};
+ghost use lib.Dec.{eqb};
 ghost use lib.ListN.{length};
-ghost use Rattle.meaning.specs.Text.{sameBytes, isEnded, isDigit, number};
-ghost use Rattle.meaning.specs.Line.{words, wordAmong, isCount};
-ghost use Rattle.meaning.specs.Refusal.{orRefused};
-ghost use Rattle.text.specs.Number.{numberSeen, SizeRead, NumberRead};
-ghost use Rattle.text.specs.Word.{wordOf, wordSeen};
-ghost use Rattle.text.specs.Place.{Found};
-ghost use Rattle.text.specs.Parsed.{LineRead, mostNumbers};
+ghost use Rattle.meaning.specs.Text.{sameBytes, isEnded, isDigit};
+ghost use Rattle.meaning.specs.Line.{isCount, spelling};
+ghost use Rattle.text.specs.Number.{SizeRead, NumberRead, WholeRead};
+ghost use Rattle.text.specs.Word.{wordOf, WordRead, OnlyWord, Spells};
+ghost use Rattle.text.specs.Place.{Found, upTo, lineAt};
+ghost use Rattle.text.specs.Parsed.{LineRead, NextAfter, mostNumbers};
 
 // Bytes with a meaning of their own.
 const TAB: u8 = 9;
@@ -31,13 +32,8 @@ const MOST_NUMBERS: usize = 33;
 
 // ---- numbers
 
-pub enum Number {
-    Of(i64),
-    NoNumber,
-}
-
 // A number, and the place where its field ends.
-enum NumberAt {
+pub enum Number {
     Of(i64, usize),
     NoNumber,
 }
@@ -75,79 +71,90 @@ fn is_digit(byte: u8) -> bool
     byte <= NINE
 }
 
-// The size that the field at `at` spells: digits without a leading zero. It leaves at the first byte that makes the number too large,
-// so that it stays small however many digits follow. Only a byte that is no digit is held to the tab that ends the field: each byte is
-// read once, and the end costs a digit nothing.
-fn size_from(line: &[u8], at: usize) -> Size
-    requires { ⌜ at ≤ length (now line) ⌝ }
-    ensures { λ r. ⌜ SizeRead (now (line .entry)) at r ⌝ }
+// Whether a byte ends a field: a tab does, and the end of the line.
+fn is_end(byte: u8) -> bool
+    ensures { λ r. ⌜ r ≡ (eqb byte 9 || eqb byte 10) ⌝ }
 {
-    if line.len() <= at {
+    if byte == TAB {
+        return true;
+    }
+    byte == LINE_END
+}
+
+// The size that the field at `at` spells: digits without a leading zero. Each byte is read once. No byte is held to the text's end, as the
+// line's end, which is no digit, comes before it; and the size is held to the limit once: ten digits are room enough for every size that is
+// small, and an eleventh is refused.
+fn size_from(text: &[u8], at: usize) -> Size
+    requires { ⌜ (isEnded (now text) ≡ true) × (at < length (now text)) ⌝ }
+    ensures { λ r. ⌜ SizeRead (upTo (now (text .entry)) at) at r ⌝ }
+{
+    let first = text[at];
+    if first <= ZERO {
         return Size::NoSize;
     }
-    if line[at] <= ZERO {
+    if NINE < first {
         return Size::NoSize;
     }
-    let mut n: u64 = 0;
-    let mut i = at;
-    while i < line.len() {
-        let byte = line[i];
-        if !is_digit(byte) {
-            if byte == TAB {
-                return Size::Small(n, i);
-            }
+    let mut n = (first - ZERO) as u64;
+    let mut i = at + 1;
+    let mut byte = text[i];
+    while is_digit(byte) {
+        if 10 <= i - at {
             return Size::NoSize;
         }
         n = 10 * n + ((byte - ZERO) as u64);
-        if LARGEST < n {
-            return Size::NoSize;
-        }
         i += 1;
+        byte = text[i];
     }
-    Size::Small(n, i)
+    if LARGEST < n {
+        return Size::NoSize;
+    }
+    if is_end(byte) {
+        return Size::Small(n, i);
+    }
+    Size::NoSize
 }
 
 // The number that the field at `at` spells. A zero is one where its field ends just after it. Otherwise `from` is where the digits
 // start, and so tells the sign. One call reads them with either sign: with two this function is too large for the compiler to put it
 // into the loop of `line_of`, and each number pays for a call.
-fn number_at(line: &[u8], at: usize) -> NumberAt
-    requires { ⌜ at ≤ length (now line) ⌝ }
-    ensures { λ r. ⌜ NumberRead (now (line .entry)) at r ⌝ }
+fn number_at(text: &[u8], at: usize) -> Number
+    requires { ⌜ (isEnded (now text) ≡ true) × (at < length (now text)) ⌝ }
+    ensures { λ r. ⌜ NumberRead (upTo (now (text .entry)) at) at r ⌝ }
 {
-    if line.len() <= at {
-        return NumberAt::NoNumber;
-    }
-    let next = at + 1;
-    if line[at] == ZERO {
-        if field_end(line, next) == next {
-            return NumberAt::Of(0, next);
+    let first = text[at];
+    if first == ZERO {
+        let next = at + 1;
+        if is_end(text[next]) {
+            return Number::Of(0, next);
         }
-        return NumberAt::NoNumber;
+        return Number::NoNumber;
     }
     let mut from = at;
-    if line[at] == MINUS {
-        from = next;
+    if first == MINUS {
+        from = at + 1;
     }
-    let Size::Small(n, end) = size_from(line, from) else {
-        return NumberAt::NoNumber;
+    let Size::Small(n, end) = size_from(text, from) else {
+        return Number::NoNumber;
     };
     if from == at {
-        return NumberAt::Of(n as i64, end);
+        return Number::Of(n as i64, end);
     }
-    NumberAt::Of(-(n as i64), end)
+    Number::Of(-(n as i64), end)
 }
 
-// The number that all of these bytes spell. With a tab among them they are more than one field, and no number.
-pub fn number_of(field: &[u8]) -> Number
-    ensures { λ r. ⌜ numberSeen r ≡ orRefused 3 (number (now (field .entry))) ⌝ }
+// The number that the whole line at `at` spells, and the place where the line ends. With a tab it has more than one field, and is no number.
+pub fn number_of(text: &[u8], at: usize) -> Number
+    requires { ⌜ (isEnded (now text) ≡ true) × (at < length (now text)) ⌝ }
+    ensures { λ r. ⌜ WholeRead (now (text .entry)) at r ⌝ }
 {
-    let NumberAt::Of(n, end) = number_at(field, 0) else {
+    let Number::Of(n, end) = number_at(text, at) else {
         return Number::NoNumber;
     };
-    if end < field.len() {
+    if text[end] == TAB {
         return Number::NoNumber;
     }
-    Number::Of(n)
+    Number::Of(n, end)
 }
 
 // ---- words
@@ -163,40 +170,73 @@ pub enum Word {
     Root,
 }
 
+// A word, and the place where its field ends.
 enum Spelled {
-    Known(Word),
+    Known(Word, usize),
     NoWord,
 }
 
-// The word that a field spells.
-fn word_of(field: &[u8]) -> Spelled
-    ensures { λ r. ⌜ wordSeen r ≡ orRefused 3 (wordAmong words (now (field .entry))) ⌝ }
+// The only word that the field at `at` may be: the first byte tells it, or the first two.
+fn only_word(text: &[u8], at: usize) -> Word
+    requires { ⌜ (isEnded (now text) ≡ true) × (at < length (now text)) ⌝ }
+    ensures { λ r. ⌜ OnlyWord (upTo (now (text .entry)) at) at r ⌝ }
 {
-    if is_same(b"field", field) {
-        return Spelled::Known(Word::Field);
+    let first = text[at];
+    if first == b's' {
+        if text[at + 1] == b'u' {
+            return Word::Sum;
+        }
+        return Word::Span;
     }
-    if is_same(b"in", field) {
-        return Spelled::Known(Word::In);
+    if first == b'r' {
+        if text[at + 1] == b'e' {
+            return Word::Relu;
+        }
+        return Word::Root;
     }
-    if is_same(b"span", field) {
-        return Spelled::Known(Word::Span);
+    match first {
+        b'f' => Word::Field,
+        b'i' => Word::In,
+        b'w' => Word::Which,
+        _ => Word::Max,
     }
-    if is_same(b"sum", field) {
-        return Spelled::Known(Word::Sum);
+}
+
+// Whether the field at `at` is this word, of this spelling.
+fn is_word(text: &[u8], at: usize, word: Word, spelled: &[u8]) -> Spelled
+    requires { ⌜ (isEnded (now text) ≡ true) × (at < length (now text)) × (now spelled ≡ spelling (wordOf word)) ⌝ }
+    ensures { λ r. ⌜ Spells (upTo (now (text .entry)) at) at word r ⌝ }
+{
+    let mut i: usize = 0;
+    while i < spelled.len() {
+        if text[at + i] != spelled[i] {
+            return Spelled::NoWord;
+        }
+        i += 1;
     }
-    if is_same(b"relu", field) {
-        return Spelled::Known(Word::Relu);
-    }
-    if is_same(b"which", field) {
-        return Spelled::Known(Word::Which);
-    }
-    if is_same(b"max", field) {
-        return Spelled::Known(Word::Max);
-    }
-    if is_same(b"root", field) {
-        return Spelled::Known(Word::Root);
+    let end = at + i;
+    if is_end(text[end]) {
+        return Spelled::Known(word, end);
     }
     Spelled::NoWord
+}
+
+// The word that the field at `at` spells.
+fn word_at(text: &[u8], at: usize) -> Spelled
+    requires { ⌜ (isEnded (now text) ≡ true) × (at < length (now text)) ⌝ }
+    ensures { λ r. ⌜ WordRead (upTo (now (text .entry)) at) at r ⌝ }
+{
+    let only = only_word(text, at);
+    match only {
+        Word::Field => is_word(text, at, Word::Field, b"field"),
+        Word::In => is_word(text, at, Word::In, b"in"),
+        Word::Span => is_word(text, at, Word::Span, b"span"),
+        Word::Sum => is_word(text, at, Word::Sum, b"sum"),
+        Word::Relu => is_word(text, at, Word::Relu, b"relu"),
+        Word::Which => is_word(text, at, Word::Which, b"which"),
+        Word::Max => is_word(text, at, Word::Max, b"max"),
+        Word::Root => is_word(text, at, Word::Root, b"root"),
+    }
 }
 
 // Whether so many numbers may follow a word. A sum has a constant, and then pairs.
@@ -237,8 +277,7 @@ fn find(bytes: &[u8], byte: u8, at: usize) -> usize
     i
 }
 
-// The same, four bytes a turn. Lines are long, and each walk over a list looks for their ends: this takes about three fifths of the time.
-// Fields are looked for byte by byte: with this for them too, reading as a whole was slower.
+// The same, four bytes a turn: this takes about three fifths of the time.
 fn find_far(bytes: &[u8], byte: u8, at: usize) -> usize
     requires { ⌜ at ≤ length (now bytes) ⌝ }
     ensures { λ r. ⌜ Found byte (now (bytes .entry)) at r ⌝ }
@@ -262,14 +301,6 @@ fn find_far(bytes: &[u8], byte: u8, at: usize) -> usize
     find(bytes, byte, i)
 }
 
-// Where the field that starts at `at` ends.
-fn field_end(line: &[u8], at: usize) -> usize
-    requires { ⌜ at ≤ length (now line) ⌝ }
-    ensures { λ r. ⌜ Found 9 (now (line .entry)) at r ⌝ }
-{
-    find(line, TAB, at)
-}
-
 // Where the line that starts at `at` ends.
 pub fn line_end(text: &[u8], at: usize) -> usize
     requires { ⌜ at ≤ length (now text) ⌝ }
@@ -290,29 +321,29 @@ pub fn is_ended(text: &[u8]) -> bool
 
 // ---- lines
 
+// A line's word, how many numbers follow it, and where the next line starts.
 pub enum Parsed {
-    Line(Word, usize),
+    Line(Word, usize, usize),
     NoLine,
 }
 
-// The line that the bytes spell: its word, and how many numbers follow it, which are then the first in `numbers`. Where they spell none,
-// `numbers` begins with those that were read before that was seen.
-// `end` is where the last field that was read ends, so that a field follows just where a byte, its tab, is there.
-pub fn line_of(line: &[u8], numbers: &mut [i64]) -> Parsed
-    requires { ⌜ length (now numbers) ≡ mostNumbers ⌝ }
-    ensures { λ r. ⌜ LineRead (now (line .entry)) (now (numbers .entry)) (now (numbers .exit)) r ⌝ }
+// The line at `at`: its numbers are then the first in `numbers`. Where the bytes spell no line, `numbers` begins with those that were read
+// before that was seen. `end` is where the last field that was read ends: a tab, and then a field follows, or the line's end.
+pub fn line_of(text: &[u8], at: usize, numbers: &mut [i64]) -> Parsed
+    requires { ⌜ (isEnded (now text) ≡ true) × (at < length (now text)) × (length (now numbers) ≡ mostNumbers) ⌝ }
+    ensures read { λ r. ⌜ LineRead (lineAt (now (text .entry)) at) (now (numbers .entry)) (now (numbers .exit)) r ⌝ }
+    ensures next { λ r. ⌜ NextAfter (now (text .entry)) at r ⌝ }
 {
-    let mut end = field_end(line, 0);
-    let Spelled::Known(word) = word_of(&line[0..end]) else {
+    let Spelled::Known(word, first) = word_at(text, at) else {
         return Parsed::NoLine;
     };
+    let mut end = first;
     let mut count: usize = 0;
-    while end < line.len() {
+    while text[end] == TAB {
         if MOST_NUMBERS <= count {
             return Parsed::NoLine;
         }
-        let at = end + 1;
-        let NumberAt::Of(n, place) = number_at(line, at) else {
+        let Number::Of(n, place) = number_at(text, end + 1) else {
             return Parsed::NoLine;
         };
         end = place;
@@ -320,7 +351,7 @@ pub fn line_of(line: &[u8], numbers: &mut [i64]) -> Parsed
         count += 1;
     }
     if is_count(word, count) {
-        return Parsed::Line(word, count);
+        return Parsed::Line(word, count, end + 1);
     }
     Parsed::NoLine
 }

@@ -1,0 +1,105 @@
+-- Laws of a number at a place in a text, one for each way out of `number_at` and `number_of`: the bytes are the text's, the number that of
+-- the field.
+use mathlib.Core.Path.{_≡_, sym, _∙_}
+use mathlib.Core.List.{List}
+use mathlib.Core.Logic.{_⊎_}
+use Prim.Native.Nat.{ℕ, suc, _+_, _<_, _≤_}
+use native.Mathlib.Decide.{decLt}
+use native.Mathlib.Omega.{arith}
+use lib.IntN.{ℤ, pos, _-ℤ_}
+use lib.ListN.{length, getD, take}
+use mir.Syntax.{w64}
+use mir.Val.{toZ, ofZ}
+use Rattle.meaning.proofs.Results.{none-refused}
+use Rattle.text.specs.declared.Number.{Number}
+use Rattle.text.specs.declared.Number.the-variants.{Of, NoNumber}
+use Rattle.text.specs.declared.Size.{Size}
+use Rattle.text.specs.declared.Size.the-variants.{Small, NoSize}
+use Rattle.text.specs.Number.{SizeRead, NumberRead, WholeRead}
+use Rattle.text.specs.Place.{endOf, upTo, fieldAt, Found}
+use Rattle.text.proofs.Places.{field-more, found-byte}
+use Rattle.text.proofs.Ends.{InLine, place-inside, cut-length, cut-byte, before-end, end-here, place-next, place-later, same-line, field-ends, line-cut}
+use Rattle.text.proofs.Numbers.{zero-number, zero-none, minus-none, minus-number, plain-none, plain-number, number-ends, whole-none, whole-tab, whole-number}
+
+module _ {text : List ℕ} {at end : ℕ} (l : InLine text at end) where
+  -- a byte of the text that stands in the line is the same byte of the line
+  at-inside : (getD text at 0 ≡ 10 → ⊥) → at < length (take end text)
+  at-inside q = omega (arith, cut-length l, before-end l q)
+
+  at-byte : (getD text at 0 ≡ 10 → ⊥) → getD (take end text) at 0 ≡ getD text at 0
+  at-byte q = cut-byte l (before-end l q)
+
+  -- ---- a zero
+
+  module _ (zero-byte : getD text at 0 ≡ 48) where
+    no-end : getD text at 0 ≡ 10 → ⊥
+    no-end e = omega arith
+
+    pub reads-zero : (getD text (at + 1) 0 ≡ 9) ⊎ (getD text (at + 1) 0 ≡ 10) → NumberRead (take end text) at (Of (pos 0) (at + 1))
+    reads-zero stop = zero-number (take end text) at (at-inside no-end) (at-byte no-end ∙ zero-byte) (field-ends (place-next l no-end) stop)
+
+    pub reads-no-zero : (getD text (at + 1) 0 ≡ 9 → ⊥) → (getD text (at + 1) 0 ≡ 10 → ⊥) → NumberRead (take end text) at NoNumber
+    reads-no-zero no-tab no-stop =
+        let next = place-next l no-end in
+        let h = before-end next no-stop in
+        let more = field-more (take end text) (at + 1) (omega (arith, cut-length l, h)) (rw (cut-byte next h) no-tab) in
+        zero-none (take end text) at (at-inside no-end) (at-byte no-end ∙ zero-byte) (rw more (λ e. omega arith))
+
+  -- ---- a minus, and then a size
+
+  module _ (minus : getD text at 0 ≡ 45) where
+    no-stop : getD text at 0 ≡ 10 → ⊥
+    no-stop e = omega arith
+
+    same-end : endOf text (at + 1) ≡ end
+    same-end = same-line (place-next l no-stop)
+
+    module _ {r : Size} (read : SizeRead (upTo text (at + 1)) (at + 1) r) where
+      pub reads-minus-none : r ≡ NoSize → NumberRead (take end text) at NoNumber
+      reads-minus-none = minus-none (take end text) at (at-inside no-stop) (at-byte no-stop ∙ minus) (rw same-end at read)
+
+      pub reads-minus : {n place : ℕ} → r ≡ Small n place → NumberRead (take end text) at (Of (toZ w64 (ofZ w64 (pos 0 -ℤ toZ w64 n))) place)
+      reads-minus = minus-number (take end text) at (at-inside no-stop) (at-byte no-stop ∙ minus) (rw same-end at read)
+
+  -- ---- a size alone
+
+  other : (x : ℕ) → (getD text at 0 ≡ x → ⊥) → at < length (take end text) → getD (take end text) at 0 ≡ x → ⊥
+  other x q h e = q (sym (cut-byte l (omega (arith, cut-length l))) ∙ e)
+
+  module _ (no-zero : getD text at 0 ≡ 48 → ⊥) (no-minus : getD text at 0 ≡ 45 → ⊥) {r : Size} (read : SizeRead (take end text) at r) where
+    pub reads-plain-none : r ≡ NoSize → NumberRead (take end text) at NoNumber
+    reads-plain-none = plain-none (take end text) at (other 48 no-zero) (other 45 no-minus) read
+
+    pub reads-plain : {n place : ℕ} → r ≡ Small n place → NumberRead (take end text) at (Of (toZ w64 (ofZ w64 (pos n))) place)
+    reads-plain = plain-number (take end text) at (other 48 no-zero) (other 45 no-minus) read
+
+-- ---- the number of a whole line
+
+module _ {text : List ℕ} {at : ℕ} (l : InLine text at (endOf text at)) {r : Number} (read : NumberRead (upTo text at) at r) where
+  pub reads-no-line : r ≡ NoNumber → WholeRead text at NoNumber
+  unfolding WholeRead
+  reads-no-line q = none-refused 3 (rw (line-cut text at) (whole-none (upTo text at) at read q))
+
+  module _ {z : ℤ} {place : ℕ} (q : r ≡ Of z place) where
+    -- the place where the field ends is in the line
+    pub field-place : InLine text place (endOf text at)
+    field-place =
+        let found = number-ends (upTo text at) at read q in
+        place-later l (found .low) (omega (arith, cut-length l, found .high))
+
+    pub reads-fields : getD text place 0 ≡ 9 → WholeRead text at NoNumber
+    unfolding WholeRead
+    reads-fields tab =
+        let h = before-end field-place (λ e. omega arith) in
+        none-refused 3 (rw (line-cut text at) (whole-tab (upTo text at) at read q (omega (arith, cut-length l, h))))
+
+    pub reads-line : (getD text place 0 ≡ 9 → ⊥) → WholeRead text at (Of z place)
+    unfolding WholeRead
+    reads-line no-tab =
+        let found = number-ends (upTo text at) at read q in
+        let last : endOf text at ≤ place = elim (decLt place (endOf text at)) [
+          | yes h ↦ absurd (no-tab (sym (cut-byte field-place h) ∙ found-byte found (omega (arith, cut-length l))))
+          | no h ↦ omega arith
+        ] in
+        let e : place ≡ endOf text at = omega (arith, last, field-place .found .low) in
+        (rw (line-cut text at) (whole-number (upTo text at) at read q (omega (arith, cut-length l, last))), rw e (l .found))
