@@ -81,7 +81,7 @@ below-zero : (z : ℤ) → positivePart z ≡ 0 → negativePart z ≡ suc (mag 
 below-zero (pos n) h k = absurd (omega arith)
 below-zero (negsuc n) h k = refl
 
-module _ (line : List ℕ) {before after : List ℤ} {r : Parsed} (read : LineRead line before after r) {w : Word} {n : ℕ} (q : r ≡ Spelled w n)
+module _ (line : List ℕ) {before after : List ℤ} {r : Parsed} (read : LineRead line before after r) {w : Word} {n next : ℕ} (q : r ≡ Spelled w n next)
     (long : length before ≡ mostNumbers) where
   pub first-not-field : isField (wordOf w) ≡ false → stops 4 ≡ firstOption (lineOf line)
   first-not-field f = first-other line _ (line-seen read q) f

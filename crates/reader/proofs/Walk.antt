@@ -22,8 +22,9 @@ use Rattle.meaning.specs.Refusal.{valueLimit, cellLimit, Reading, onReading, ru
 use Rattle.meaning.specs.Kept.{Keeps, Sound}
 use Rattle.meaning.proofs.Kept.{keeps-all}
 use Rattle.meaning.proofs.Lines.{sound-after}
-use Rattle.text.specs.Place.{Found, linesFrom}
-use Rattle.text.proofs.Places.{lines-none, line-within, lines-next}
+use Rattle.text.specs.Place.{endOf, lineAt, linesFrom}
+use Rattle.text.proofs.Places.{lines-none}
+use Rattle.text.proofs.Ends.{in-line, lines-at}
 use Rattle.reader.specs.State.{greatest, endsFrom, stateOf, Ready}
 use Rattle.reader.specs.Step.{stepBytes, stepSeen, valuesIn, WithinLimits}
 use Rattle.reader.specs.Read.{only, counted, refusedAt, surveyOf}
@@ -131,16 +132,16 @@ module _ {list : List ℕ} {start p : ℕ} {numbers lows highs : List ℤ} {plac
   unfolding surveyOf readFrom onReading stateOf
   walk-end h = sym (w .survey-left ∙ rw (lines-none list at h) (ap (λ (v : ℕ). counted p v (c .inputs) (c .cells) (c .rows)) (known-count p c lows highs places (w .sized))))
 
-  module _ (ended : isEnded list ≡ true) {end : ℕ} (h : at < length list) (found : Found 10 list at end) where
+  module _ (ended : isEnded list ≡ true) (h : at < length list) where
     abbrev line : List ℕ
-    line = take (end - at) (drop at list)
+    line = lineAt list at
 
     abbrev rest : Known → Reading
-    rest z = readFrom rules (suc n) z (linesFrom list (end + 1))
+    rest z = readFrom rules (suc n) z (linesFrom list (endOf list at + 1))
 
     survey-here : surveyOf (readFrom rules 1 (only p) (linesFrom list start)) ≡ surveyOf (readLine rules n (state p c lows highs places (w .sized)) (lineOf line) rest)
     unfolding readFrom
-    survey-here = w .survey-left ∙ rw (lines-next list ended h found) refl
+    survey-here = w .survey-left ∙ rw (lines-at list at ended h) refl
 
     pub walk-stopped : (x : Stepped) (r : ℕ) (ls hs : List ℤ) (ps : List ℕ) → x ≡ Refused r
         → stepSeen p x ls hs ps ≡ stepBytes (stateOf p c lows highs places) line
@@ -192,14 +193,14 @@ module _ {list : List ℕ} {start p : ℕ} {numbers lows highs : List ℤ} {plac
             rows-most = omega (arith, cells-are, rows-are, f .1, w .sized .rows-most);
           }
 
-      pub walk-next : Walked list start p numbers′ ls hs ps next (end + 1) (n + 1)
+      pub walk-next : Walked list start p numbers′ ls hs ps next (endOf list at + 1) (n + 1)
       walk-next = record {
-        inside = omega (arith, line-within list ended h found);
+        inside = omega (arith, in-line list ended at h .inside);
         later = omega arith;
-        counted = omega (arith, w .counted, found .low);
+        counted = omega (arith, w .counted);
         numbers-long = numbers-long;
         sized = room;
         sound = rw (add-one n) (subst (λ (z : Known). Sound (suc n) z) (sym (gone .2)) (sound-after n s (gone .0) (w .sound) keeps));
         ordered = subst (λ (z : Known). Ordered (z .known)) (sym (gone .2)) (ordered-after n s (gone .0) keeps (w .ordered));
-        survey-left = survey-here ∙ gone .3 ∙ ap (λ (i : ℕ). surveyOf (readFrom rules i t (linesFrom list (end + 1)))) (sym (add-one n));
+        survey-left = survey-here ∙ gone .3 ∙ ap (λ (i : ℕ). surveyOf (readFrom rules i t (linesFrom list (endOf list at + 1)))) (sym (add-one n));
       }

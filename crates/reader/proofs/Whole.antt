@@ -15,14 +15,14 @@ use Rattle.meaning.specs.Refusal.{textLimit, Reading, onReading, rules, firstBr
 use Rattle.meaning.specs.Number.{OddPrime}
 use Rattle.meaning.proofs.Kept.{keeps-all}
 use Rattle.meaning.proofs.Lines.{sound-after, sound-fresh}
-use Rattle.text.specs.Place.{Found, linesFrom}
-use Rattle.text.proofs.Places.{line-within, lines-next}
+use Rattle.text.specs.Place.{endOf, lineAt, linesFrom}
+use Rattle.text.proofs.Ends.{in-line, lines-at}
 use Rattle.reader.specs.Read.{only, firstOption, firstSeen, refusedAt, surveyOf}
 use Rattle.reader.specs.declared.reading.First.{First}
 use Rattle.reader.specs.declared.reading.First.the-variants.{Prime, NotFirst}
 use Rattle.reader.proofs.Stopping.{step-first, stopped-at, gone-at}
 
-ended-some : (text : List ℕ) → isEnded text ≡ true → 0 < length text
+pub ended-some : (text : List ℕ) → isEnded text ≡ true → 0 < length text
 unfolding isEnded
 ended-some [] e = let z : _≡_ {A = ℕ} 0 1 = cc in omega arith
 ended-some (x ∷ xs) e = omega arith
@@ -37,19 +37,19 @@ module _ (text : List ℕ) where
     unfolding surveyOf reading readingBy onReading
     survey-not-ended e = rw (le-leb (length text) textLimit short, e) refl
 
-    module _ (ended : isEnded text ≡ true) {end : ℕ} (found : Found 10 text 0 end) where
+    module _ (ended : isEnded text ≡ true) where
       abbrev line : List ℕ
-      line = take (end - 0) (drop 0 text)
+      line = lineAt text 0
 
-      pub first-within : end < length text
-      first-within = line-within text ended (ended-some text ended) found
+      pub first-within : endOf text 0 < length text
+      first-within = in-line text ended 0 (ended-some text ended) .inside
 
       abbrev rest : Known → Reading
-      rest z = readFrom rules 1 z (linesFrom text (end + 1))
+      rest z = readFrom rules 1 z (linesFrom text (endOf text 0 + 1))
 
       survey-here : surveyOf (reading text) ≡ surveyOf (readLine rules 0 fresh (lineOf line) rest)
       unfolding reading readingBy readFrom
-      survey-here = rw (le-leb (length text) textLimit short, ended, lines-next text ended (ended-some text ended) found) refl
+      survey-here = rw (le-leb (length text) textLimit short, ended, lines-at text 0 ended (ended-some text ended)) refl
 
       module _ (x : First) (told : firstSeen x ≡ firstOption (lineOf line)) where
         pub first-stopped : (n : ℕ) → x ≡ NotFirst n → refusedAt n 0 ≡ surveyOf (reading text)
@@ -57,7 +57,7 @@ module _ (text : List ℕ) where
         first-stopped n is =
             sym (survey-here ∙ stopped-at 0 fresh rest (lineOf line) n (ap firstSeen (sym is) ∙ told ∙ step-first (lineOf line)))
 
-        module _ (p : ℕ) (is : x ≡ Prime p) where
+        module _ (p : ℕ) {next : ℕ} (is : x ≡ Prime p next) where
           gone : (l : Line) × (firstBroken rules 0 fresh l ≡ none) × (only p ≡ after fresh l) × (surveyOf (readLine rules 0 fresh (lineOf line) rest) ≡ surveyOf (rest (only p)))
           unfolding firstSeen
           gone = gone-at 0 fresh rest (lineOf line) (only p) (ap firstSeen (sym is) ∙ told ∙ step-first (lineOf line))
@@ -69,5 +69,5 @@ module _ (text : List ℕ) where
               let sound = sound-after 0 fresh l sound-fresh (keeps-all 0 fresh l (gone .1)) in
               subst OddPrime (sym (ap (λ (z : Known). z .p) (gone .2))) (sound .prime (omega arith))
 
-          pub survey-after : surveyOf (readFrom rules 1 (only p) (linesFrom text (end + 1))) ≡ surveyOf (reading text)
+          pub survey-after : surveyOf (readFrom rules 1 (only p) (linesFrom text (endOf text 0 + 1))) ≡ surveyOf (reading text)
           survey-after = sym (survey-here ∙ gone .3)

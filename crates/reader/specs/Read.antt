@@ -1,5 +1,5 @@
 -- Reading a whole list: line 0, what is left of a list at a place, and how the code's answers are read as the definitions'.
-use Prim.Native.Nat.{_≤_, ℕ}
+use Prim.Native.Nat.{ℕ, _+_, _≤_}
 use mathlib.Core.Path.{_≡_}
 use mathlib.Core.Logic.{_↔_}
 use mathlib.Core.List.{List, []}
@@ -13,6 +13,7 @@ use Rattle.meaning.specs.Claims.{Fits, Before}
 use Rattle.meaning.specs.Reply.{reply, counts, refusal}
 use Rattle.meaning.specs.Reply.{Answer as Meant}
 use Rattle.meaning.specs.Number.{OddPrime}
+use Rattle.text.specs.Place.{endOf}
 use Rattle.reader.specs.State.{greatest}
 use Rattle.reader.specs.Step.{Step, stops, goes}
 use Rattle.reader.specs.declared.reading.First.{First}
@@ -32,12 +33,17 @@ unfoldable pub only : ℕ → Known
 only p = record { p = p; known = []; places = []; inputs = 0; cells = 0; rows = 0 }
 
 unfoldable pub firstSeen : First → Step
-firstSeen (Prime p) = goes (only p)
+firstSeen (Prime p next) = goes (only p)
 firstSeen (NotFirst n) = stops n
 
 unfoldable pub primeIn : First → ℕ
-primeIn (Prime p) = p
+primeIn (Prime p next) = p
 primeIn (NotFirst n) = 0
+
+-- the place in the answer is where line 1 starts
+unfoldable pub SecondLine : List ℕ → First → Type 0
+SecondLine list (Prime p next) = next ≡ endOf list 0 + 1
+SecondLine list (NotFirst n) = Unit {0}
 
 -- what a list has, in counts, or its refusal
 pub data Survey : Type 0 where

@@ -1,31 +1,30 @@
 // Reading a list: the text as a whole, line 0, then line after line until one is refused.
 use super::state::Counts;
 use super::state::Stepped;
-use super::step::step_line;
+use super::step::step;
 use number::prime::is_odd_prime;
 use text::Parsed;
 use text::Word;
 use text::is_ended;
-use text::line_end;
 use text::line_of;
 ghost use mathlib.Core.Path.{_≡_};
-ghost use Prim.Native.Nat.{_≤_};
+ghost use Prim.Native.Nat.{_≤_, _<_};
 ghost use lib.ListN.{length};
 ghost use Rattle.meaning.specs.Line.{lineOf};
 ghost use mathlib.Core.Bool.{true};
 ghost use Rattle.meaning.specs.Text.{isEnded};
 ghost use Rattle.meaning.specs.Refusal.{isField, rules, readFrom, reading};
 ghost use Rattle.meaning.specs.Number.{OddPrime};
-ghost use Rattle.text.specs.Place.{linesFrom};
+ghost use Rattle.text.specs.Place.{lineAt, linesFrom};
 ghost use Rattle.meaning.specs.Reply.{readReply};
 ghost use Rattle.text.specs.Word.{wordOf};
 ghost use Rattle.reader.specs.State.{greatest};
-ghost use Rattle.reader.specs.Read.{only, surveyOf, surveySeen, PrimeFound, primeIn, firstOption, firstSeen, answerSeen, Exact};
+ghost use Rattle.reader.specs.Read.{only, surveyOf, surveySeen, PrimeFound, primeIn, firstOption, firstSeen, SecondLine, answerSeen, Exact};
 ghost use Rattle.text.specs.Parsed.{mostNumbers};
 
-// p of line 0, or the number of its refusal.
+// p of line 0 and where line 1 starts, or the number of its refusal.
 enum First {
-    Prime(u32),
+    Prime(u32, usize),
     NotFirst(u32),
 }
 
@@ -56,13 +55,14 @@ fn is_field(word: Word) -> bool
     }
 }
 
-fn first_line(line: &[u8], numbers: &mut [i64]) -> First
-    requires { ⌜ length (now numbers) ≡ mostNumbers ⌝ }
-    ensures told { λ r. ⌜ firstSeen r ≡ firstOption (lineOf (now (line .entry))) ⌝ }
+fn first_line(list: &[u8], numbers: &mut [i64]) -> First
+    requires { ⌜ (isEnded (now list) ≡ true) × (0 < length (now list)) × (length (now numbers) ≡ mostNumbers) ⌝ }
+    ensures told { λ r. ⌜ firstSeen r ≡ firstOption (lineOf (lineAt (now (list .entry)) 0)) ⌝ }
     ensures small { λ r. ⌜ primeIn r ≤ greatest ⌝ }
+    ensures next { λ r. ⌜ SecondLine (now (list .entry)) r ⌝ }
     ensures long { λ r. ⌜ length (now (numbers .exit)) ≡ length (now (numbers .entry)) ⌝ }
 {
-    let Parsed::Line(word, _) = line_of(line, numbers) else {
+    let Parsed::Line(word, _, next) = line_of(list, 0, numbers) else {
         return First::NotFirst(3);
     };
     if !is_field(word) {
@@ -76,7 +76,7 @@ fn first_line(line: &[u8], numbers: &mut [i64]) -> First
     if !is_odd_prime(p) {
         return First::NotFirst(5);
     }
-    First::Prime(p)
+    First::Prime(p, next)
 }
 
 // The public call: for every byte string the reply of document 01, and so the first refusal that fits the text, or none.
@@ -103,11 +103,10 @@ pub fn survey(list: &[u8]) -> Surveyed
         return Surveyed::NotRead(2, 0);
     }
     let mut numbers: [i64; 33] = [0; 33];
-    let end = line_end(list, 0);
-    let first = first_line(&list[0..end], &mut numbers);
+    let first = first_line(list, &mut numbers);
     match first {
         First::NotFirst(n) => Surveyed::NotRead(n, 0),
-        First::Prime(p) => survey_from(list, end + 1, p),
+        First::Prime(p, next) => survey_from(list, next, p),
     }
 }
 
@@ -130,10 +129,13 @@ fn survey_from(list: &[u8], start: usize, p: u32) -> Surveyed
     let mut at = start;
     let mut n: usize = 1;
     while at < list.len() {
-        let end = line_end(list, at);
-        let stepped = step_line(
-            &list[at..end],
-            &mut numbers,
+        let Parsed::Line(word, count, next) = line_of(list, at, &mut numbers) else {
+            return Surveyed::NotRead(3, n);
+        };
+        let stepped = step(
+            word,
+            &numbers,
+            count,
             p,
             counts,
             &mut lows,
@@ -144,11 +146,11 @@ fn survey_from(list: &[u8], start: usize, p: u32) -> Surveyed
             Stepped::Refused(number) => {
                 return Surveyed::NotRead(number, n);
             }
-            Stepped::Next(next) => {
-                counts = next;
+            Stepped::Next(after) => {
+                counts = after;
             }
         }
-        at = end + 1;
+        at = next;
         n += 1;
     }
     Surveyed::Counted(p, counts)

@@ -1,5 +1,5 @@
-// One line after line 0 in reading: its word and numbers out of the bytes, the rules of its kind, and what is known after it. The walks over
-// a list that was read test no rule again, and do not come here.
+// One line after line 0 in reading: the rules of its kind, and what is known after it. The walks over a list that was read test no rule
+// again, and do not come here.
 use super::input::read_input;
 use super::max::read_max;
 use super::relu::read_relu;
@@ -14,9 +14,7 @@ use super::state::grow;
 use super::state::narrow;
 use super::sum::read_sum;
 use super::which::read_which;
-use text::Parsed;
 use text::Word;
-use text::line_of;
 ghost use mathlib.Core.Path.{_≡_};
 ghost use mathlib.Core.Bool.{true};
 ghost use Prim.Native.Nat.{_≤_};
@@ -26,7 +24,7 @@ ghost use Rattle.meaning.specs.Known.{Known};
 ghost use Rattle.text.specs.Word.{wordOf};
 ghost use Rattle.reader.specs.State.{Small, Ready, Seen, stateOf};
 ghost use Rattle.reader.specs.Told.{lineTold, madeSeen, lineWith};
-ghost use Rattle.reader.specs.Step.{WithinLimits, Left, valuesIn, stepSeen, stepOf, stepBytes};
+ghost use Rattle.reader.specs.Step.{WithinLimits, Left, valuesIn, stepSeen, stepOf};
 ghost use Rattle.text.specs.Parsed.{mostNumbers};
 ghost use Rattle.meaning.specs.Refusal.{valueLimit};
 
@@ -92,27 +90,4 @@ pub fn step(
     };
     let at = natural(numbers[0]);
     narrow(made, at, size, counts, lows, highs, places)
-}
-
-// A line out of its bytes, and then as above.
-pub fn step_line(
-    line: &[u8],
-    numbers: &mut [i64],
-    p: u32,
-    counts: Counts,
-    lows: &mut [i64],
-    highs: &mut [i64],
-    places: &mut [usize],
-) -> Stepped
-    requires { ⌜ Ready p (counts .values) (counts .cells) (now lows) (now highs) × WithinLimits counts (length (now lows)) (length (now highs)) (length (now places))
-        × (length (now numbers) ≡ mostNumbers) ⌝ }
-    ensures told { λ r. ⌜ ((s : Known) → s ≡ stateOf p counts (now (lows .entry)) (now (highs .entry)) (now (places .entry))
-        → stepSeen p r (now (lows .exit)) (now (highs .exit)) (now (places .exit)) ≡ stepBytes s (now (line .entry))) ⌝ }
-    ensures held { λ r. ⌜ (valuesIn r ≤ valueLimit) × (length (now (numbers .exit)) ≡ mostNumbers) × Left r (now (lows .entry)) (now (lows .exit))
-        × Left r (now (highs .entry)) (now (highs .exit)) × Left r (now (places .entry)) (now (places .exit)) ⌝ }
-{
-    let Parsed::Line(word, count) = line_of(line, numbers) else {
-        return Stepped::Refused(3);
-    };
-    step(word, numbers, count, p, counts, lows, highs, places)
 }

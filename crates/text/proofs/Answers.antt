@@ -3,7 +3,7 @@ use mathlib.Core.Path.{_≡_, refl, sym, _∙_}
 use mathlib.Core.Bool.{Bool, true, false, cond}
 use mathlib.Core.List.{List, [], _∷_}
 use mathlib.Core.Option.{Option, none, some}
-use Prim.Native.Nat.{ℕ, zero, suc, _≤_, _<_}
+use Prim.Native.Nat.{ℕ, zero, suc, _+_, _≤_, _<_}
 use native.Mathlib.Omega.{arith}
 use lib.IntN.{ℤ, pos, natAbs}
 use lib.ListN.{length, getD, take}
@@ -16,7 +16,8 @@ use Rattle.text.specs.declared.Word.{Word}
 use Rattle.text.specs.declared.Parsed.{Parsed}
 use Rattle.text.specs.declared.Parsed.the-variants.{Line, NoLine}
 use Rattle.text.specs.Word.{wordOf}
-use Rattle.text.specs.Parsed.{parsedSeen, countSeen, LineRead, mostNumbers}
+use Rattle.text.specs.Parsed.{parsedSeen, countSeen, LineRead, NextAfter, mostNumbers}
+use Rattle.text.specs.Place.{endOf}
 use Rattle.text.proofs.Bytes.{none-some}
 use Rattle.text.proofs.Numbers.{number-small}
 
@@ -82,3 +83,7 @@ module _ {line : List ℕ} {before after : List ℤ} {r : Parsed} (read : LineRe
 
     pub line-small : (i : ℕ) → i < n → natAbs (getD after i (pos 0)) ≤ largest
     line-small i h = rw (getD-take n after i (pos 0) h) at (good-line line line-seen .small i)
+
+pub line-next : (text : List ℕ) (at : ℕ) {r : Parsed} → NextAfter text at r → {w : Word} {n next : ℕ} → r ≡ Line w n next → next ≡ endOf text at + 1
+unfolding NextAfter
+line-next text at after q = rw q at after

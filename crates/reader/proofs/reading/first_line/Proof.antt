@@ -7,8 +7,9 @@ use native.Mathlib.Omega.{arith}
 use denote.Ref.{now}
 use borrow.Author.Tests.{not-true, not-false}
 use Rattle.number.proofs.Word.{back}
-use Rattle.text.proofs.Answers.{no-line-seen}
-use Rattle.reader.specs.Read.{only, firstSeen, primeIn}
+use Rattle.text.specs.Place.{lineAt}
+use Rattle.text.proofs.Answers.{no-line-seen, line-next}
+use Rattle.reader.specs.Read.{only, firstSeen, primeIn, SecondLine}
 use Rattle.reader.proofs.Firsts.{first-none, first-not-field, first-fits, first-negative, first-is, first-number, first-size, first-composite, first-odd-prime}
 use borrow.Author.Needs.{needs}
 use Rattle.reader.proofs.reading.first_line.Statement.{statement}
@@ -27,10 +28,10 @@ same-length : tie.Need-same-length
 same-length c = search needs
 
 returns : tie.Need-returns
-unfolding firstSeen primeIn
+unfolding firstSeen primeIn SecondLine
 returns c = (
-  first-none (now (c .before .before .before .before .before .before .args .line)) (no-line-seen (c .before .before .before .line-of .ensures) (c .enum-told .given .1)),
-  (omega arith, c .before .before .before .line-of .ensures .kept),
+  first-none (lineAt (now (c .before .before .before .before .before .before .args .list)) 0) (no-line-seen (c .before .before .before .line-of .ensures .0) (c .enum-told .given .1)),
+  (omega arith, (tt, c .before .before .before .line-of .ensures .0 .kept)),
 )
 
 is-field-requires : tie.Need-is-field-requires
@@ -40,10 +41,10 @@ same-length-2 : tie.Need-same-length-2
 same-length-2 c = search needs
 
 returns-2 : tie.Need-returns-2
-unfolding firstSeen primeIn
+unfolding firstSeen primeIn SecondLine
 returns-2 c = (
-  first-not-field (now (c .before .before .before .before .before .before .before .before .before .args .line)) (c .before .before .before .before .before .before .line-of .ensures) (c .before .before .before .word .given .1) (c .before .before .before .before .before .before .before .before .before .pre) (sym (c .before .is-field .ensures) ∙ not-true _ (c .if1 .taken)),
-  (omega arith, c .before .before .before .before .before .before .line-of .ensures .kept),
+  first-not-field (lineAt (now (c .before .before .before .before .before .before .before .before .before .args .list)) 0) (c .before .before .before .before .before .before .line-of .ensures .0) (c .before .before .before .word .given .1) (c .before .before .before .before .before .before .before .before .before .pre .2) (sym (c .before .is-field .ensures) ∙ not-true _ (c .if1 .taken)),
+  (omega arith, (tt, c .before .before .before .before .before .before .line-of .ensures .0 .kept)),
 )
 
 slice-copy-out-n : tie.Need-slice-copy-out-n
@@ -53,16 +54,16 @@ same-length-3 : tie.Need-same-length-3
 same-length-3 c = search needs
 
 returns-3 : tie.Need-returns-3
-unfolding firstSeen primeIn
+unfolding firstSeen primeIn SecondLine
 returns-3 c = (
-  first-negative (now (c .before .before .before .before .before .before .before .before .before .before .before .args .line)) (c .before .before .before .before .before .before .before .before .line-of .ensures) (c .before .before .before .before .before .word .given .1) (c .before .before .before .before .before .before .before .before .before .before .before .pre) (sym (c .before .before .before .is-field .ensures) ∙ not-false _ (c .before .before .if1 .left)) (c .if2 .taken),
-  (omega arith, c .before .before .before .before .before .before .before .before .line-of .ensures .kept),
+  first-negative (lineAt (now (c .before .before .before .before .before .before .before .before .before .before .before .args .list)) 0) (c .before .before .before .before .before .before .before .before .line-of .ensures .0) (c .before .before .before .before .before .word .given .1) (c .before .before .before .before .before .before .before .before .before .before .before .pre .2) (sym (c .before .before .before .is-field .ensures) ∙ not-false _ (c .before .before .if1 .left)) (c .if2 .taken),
+  (omega arith, (tt, c .before .before .before .before .before .before .before .before .line-of .ensures .0 .kept)),
 )
 
 cast-p : tie.Need-cast-p
 cast-p c =
     let f = (sym (c .before .before .before .is-field .ensures) ∙ not-false _ (c .before .before .if1 .left)) in
-    rw (back (first-fits (now (c .before .before .before .before .before .before .before .before .before .before .before .args .line)) (c .before .before .before .before .before .before .before .before .line-of .ensures) (c .before .before .before .before .before .word .given .1) (c .before .before .before .before .before .before .before .before .before .before .before .pre) f), first-is (now (c .before .before .before .before .before .before .before .before .before .before .before .args .line)) (c .before .before .before .before .before .before .before .before .line-of .ensures) (c .before .before .before .before .before .word .given .1) (c .before .before .before .before .before .before .before .before .before .before .before .pre) f (c .if2 .left)) (tt, record { fits = omega (arith, first-size (now (c .before .before .before .before .before .before .before .before .before .before .before .args .line)) (c .before .before .before .before .before .before .before .before .line-of .ensures) (c .before .before .before .before .before .word .given .1) (c .before .before .before .before .before .before .before .before .before .before .before .pre) f (c .if2 .left)) })
+    rw (back (first-fits (lineAt (now (c .before .before .before .before .before .before .before .before .before .before .before .args .list)) 0) (c .before .before .before .before .before .before .before .before .line-of .ensures .0) (c .before .before .before .before .before .word .given .1) (c .before .before .before .before .before .before .before .before .before .before .before .pre .2) f), first-is (lineAt (now (c .before .before .before .before .before .before .before .before .before .before .before .args .list)) 0) (c .before .before .before .before .before .before .before .before .line-of .ensures .0) (c .before .before .before .before .before .word .given .1) (c .before .before .before .before .before .before .before .before .before .before .before .pre .2) f (c .if2 .left)) (tt, record { fits = omega (arith, first-size (lineAt (now (c .before .before .before .before .before .before .before .before .before .before .before .args .list)) 0) (c .before .before .before .before .before .before .before .before .line-of .ensures .0) (c .before .before .before .before .before .word .given .1) (c .before .before .before .before .before .before .before .before .before .before .before .pre .2) f (c .if2 .left)) })
 
 is-odd-prime-requires : tie.Need-is-odd-prime-requires
 is-odd-prime-requires c κs = search needs
@@ -71,26 +72,26 @@ same-length-4 : tie.Need-same-length-4
 same-length-4 c = search needs
 
 returns-4 : tie.Need-returns-4
-unfolding firstSeen primeIn
+unfolding firstSeen primeIn SecondLine
 returns-4 c =
     let f = (sym (c .before .before .before .before .before .is-field .ensures) ∙ not-false _ (c .before .before .before .before .if1 .left)) in
-    let number = first-number (now (c .before .before .before .before .before .before .before .before .before .before .before .before .before .args .line)) (c .before .before .before .before .before .before .before .before .before .before .line-of .ensures) (c .before .before .before .before .before .before .before .word .given .1) (c .before .before .before .before .before .before .before .before .before .before .before .before .before .pre) f (c .before .before .if2 .left) in (
-      first-composite (now (c .before .before .before .before .before .before .before .before .before .before .before .before .before .args .line)) (c .before .before .before .before .before .before .before .before .before .before .line-of .ensures) (c .before .before .before .before .before .before .before .word .given .1) (c .before .before .before .before .before .before .before .before .before .before .before .before .before .pre) f (c .before .before .if2 .left)
+    let number = first-number (lineAt (now (c .before .before .before .before .before .before .before .before .before .before .before .before .before .args .list)) 0) (c .before .before .before .before .before .before .before .before .before .before .line-of .ensures .0) (c .before .before .before .before .before .before .before .word .given .1) (c .before .before .before .before .before .before .before .before .before .before .before .before .before .pre .2) f (c .before .before .if2 .left) in (
+      first-composite (lineAt (now (c .before .before .before .before .before .before .before .before .before .before .before .before .before .args .list)) 0) (c .before .before .before .before .before .before .before .before .before .before .line-of .ensures .0) (c .before .before .before .before .before .before .before .word .given .1) (c .before .before .before .before .before .before .before .before .before .before .before .before .before .pre .2) f (c .before .before .if2 .left)
           (ap oddPrime (sym number) ∙ sym (c .before .is-odd-prime .ensures) ∙ not-true _ (c .if3 .taken)),
-      (omega arith, c .before .before .before .before .before .before .before .before .before .before .line-of .ensures .kept),
+      (omega arith, (tt, c .before .before .before .before .before .before .before .before .before .before .line-of .ensures .0 .kept)),
     )
 
 same-length-5 : tie.Need-same-length-5
 same-length-5 c = search needs
 
 returns-5 : tie.Need-returns-5
-unfolding firstSeen primeIn
+unfolding firstSeen primeIn SecondLine
 returns-5 c =
     let f = (sym (c .before .before .before .before .before .is-field .ensures) ∙ not-false _ (c .before .before .before .before .if1 .left)) in
-    let number = first-number (now (c .before .before .before .before .before .before .before .before .before .before .before .before .before .args .line)) (c .before .before .before .before .before .before .before .before .before .before .line-of .ensures) (c .before .before .before .before .before .before .before .word .given .1) (c .before .before .before .before .before .before .before .before .before .before .before .before .before .pre) f (c .before .before .if2 .left) in (
-      ap (λ (m : ℕ). goes (only m)) number ∙ first-odd-prime (now (c .before .before .before .before .before .before .before .before .before .before .before .before .before .args .line)) (c .before .before .before .before .before .before .before .before .before .before .line-of .ensures) (c .before .before .before .before .before .before .before .word .given .1) (c .before .before .before .before .before .before .before .before .before .before .before .before .before .pre) f (c .before .before .if2 .left)
+    let number = first-number (lineAt (now (c .before .before .before .before .before .before .before .before .before .before .before .before .before .args .list)) 0) (c .before .before .before .before .before .before .before .before .before .before .line-of .ensures .0) (c .before .before .before .before .before .before .before .word .given .1) (c .before .before .before .before .before .before .before .before .before .before .before .before .before .pre .2) f (c .before .before .if2 .left) in (
+      ap (λ (m : ℕ). goes (only m)) number ∙ first-odd-prime (lineAt (now (c .before .before .before .before .before .before .before .before .before .before .before .before .before .args .list)) 0) (c .before .before .before .before .before .before .before .before .before .before .line-of .ensures .0) (c .before .before .before .before .before .before .before .word .given .1) (c .before .before .before .before .before .before .before .before .before .before .before .before .before .pre .2) f (c .before .before .if2 .left)
           (ap oddPrime (sym number) ∙ sym (c .before .is-odd-prime .ensures) ∙ not-false _ (c .if3 .left)),
-      (rw number (first-size (now (c .before .before .before .before .before .before .before .before .before .before .before .before .before .args .line)) (c .before .before .before .before .before .before .before .before .before .before .line-of .ensures) (c .before .before .before .before .before .before .before .word .given .1) (c .before .before .before .before .before .before .before .before .before .before .before .before .before .pre) f (c .before .before .if2 .left)), c .before .before .before .before .before .before .before .before .before .before .line-of .ensures .kept),
+      (rw number (first-size (lineAt (now (c .before .before .before .before .before .before .before .before .before .before .before .before .before .args .list)) 0) (c .before .before .before .before .before .before .before .before .before .before .line-of .ensures .0) (c .before .before .before .before .before .before .before .word .given .1) (c .before .before .before .before .before .before .before .before .before .before .before .before .before .pre .2) f (c .before .before .if2 .left)), (line-next (now (c .before .before .before .before .before .before .before .before .before .before .before .before .before .args .list)) 0 (c .before .before .before .before .before .before .before .before .before .before .line-of .ensures .1) (c .before .before .before .before .before .before .before .word .given .1), c .before .before .before .before .before .before .before .before .before .before .line-of .ensures .0 .kept)),
     )
 
 pub first-line-spec : {M : Type 1} → statement M

@@ -1,10 +1,19 @@
--- `reader::reading::survey_from`: the walk over the lines, with what holds before each of them as the invariant.
-use mathlib.Core.Path.{refl}
-use Prim.Native.Nat.{_-_}
+-- `reader::reading::survey_from`: the walk over the lines, with what holds before each of them as the invariant. Bytes that spell no line are
+-- refused 3, and a line that they spell is stepped over.
+use mathlib.Core.Path.{_≡_, refl, _∙_}
+use native.Mathlib.Omega.{arith}
+use Prim.Native.Nat.{_+_, _-_}
 use lib.ListN.{length}
 use denote.Ref.{now}
 use borrow.Author.Needs.{needs}
+use Rattle.text.specs.Place.{endOf, lineAt}
+use Rattle.text.proofs.Answers.{no-line-seen, line-seen, line-most, line-counted, line-small, line-next}
+use Rattle.text.proofs.Ends.{in-line}
 use Rattle.reader.specs.Read.{surveySeen, PrimeFound}
+use Rattle.reader.specs.Step.{stepSeen, stepBytes}
+use Rattle.reader.specs.State.{stateOf}
+use Rattle.reader.specs.declared.state.Stepped.the-variants.{Refused}
+use Rattle.reader.proofs.Steps.{no-line-step, line-step}
 use Rattle.reader.proofs.Walk.{Walked, walk-ready, walk-start, walk-end, walk-stopped, walk-next}
 use Rattle.reader.proofs.reading.survey_from.Statement.{statement}
 use Rattle.reader.proofs.reading.survey_from.Tie as tie
@@ -22,73 +31,117 @@ loop-holds c =
     let S = c .before in
     walk-start (now (S .args .list)) (S .args .start) (S .args .p) _ _ _ _ (S .pre .1) (S .pre .2) (S .pre .3) refl refl refl refl
 
-line-end-requires : tie.Need-line-end-requires Inv-loop μ-loop
-line-end-requires c κs = search needs
+slice-aggregate-line-of : tie.Need-slice-aggregate-line-of Inv-loop μ-loop
+slice-aggregate-line-of c = search needs
 
-sub-step-line : tie.Need-sub-step-line Inv-loop μ-loop
-sub-step-line c = search needs
+line-of-requires : tie.Need-line-of-requires Inv-loop μ-loop
+line-of-requires c κs =
+    let at-test = c .before in
+    (at-test .before .before .before .pre .0, at-test .loop-test .taken, at-test .before .loop .inv .numbers-long)
 
-part-step-line-start : tie.Need-part-step-line-start Inv-loop μ-loop
-part-step-line-start c = search needs
+enum-known-word : tie.Need-enum-known-word Inv-loop μ-loop
+enum-known-word c = search needs
 
-part-step-line-end : tie.Need-part-step-line-end Inv-loop μ-loop
-part-step-line-end c = search needs
+enum-told : tie.Need-enum-told Inv-loop μ-loop
+enum-told c = search needs
 
-slice-aggregate-step-line : tie.Need-slice-aggregate-step-line Inv-loop μ-loop
-slice-aggregate-step-line c = search needs
+returns : tie.Need-returns Inv-loop μ-loop
+unfolding surveySeen PrimeFound stepSeen
+returns c =
+    let at-line = c .before .before .before in
+    let at-test = at-line .before .before in
+    let now-at = at-test .before .loop in
+    let S = at-test .before .before .before in
+    let s = stateOf (S .args .p) (now-at .counts) (now-at .lows) (now-at .highs) (now-at .places) in (
+      walk-stopped (now-at .inv) (S .pre .0) (at-test .loop-test .taken) (Refused 3) 3 (now-at .lows) (now-at .highs) (now-at .places) refl
+          (no-line-step s (lineAt (now (S .args .list)) (now-at .at)) (no-line-seen (at-line .line-of .ensures .0) (c .enum-told .given .1))),
+      tt,
+    )
 
-slice-aggregate-step-line-2 : tie.Need-slice-aggregate-step-line-2 Inv-loop μ-loop
-slice-aggregate-step-line-2 c = search needs
+slice-aggregate-step : tie.Need-slice-aggregate-step Inv-loop μ-loop
+slice-aggregate-step c = search needs
 
-slice-aggregate-step-line-3 : tie.Need-slice-aggregate-step-line-3 Inv-loop μ-loop
-slice-aggregate-step-line-3 c = search needs
+slice-aggregate-step-2 : tie.Need-slice-aggregate-step-2 Inv-loop μ-loop
+slice-aggregate-step-2 c = search needs
 
-slice-aggregate-step-line-4 : tie.Need-slice-aggregate-step-line-4 Inv-loop μ-loop
-slice-aggregate-step-line-4 c = search needs
+slice-aggregate-step-3 : tie.Need-slice-aggregate-step-3 Inv-loop μ-loop
+slice-aggregate-step-3 c = search needs
 
-step-line-requires : tie.Need-step-line-requires Inv-loop μ-loop
-step-line-requires c κs =
-    let S = c .before .before .before .before .before .before .before .before .before in
-    let w = c .before .before .before .before .before .before .before .loop .inv in
-    (walk-ready (S .args .p) _ _ _ _ (w .sized) _ (w .later) (S .pre .4) (w .sound) (w .ordered), w .sized, w .numbers-long)
+slice-aggregate-step-4 : tie.Need-slice-aggregate-step-4 Inv-loop μ-loop
+slice-aggregate-step-4 c = search needs
+
+step-requires : tie.Need-step-requires Inv-loop μ-loop
+step-requires c κs =
+    let at-word = c .before .before .before .before .before in
+    let at-line = at-word .before .before .before in
+    let at-loop = at-line .before .before .before in
+    let w = at-loop .loop .inv in
+    let S = at-loop .before .before in
+    let read = at-line .line-of .ensures .0 in
+    let q = at-word .word .given .1 in (
+      walk-ready (S .args .p) _ _ _ _ (w .sized) _ (w .later) (S .pre .4) (w .sound) (w .ordered),
+      w .sized,
+      read .kept ∙ w .numbers-long,
+      line-counted read q (w .numbers-long),
+      line-most read q,
+      line-small read q,
+    )
 
 enum-known-stepped : tie.Need-enum-known-stepped Inv-loop μ-loop
 enum-known-stepped c = search needs
 
-returns : tie.Need-returns Inv-loop μ-loop
+returns-2 : tie.Need-returns-2 Inv-loop μ-loop
 unfolding surveySeen PrimeFound
-returns c =
-    let S = c .before .before .before .before .before .before .before .before .before .before .before .before .before .before .before .before .before in
-    let w = c .before .before .before .before .before .before .before .before .before .before .before .before .before .before .before .loop .inv in (
-      walk-stopped w (S .pre .0) (c .before .before .before .before .before .before .before .before .before .before .before .before .before .before .loop-test .taken) (c .before .before .before .before .before .before .before .before .before .before .before .before .before .line-end .ensures)
-          _ (c .before .stepped .given .0 .0) _ _ _ (c .before .stepped .given .1) (c .before .before .before .before .before .before .before .step-line .ensures .0 _ refl),
+returns-2 c =
+    let at-step = c .before .before .before .before .before .before in
+    let at-word = at-step .before .before .before .before .before .before in
+    let at-line = at-word .before .before .before in
+    let at-test = at-line .before .before in
+    let now-at = at-test .before .loop in
+    let S = at-test .before .before .before in
+    let line = line-seen (at-line .line-of .ensures .0) (at-word .word .given .1) in (
+      walk-stopped (now-at .inv) (S .pre .0) (at-test .loop-test .taken) _ (c .before .stepped .given .0 .0) _ _ _ (c .before .stepped .given .1)
+          (line-step _ (lineAt (now (S .args .list)) (now-at .at)) line (at-step .step .ensures .0 _ refl)),
       tt,
     )
 
 enum-known-stepped-2 : tie.Need-enum-known-stepped-2 Inv-loop μ-loop
 enum-known-stepped-2 c = search needs
 
-add-at : tie.Need-add-at Inv-loop μ-loop
-add-at c = search needs
+-- where the next line starts
+next-at : (c : tie.After-known-told3 Inv-loop μ-loop) → let at-word = c .before .before .before .before .before .before .before .before .before .before .before .before in
+    let at-loop = at-word .before .before .before .before .before .before in
+    at-word .word .given .0 .1 .1 .0 ≡ endOf (now (at-loop .before .before .args .list)) (at-loop .loop .at) + 1
+next-at c =
+    let at-word = c .before .before .before .before .before .before .before .before .before .before .before .before in
+    let at-loop = at-word .before .before .before .before .before .before in
+    line-next (now (at-loop .before .before .args .list)) (at-loop .loop .at) (at-word .before .before .before .line-of .ensures .1) (at-word .word .given .1)
 
 add-n : tie.Need-add-n Inv-loop μ-loop
 add-n c = search needs
 
 loop-less : tie.Need-loop-less Inv-loop μ-loop
-loop-less c = search needs
+loop-less c = omega (arith, next-at c, c .before .before .before .before .before .before .before .before .before .before .before .before .before .before .before .before .before .loop-test .taken)
 
 loop-again : tie.Need-loop-again Inv-loop μ-loop
 loop-again c =
-    let S = c .before .before .before .before .before .before .before .before .before .before .before .before .before .before .before .before .before in
-    let w = c .before .before .before .before .before .before .before .before .before .before .before .before .before .before .before .loop .inv in
-    let stepped = c .before .before .before .before .before .before .before .step-line .ensures in
-    let is = c .before .stepped2 .given .1 in
-    walk-next w (S .pre .0) (c .before .before .before .before .before .before .before .before .before .before .before .before .before .before .loop-test .taken) (c .before .before .before .before .before .before .before .before .before .before .before .before .before .line-end .ensures)
-    _ (c .before .stepped2 .given .0 .0) _ _ _ _ is (stepped .0 _ refl) (stepped .1 .0) (stepped .1 .1) (stepped .1 .2 .long) (stepped .1 .3 .long) (stepped .1 .4 .long)
+    let at-step = c .before .before .before .before .before .before in
+    let at-word = at-step .before .before .before .before .before .before in
+    let at-line = at-word .before .before .before in
+    let at-test = at-line .before .before in
+    let now-at = at-test .before .loop in
+    let S = at-test .before .before .before in
+    let read = at-line .line-of .ensures .0 in
+    let line = line-seen read (at-word .word .given .1) in
+    let stepped = at-step .step .ensures in
+    rw (next-at c)
+    (walk-next (now-at .inv) (S .pre .0) (at-test .loop-test .taken) _ (c .before .stepped2 .given .0 .0) _ _ _ _ (c .before .stepped2 .given .1)
+    (line-step _ (lineAt (now (S .args .list)) (now-at .at)) line (stepped .0 _ refl)) (stepped .1 .0) (read .kept ∙ now-at .inv .numbers-long) (stepped .1 .1 .long)
+    (stepped .1 .2 .long) (stepped .1 .3 .long))
 
-returns-2 : tie.Need-returns-2 Inv-loop μ-loop
+returns-3 : tie.Need-returns-3 Inv-loop μ-loop
 unfolding surveySeen PrimeFound
-returns-2 c = (walk-end (c .before .loop .inv) (c .loop-test .left), (c .before .before .before .pre .3, c .before .before .before .pre .4))
+returns-3 c = (walk-end (c .before .loop .inv) (c .loop-test .left), (c .before .before .before .pre .3, c .before .before .before .pre .4))
 
 pub survey-from-spec : {M : Type 1} → statement M
 survey-from-spec =
@@ -97,20 +150,20 @@ survey-from-spec =
     Inv-loop
     μ-loop
     loop-holds
-    line-end-requires
-    sub-step-line
-    part-step-line-start
-    part-step-line-end
-    slice-aggregate-step-line
-    slice-aggregate-step-line-2
-    slice-aggregate-step-line-3
-    slice-aggregate-step-line-4
-    step-line-requires
-    enum-known-stepped
+    slice-aggregate-line-of
+    line-of-requires
+    enum-known-word
+    enum-told
     returns
+    slice-aggregate-step
+    slice-aggregate-step-2
+    slice-aggregate-step-3
+    slice-aggregate-step-4
+    step-requires
+    enum-known-stepped
+    returns-2
     enum-known-stepped-2
-    add-at
     add-n
     loop-less
     loop-again
-    returns-2)
+    returns-3)
