@@ -9,6 +9,7 @@ use reader::survey;
 use table::Rows;
 use table::line_rows::line_rows;
 ghost use mathlib.Core.Path.{_≡_};
+ghost use Rattle.meaning.specs.Refusal.{all};
 ghost use Rattle.meaning.specs.Reply.{isCell, firstFail, refusalAt, checked};
 ghost use Rattle.service.specs.Reply.{replySeen, Checks};
 ghost use Rattle.service.specs.Walk.{ListRead, Listed};
@@ -55,17 +56,31 @@ fn check_table(list: &[u8], table: &[u32], p: u32, counts: Counts) -> Reply
     }
 }
 
+// Whether each cell is below p. No cell ends the loop, so that it is compiled to tests of several cells at once.
+fn all_below(table: &[u32], p: u32) -> bool
+    ensures { λ r. ⌜ r ≡ all (isCell p) (now (table .entry)) ⌝ }
+{
+    let mut below = true;
+    let mut i: usize = 0;
+    while i < table.len() {
+        below = below & (table[i] < p);
+        i += 1;
+    }
+    below
+}
+
+// The place is looked for in a table that is refused, and in no other. A cell of p or more stands in it, so that the loop needs no other end.
 fn first_large(table: &[u32], p: u32) -> Cells
     ensures { λ r. ⌜ cellsSeen r ≡ refusalAt 14 (firstFail (isCell p) 0 (now (table .entry))) ⌝ }
 {
+    if all_below(table, p) {
+        return Cells::AllBelow;
+    }
     let mut i: usize = 0;
-    while i < table.len() {
-        if p <= table[i] {
-            return Cells::Large(i);
-        }
+    while table[i] < p {
         i += 1;
     }
-    Cells::AllBelow
+    Cells::Large(i)
 }
 
 // The rows, counted over the whole list.

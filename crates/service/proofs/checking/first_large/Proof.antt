@@ -1,33 +1,38 @@
--- `service::checking::first_large`: the cells are looked at from the first on.
-use mathlib.Core.Path.{ap}
-use Prim.Native.Nat.{_-_}
+-- `service::checking::first_large`: where not all cells are below p, they are looked at from the first on.
+use mathlib.Core.Path.{sym, ap, _∙_}
+use Prim.Native.Nat.{_-_, _<_}
 use lib.ListN.{length}
 use borrow.Author.Needs.{needs}
 use Rattle.meaning.specs.Reply.{isCell, refusalAt}
 use Rattle.service.specs.Check.{cellsSeen}
-use Rattle.service.proofs.Scan.{Scanned, scanned-none, scan-end, scan-here, scan-next}
+use Rattle.service.proofs.Scan.{Scanned, all-none, scanned-none, scan-inside, scan-here, scan-next}
 use Rattle.service.proofs.Checked.{cell-large, cell-below}
 use Rattle.service.proofs.checking.first_large.Statement.{statement}
 use Rattle.service.proofs.checking.first_large.Tie as tie
 
 abbrev Inv-loop : tie.InvT-loop
-Inv-loop table p i₀ i = Scanned (isCell p) 0 table i
+Inv-loop table p i₀ i = (i < length table) × Scanned (isCell p) 0 table i
 
 abbrev μ-loop : tie.MeasureT-loop
 μ-loop table p i₀ i = length table - i
 
-loop-holds : tie.Need-loop-holds Inv-loop μ-loop
-loop-holds c = scanned-none _ _ _
-
-mul-if1 : tie.Need-mul-if1 Inv-loop μ-loop
-mul-if1 c = search needs
-
-shared-slice-read-if1 : tie.Need-shared-slice-read-if1 Inv-loop μ-loop
-shared-slice-read-if1 c = search needs
+all-below-requires : tie.Need-all-below-requires Inv-loop μ-loop
+all-below-requires c κs = search needs
 
 returns : tie.Need-returns Inv-loop μ-loop
 unfolding cellsSeen refusalAt
-returns c = ap (refusalAt 14) (scan-here _ _ _ _ (c .before .before .before .loop .inv) (c .before .before .loop-test .taken) (cell-large _ _ (c .if1 .taken)))
+returns c = ap (refusalAt 14) (all-none _ _ (sym (c .before .all-below .ensures) ∙ c .if1 .taken))
+
+loop-holds : tie.Need-loop-holds Inv-loop μ-loop
+loop-holds c =
+    let first = scanned-none _ _ _ in
+    (scan-inside _ _ _ _ first (sym (c .before .all-below .ensures) ∙ c .if1 .left), first)
+
+mul-if2 : tie.Need-mul-if2 Inv-loop μ-loop
+mul-if2 c = search needs
+
+shared-slice-read-if2 : tie.Need-shared-slice-read-if2 Inv-loop μ-loop
+shared-slice-read-if2 c = search needs
 
 add-i : tie.Need-add-i Inv-loop μ-loop
 add-i c = search needs
@@ -36,11 +41,18 @@ loop-less : tie.Need-loop-less Inv-loop μ-loop
 loop-less c = search needs
 
 loop-again : tie.Need-loop-again Inv-loop μ-loop
-loop-again c = scan-next _ _ _ _ (c .before .before .before .loop .inv) (c .before .before .loop-test .taken) (cell-below _ _ (c .if1 .left))
+loop-again c =
+    let at-loop = c .before .before in
+    let at-test = at-loop .before in
+    let scanned = at-loop .loop .inv in
+    let next = scan-next _ _ _ _ (scanned .1) (scanned .0) (cell-below _ _ (c .if2 .taken)) in
+    (scan-inside _ _ _ _ next (sym (at-test .before .all-below .ensures) ∙ at-test .if1 .left), next)
 
 returns-2 : tie.Need-returns-2 Inv-loop μ-loop
 unfolding cellsSeen refusalAt
-returns-2 c = ap (refusalAt 14) (scan-end _ _ _ _ (c .before .loop .inv) (c .loop-test .left))
+returns-2 c =
+    let scanned = c .before .before .loop .inv in
+    ap (refusalAt 14) (scan-here _ _ _ _ (scanned .1) (scanned .0) (cell-large _ _ (c .if2 .left)))
 
 pub first-large-spec : {M : Type 1} → statement M
 first-large-spec =
@@ -48,10 +60,11 @@ first-large-spec =
     (tie.spec
     Inv-loop
     μ-loop
-    loop-holds
-    mul-if1
-    shared-slice-read-if1
+    all-below-requires
     returns
+    loop-holds
+    mul-if2
+    shared-slice-read-if2
     add-i
     loop-less
     loop-again
