@@ -18,10 +18,12 @@ use Rattle.meaning.specs.Program.{isSome, orNone}
 use Rattle.meaning.proofs.Results.{refused-none, value-some}
 use Rattle.text.specs.declared.Number.{Number}
 use Rattle.text.specs.declared.Number.the-variants.{Of, NoNumber}
-use Rattle.text.specs.Number.{numberSeen}
-use Rattle.text.specs.Place.{Found, linesFrom}
+use Rattle.text.specs.Number.{WholeRead}
+use Rattle.text.specs.Place.{endOf, linesFrom}
 use Rattle.text.proofs.Lines.{afterNumbers, after-next, before-all}
-use Rattle.text.proofs.Places.{lines-none, line-within, lines-next}
+use Rattle.text.proofs.Places.{lines-none}
+use Rattle.text.proofs.Ends.{in-line, lines-at}
+use Rattle.text.proofs.Signed.{whole-is-none, whole-is, whole-ends}
 use Rattle.program.specs.Input.{NumbersRead}
 
 -- before the line that starts at `at`, each was a number
@@ -82,26 +84,25 @@ module _ {input : List ℕ} {start : ℕ} {stored : List ℤ} {at count : ℕ} (
           let read : numbersOf (linesFrom input start) ≡ some (r .numbers ++ []) = r .numbers-left ∙ rw (lines-none input at h) in
           ap orNone read ∙ append-nil (r .numbers)
 
-  module _ (ended : isEnded input ≡ true) (h : at < length input) {end : ℕ} (found : Found 10 input at end) {x : Number}
-      (seen : numberSeen x ≡ orRefused 3 (number (take (end - at) (drop at input)))) where
+  module _ (ended : isEnded input ≡ true) (h : at < length input) {x : Number} (read : WholeRead input at x) where
     pub reading-stops : x ≡ NoNumber → refusalAt 3 (firstFail (λ l. isSome (number l)) 0 (linesFrom input start)) ≡ some (reply 3 count)
-    unfolding firstFail isSome numberSeen refusalAt
-    reading-stops q =
-        let no-number : number (take (end - at) (drop at input)) ≡ none = refused-none 3 _ (sym seen ∙ ap numberSeen q) in
-        ap (refusalAt 3) (r .fails-left) ∙ rw (lines-next input ended h found, no-number)
+    unfolding firstFail isSome refusalAt
+    reading-stops q = ap (refusalAt 3) (r .fails-left) ∙ rw (lines-at input at ended h, whole-is-none input at read q)
 
-    pub reading-turn : {n : ℤ} → x ≡ Of n → Reading input start (set stored count n) (end + 1) (count + 1)
-    unfolding firstFail isSome numberSeen numbersOf
-    reading-turn {n} q =
-        let is : number (take (end - at) (drop at input)) ≡ some n = value-some 3 _ (sym seen ∙ ap numberSeen q) in record {
+    pub reading-turn : {n : ℤ} {end : ℕ} → x ≡ Of n end → Reading input start (set stored count n) (end + 1) (count + 1)
+    unfolding firstFail isSome numbersOf
+    reading-turn {n} {end} q =
+        let is = whole-is input at read q in
+        let e : end ≡ endOf input at = whole-ends input at read q .is in
+        rw e (record {
           numbers = r .numbers ++ n ∷ [];
-          inside = omega (arith, line-within input ended h found);
-          few = omega (arith, r .few, found .low);
+          inside = omega (arith, in-line input ended at h .inside);
+          few = omega (arith, r .few);
           counted = omega (arith, r .counted, length-append (r .numbers) (n ∷ []));
           room = length-set stored count n ∙ r .room;
           stands = stored-more (r .numbers) stored n count (r .counted) (r .room) (r .stands);
-          fails-left = r .fails-left ∙ rw (lines-next input ended h found, is, add-one count);
+          fails-left = r .fails-left ∙ rw (lines-at input at ended h, is, add-one count);
           numbers-left =
-              r .numbers-left ∙ rw (lines-next input ended h found, is)
-              (after-next (r .numbers) n (numbersOf (linesFrom input (end + 1))));
-        }
+              r .numbers-left ∙ rw (lines-at input at ended h, is)
+              (after-next (r .numbers) n (numbersOf (linesFrom input (endOf input at + 1))));
+        })

@@ -48,8 +48,7 @@ pub fn read_inputs(input: &[u8], start: usize, inputs: &mut [i64]) -> Inputs
     let mut at = start;
     let mut count: usize = 0;
     while at < input.len() {
-        let end = line_end(input, at);
-        let Number::Of(n) = number_of(&input[at..end]) else {
+        let Number::Of(n, end) = number_of(input, at) else {
             return Inputs::NoNumber(count);
         };
         store(inputs, count, n);

@@ -21,14 +21,15 @@ use Rattle.meaning.proofs.Lines.{sound-fresh, sound-after}
 use Rattle.meaning.proofs.Induction.{prime-kept, cells-grow}
 use Rattle.meaning.proofs.Reading.{reads-exactly, read-kept}
 use Rattle.text.specs.Word.{wordOf}
-use Rattle.text.specs.Place.{Found, linesFrom}
-use Rattle.text.specs.Parsed.{LineRead, mostNumbers}
+use Rattle.text.specs.Place.{endOf, lineAt, linesFrom}
+use Rattle.text.specs.Parsed.{LineRead, mostNumbers, NextAfter}
 use Rattle.text.specs.declared.Word.{Word}
 use Rattle.text.specs.declared.Parsed.{Parsed}
 use Rattle.text.specs.declared.Parsed.the-variants.{NoLine}
 use Rattle.text.specs.declared.Parsed.the-variants.{Line as Spelt}
-use Rattle.text.proofs.Answers.{no-line-seen, line-seen, line-most, line-counted, line-small}
-use Rattle.text.proofs.Places.{lines-none, line-within, lines-next}
+use Rattle.text.proofs.Answers.{no-line-seen, line-seen, line-most, line-counted, line-small, line-next}
+use Rattle.text.proofs.Places.{lines-none}
+use Rattle.text.proofs.Ends.{in-line, lines-at}
 use Rattle.reader.specs.State.{greatest, Small}
 use Rattle.reader.specs.Told.{lineWith}
 use Rattle.reader.specs.Size.{Adds}
@@ -108,12 +109,12 @@ module _ {list : List ℕ} {last s : Known} {left : List Line} {c : Counts} {at 
 
   -- ---- a line that is read
 
-  module _ (ended : isEnded list ≡ true) {end : ℕ} (inside : at < length list) (found : Found 10 list at end) {before numbers : List ℤ} {r : Parsed}
-      (parsed : LineRead (take (end - at) (drop at list)) before numbers r) (long : length before ≡ mostNumbers) where
-    next : (l : Line) × (rest : List Line) × (left ≡ l ∷ rest) × (lineOf (take (end - at) (drop at list)) ≡ some l)
-        × (map lineOf (linesFrom list (end + 1)) ≡ map some rest)
-    next = next-left (take (end - at) (drop at list)) (linesFrom list (end + 1)) left
-        (sym (ap (map lineOf) (lines-next list ended inside found)) ∙ stands .spells)
+  module _ (ended : isEnded list ≡ true) (inside : at < length list) {before numbers : List ℤ} {r : Parsed}
+      (parsed : LineRead (lineAt list at) before numbers r) (long : length before ≡ mostNumbers) where
+    next : (l : Line) × (rest : List Line) × (left ≡ l ∷ rest) × (lineOf (lineAt list at) ≡ some l)
+        × (map lineOf (linesFrom list (endOf list at + 1)) ≡ map some rest)
+    next = next-left (lineAt list at) (linesFrom list (endOf list at + 1)) left
+        (sym (ap (map lineOf) (lines-at list at ended inside)) ∙ stands .spells)
 
     -- the lines after it
     rest : List Line
@@ -123,7 +124,7 @@ module _ {list : List ℕ} {last s : Known} {left : List Line} {c : Counts} {at 
     line-there : r ≡ NoLine → ⊥
     line-there is = none-some (sym (no-line-seen parsed is) ∙ next .3)
 
-    module _ {word : Word} {count : ℕ} (is : r ≡ Spelt word count) where
+    module _ {word : Word} {count place : ℕ} (is : r ≡ Spelt word count place) where
       abbrev line : Line
       line = lineWith (wordOf word) (take count numbers)
 
@@ -156,11 +157,11 @@ module _ {list : List ℕ} {last s : Known} {left : List Line} {c : Counts} {at 
             rows-most = omega (arith, now-counted .rows-are, now-counted .cells-are, f .1, was .rows-are, was .cells-are, stands .few .rows-most);
           }
 
-      stands-next : (d : Counts) → Counted (after s line) d → Stands list last (after s line) rest d (end + 1) (n + 1)
+      stands-next : (d : Counts) → Counted (after s line) d → Stands list last (after s line) rest d (endOf list at + 1) (n + 1)
       unfolding rest
       stands-next d now-counted = record {
-        inside = omega (arith, line-within list ended inside found);
-        numbered = omega (arith, stands .numbered, found .low);
+        inside = omega (arith, in-line list ended at inside .inside);
+        numbered = omega (arith, stands .numbered);
         spells = next .4;
         kept = rw (add-one n) kept-after;
         sound = rw (add-one n) (sound-after n s line (stands .sound) keeps);
@@ -171,32 +172,32 @@ module _ {list : List ℕ} {last s : Known} {left : List Line} {c : Counts} {at 
 
 -- ---- what `take_line` promises
 
-module _ {list : List ℕ} {c : Counts} {at : ℕ} (a : AtLine list c at) {end : ℕ} (found : Found 10 list at end) {before numbers : List ℤ} {r : Parsed}
-    (parsed : LineRead (take (end - at) (drop at list)) before numbers r) (long : length before ≡ mostNumbers) where
+module _ {list : List ℕ} {c : Counts} {at : ℕ} (a : AtLine list c at) {before numbers : List ℤ} {r : Parsed}
+    (parsed : LineRead (lineAt list at) before numbers r) (long : length before ≡ mostNumbers) where
   ended : isEnded list ≡ true
   ended = read-ended list (a .listed .lines) (a .listed .last) (a .listed .is-read)
 
   pub line-is-there : r ≡ NoLine → ⊥
-  line-is-there is = line-there (a .stands) ended (a .inside) found parsed long is
+  line-is-there is = line-there (a .stands) ended (a .inside) parsed long is
 
-  pub took : {word : Word} {count : ℕ} → r ≡ Spelt word count → (d : Counts)
+  pub took : {word : Word} {count place : ℕ} → r ≡ Spelt word count place → NextAfter list at r → (d : Counts)
       → ((n k : ℕ) (s : Known) → isCount (wordOf word) k ≡ true → Keeps n s (lineWith (wordOf word) (take k numbers)) → Counted s c
       → Counted (after s (lineWith (wordOf word) (take k numbers))) d)
       → d .values ≤ c .values + 1
-      → Took a numbers (record { word = word; count = count; counts = d; next = end + 1 })
-  took is d told more = record {
-    rest = rest (a .stands) ended (a .inside) found parsed long;
-    left-is = left-is (a .stands) ended (a .inside) found parsed long is;
-    kept = kept-here (a .stands) ended (a .inside) found parsed long is;
-    next = stands-next (a .stands) ended (a .inside) found parsed long is d
-        (told _ _ _ (line-counted parsed is long) (keeps (a .stands) ended (a .inside) found parsed long is) (a .stands .counted));
+      → Took a numbers (record { word = word; count = count; counts = d; next = place })
+  took is after-it d told more = let e = line-next list at after-it is in rw e (record {
+    rest = rest (a .stands) ended (a .inside) parsed long;
+    left-is = left-is (a .stands) ended (a .inside) parsed long is;
+    kept = kept-here (a .stands) ended (a .inside) parsed long is;
+    next = stands-next (a .stands) ended (a .inside) parsed long is d
+        (told _ _ _ (line-counted parsed is long) (keeps (a .stands) ended (a .inside) parsed long is) (a .stands .counted));
     one-more = more;
-    further = omega (arith, found .low);
+    further = omega arith;
     long = parsed .kept ∙ long;
     counted = line-counted parsed is long;
     few = line-most parsed is;
-    small = numbers-small (a .stands) ended (a .inside) found parsed long is;
-  }
+    small = numbers-small (a .stands) ended (a .inside) parsed long is;
+  })
 
 -- ---- what a line that was taken tells
 

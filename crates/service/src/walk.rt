@@ -4,7 +4,6 @@ use reader::Counts;
 use reader::line_size;
 use text::Parsed;
 use text::Word;
-use text::line_end;
 use text::line_of;
 ghost use mathlib.Core.Path.{_≡_};
 ghost use mathlib.Core.Bool.{true};
@@ -33,9 +32,8 @@ pub fn take_line(list: &[u8], at: usize, counts: Counts, numbers: &mut [i64]) ->
     requires { ⌜ AtLine (now list) counts at × (length (now numbers) ≡ mostNumbers) ⌝ }
     ensures { λ r. ⌜ ((a : AtLine (now (list .entry)) counts at) → Took a (now (numbers .exit)) r) ⌝ }
 {
-    let end = line_end(list, at);
     // The list was read, so that each of its lines is one: what is answered for other bytes is never asked for.
-    let Parsed::Line(word, count) = line_of(&list[at..end], numbers) else {
+    let Parsed::Line(word, count, next) = line_of(list, at, numbers) else {
         return Taken {
             word: Word::Field,
             count: 0,
@@ -48,7 +46,7 @@ pub fn take_line(list: &[u8], at: usize, counts: Counts, numbers: &mut [i64]) ->
         word: word,
         count: count,
         counts: after,
-        next: end + 1,
+        next: next,
     }
 }
 

@@ -3,6 +3,7 @@
 use mathlib.Core.Path.{_≡_, sym, _∙_}
 use mathlib.Core.List.{List}
 use mathlib.Core.Logic.{_⊎_}
+use mathlib.Core.Option.{none, some}
 use Prim.Native.Nat.{ℕ, suc, _+_, _<_, _≤_}
 use native.Mathlib.Decide.{decLt}
 use native.Mathlib.Omega.{arith}
@@ -10,13 +11,14 @@ use lib.IntN.{ℤ, pos, _-ℤ_}
 use lib.ListN.{length, getD, take}
 use mir.Syntax.{w64}
 use mir.Val.{toZ, ofZ}
-use Rattle.meaning.proofs.Results.{none-refused}
+use Rattle.meaning.specs.Text.{number}
+use Rattle.meaning.proofs.Results.{none-refused, refused-none}
 use Rattle.text.specs.declared.Number.{Number}
 use Rattle.text.specs.declared.Number.the-variants.{Of, NoNumber}
 use Rattle.text.specs.declared.Size.{Size}
 use Rattle.text.specs.declared.Size.the-variants.{Small, NoSize}
 use Rattle.text.specs.Number.{SizeRead, NumberRead, WholeRead}
-use Rattle.text.specs.Place.{endOf, upTo, fieldAt, Found}
+use Rattle.text.specs.Place.{endOf, upTo, lineAt, Found}
 use Rattle.text.proofs.Places.{field-more, found-byte}
 use Rattle.text.proofs.Ends.{InLine, place-inside, cut-length, cut-byte, before-end, end-here, place-next, place-later, same-line, field-ends, line-cut}
 use Rattle.text.proofs.Numbers.{zero-number, zero-none, minus-none, minus-number, plain-none, plain-number, number-ends, whole-none, whole-tab, whole-number}
@@ -103,3 +105,18 @@ module _ {text : List ℕ} {at : ℕ} (l : InLine text at (endOf text at)) {r : 
         ] in
         let e : place ≡ endOf text at = omega (arith, last, field-place .found .low) in
         (rw (line-cut text at) (whole-number (upTo text at) at read q (omega (arith, cut-length l, last))), rw e (l .found))
+
+-- what `number_of` answered
+module _ (text : List ℕ) (at : ℕ) {r : Number} (read : WholeRead text at r) where
+  pub whole-is-none : r ≡ NoNumber → number (lineAt text at) ≡ none
+  unfolding WholeRead
+  whole-is-none q = refused-none 3 _ (rw q at read)
+
+  module _ {z : ℤ} {place : ℕ} (q : r ≡ Of z place) where
+    pub whole-is : number (lineAt text at) ≡ some z
+    unfolding WholeRead
+    whole-is = (rw q at read) .0
+
+    pub whole-ends : Found 10 text at place
+    unfolding WholeRead
+    whole-ends = (rw q at read) .1

@@ -5,6 +5,8 @@ use mir.Syntax.{w64}
 use mir.Val.{toZ, ofZ}
 use native.Mathlib.Omega.{arith}
 use lib.ListN.{length}
+use Rattle.text.specs.Place.{Found}
+use Rattle.text.proofs.Signed.{whole-ends}
 use Rattle.program.specs.Input.{InputsRead}
 use Rattle.program.proofs.Inputs.{Reading, reading-start, reading-turn, reading-stops, reading-end}
 use borrow.Author.Needs.{needs}
@@ -19,18 +21,6 @@ abbrev μ-loop : tie.MeasureT-loop
 
 loop-holds : tie.Need-loop-holds Inv-loop μ-loop
 loop-holds c = reading-start _ _ _ (c .before .pre .1) (c .before .pre .2)
-
-line-end-requires : tie.Need-line-end-requires Inv-loop μ-loop
-line-end-requires c κs = search needs
-
-sub-number-of : tie.Need-sub-number-of Inv-loop μ-loop
-sub-number-of c = search needs
-
-part-number-of-start : tie.Need-part-number-of-start Inv-loop μ-loop
-part-number-of-start c = search needs
-
-part-number-of-end : tie.Need-part-number-of-end Inv-loop μ-loop
-part-number-of-end c = search needs
 
 number-of-requires : tie.Need-number-of-requires Inv-loop μ-loop
 number-of-requires c κs = search needs
@@ -48,41 +38,29 @@ returns : tie.Need-returns Inv-loop μ-loop
 unfolding InputsRead
 returns c =
     let at-number = c .before .before in
-    let at-end = at-number .before .before in
-    let at-test = at-end .before in
+    let at-test = at-number .before in
     let at-loop = at-test .before in
-    let s = at-loop .before .before in
-    reading-stops (at-loop .loop .inv) (s .pre .0) (at-test .loop-test .taken) (at-end .line-end .ensures) (at-number .number-of .ensures) (c .enum-told .given .1)
+    reading-stops (at-loop .loop .inv) (at-loop .before .before .pre .0) (at-test .loop-test .taken) (at-number .number-of .ensures) (c .enum-told .given .1)
 
 store-requires : tie.Need-store-requires Inv-loop μ-loop
 store-requires c κs = search needs
 
+-- the place where the line that was read ends
+end : (c : tie.After-known-told Inv-loop μ-loop) → let at-loop = c .before .before .before .before .before in
+    Found 10 (at-loop .before .before .args .input .now) (at-loop .loop .at) (c .before .n .given .0 .1 .0)
+end c =
+    let at-number = c .before .before .before in
+    let at-loop = at-number .before .before in
+    whole-ends (at-loop .before .before .args .input .now) (at-loop .loop .at) (at-number .number-of .ensures) (c .before .n .given .1)
+
 add-at : tie.Need-add-at Inv-loop μ-loop
-add-at c =
-    let at-number = c .before .before .before .before .before .before in
-    let at-end = at-number .before .before in
-    let at-test = at-end .before in
-    let at-loop = at-test .before in
-    let s = at-loop .before .before in
-    omega (arith, at-end .line-end .ensures .high)
+add-at c = omega (arith, end (c .before .before .before) .high)
 
 add-count : tie.Need-add-count Inv-loop μ-loop
-add-count c =
-    let at-number = c .before .before .before .before .before .before in
-    let at-end = at-number .before .before in
-    let at-test = at-end .before in
-    let at-loop = at-test .before in
-    let s = at-loop .before .before in
-    omega (arith, at-loop .loop .inv .few)
+add-count c = omega (arith, c .before .before .before .before .before .before .before .before .loop .inv .few)
 
 loop-less : tie.Need-loop-less Inv-loop μ-loop
-loop-less c =
-    let at-number = c .before .before .before .before .before .before in
-    let at-end = at-number .before .before in
-    let at-test = at-end .before in
-    let at-loop = at-test .before in
-    let s = at-loop .before .before in
-    omega (arith, at-end .line-end .ensures .low)
+loop-less c = omega (arith, end (c .before .before .before) .low, c .before .before .before .before .before .before .before .loop-test .taken)
 
 -- a number that was read is what its bits say
 kept : (c : tie.After-known-told Inv-loop μ-loop) → toZ w64 (ofZ w64 (c .before .n .given .0 .0)) ≡ c .before .n .given .0 .0
@@ -91,11 +69,10 @@ kept c = search needs
 loop-again : tie.Need-loop-again Inv-loop μ-loop
 loop-again c =
     let at-number = c .before .before .before .before .before .before in
-    let at-end = at-number .before .before in
-    let at-test = at-end .before in
+    let at-test = at-number .before in
     let at-loop = at-test .before in
-    let s = at-loop .before .before in
-    rw (c .before .store .ensures, kept (c .before .before .before)) (reading-turn (at-loop .loop .inv) (s .pre .0) (at-test .loop-test .taken) (at-end .line-end .ensures) (at-number .number-of .ensures) (c .before .before .before .before .n .given .1))
+    rw (c .before .store .ensures, kept (c .before .before .before))
+    (reading-turn (at-loop .loop .inv) (at-loop .before .before .pre .0) (at-test .loop-test .taken) (at-number .number-of .ensures) (c .before .before .before .before .n .given .1))
 
 same-length-2 : tie.Need-same-length-2 Inv-loop μ-loop
 same-length-2 c = search needs
@@ -112,10 +89,6 @@ read-inputs-spec =
     Inv-loop
     μ-loop
     loop-holds
-    line-end-requires
-    sub-number-of
-    part-number-of-start
-    part-number-of-end
     number-of-requires
     enum-known-n
     enum-told
