@@ -193,7 +193,7 @@ module _ {list : List ℕ} {c : Counts} {at : ℕ} (a : AtLine list c at) {befor
         (told _ _ _ (line-counted parsed is long) (keeps (a .stands) ended (a .inside) parsed long is) (a .stands .counted));
     one-more = more;
     further = omega arith;
-    long = parsed .kept ∙ long;
+    long = parsed .left .kept ∙ long;
     counted = line-counted parsed is long;
     few = line-most parsed is;
     small = numbers-small (a .stands) ended (a .inside) parsed long is;

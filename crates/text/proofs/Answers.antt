@@ -79,7 +79,7 @@ module _ {line : List ℕ} {before after : List ℤ} {r : Parsed} (read : LineRe
     line-most = rw q at (read .most)
 
     pub line-counted : length before ≡ mostNumbers → isCount (wordOf w) n ≡ true
-    line-counted room = rw (length-take-le n after (omega (arith, read .kept, line-most))) at (good-line line line-seen .counted)
+    line-counted room = rw (length-take-le n after (omega (arith, read .left .kept, line-most))) at (good-line line line-seen .counted)
 
     pub line-small : (i : ℕ) → i < n → natAbs (getD after i (pos 0)) ≤ largest
     line-small i h = rw (getD-take n after i (pos 0) h) at (good-line line line-seen .small i)

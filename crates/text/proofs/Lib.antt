@@ -6,5 +6,5 @@ pub mod Sizing
 pub mod Signed
 pub mod Words
 pub mod Lines
-pub mod Storing
+pub mod LineFields
 pub mod Answers

@@ -1,49 +1,41 @@
--- Laws of the line reader: its word, one number more, and each refusal.
+-- Laws of the line reader: the numbers of fields, one more and each way out; the word before them; and a line that is one number.
 use mathlib.Core.Path.{_≡_, refl, sym, _∙_, ap}
 use mathlib.Core.Bool.{Bool, true, false, cond}
 use mathlib.Core.List.{List, [], _∷_, _++_, append-nil, append-assoc}
 use mathlib.Core.Option.{Option, none, some}
-use Prim.Native.Nat.{ℕ, _+_, _-_, _%_, _≤_, _<_}
+use Prim.Native.Nat.{ℕ, suc, _+_, _-_, _%_, _≤_, _<_}
 use native.Mathlib.Numerals.{add-one}
 use native.Mathlib.Omega.{arith}
-use borrow.Author.Tests.{lt-leb, ne-eqb}
-use lib.Dec.{eqb}
+use borrow.Author.Tests.{lt-leb, ne-eqb, ltb-true, ltb-false}
+use lib.Dec.{eqb, ltb}
 use lib.IntN.{ℤ}
-use lib.ListN.{length, take, drop, set, length-append}
-use lib.Seq.{length-take-le, take-suc-set}
-use Rattle.meaning.specs.Text.{fieldsOf}
-use Rattle.meaning.specs.Line.{field, input, span, sum, relu, which, max, root, words, wordAmong, isCount, consNumber, numbersOf, assemble, lineOfFields, lineOf}
-use Rattle.meaning.specs.Line.{Word as MeantWord, Line as MeantLine}
-use Rattle.meaning.proofs.Results.{refused-none}
-use Rattle.text.specs.declared.Number.{Number}
-use Rattle.text.specs.declared.Number.the-variants.{Of, NoNumber}
-use Rattle.text.specs.declared.Word.{Word}
-use Rattle.text.specs.declared.Spelled.{Spelled}
-use Rattle.text.specs.declared.Spelled.the-variants.{Known, NoWord}
-use Rattle.text.specs.Number.{NumberRead}
-use Rattle.text.specs.Word.{wordOf, WordRead}
-use Rattle.text.specs.Place.{Found, fieldAt}
-use Rattle.text.specs.Parsed.{mostNumbers}
-use Rattle.text.proofs.Bytes.{and-false}
-use Rattle.text.proofs.Numbers.{number-is-none, number-is, number-ends}
-use Rattle.text.proofs.Places.{partsAfter, parts-none, fields-from, fields-found, fields-some, fields-next}
-
--- ---- what is left to read of a line
+use lib.ListN.{length, take, drop, set, length-set, length-append, take-append-drop}
+use lib.Seq.{length-take-le, take-nil, take-suc-set, drop-drop, drop-set-lt}
+use Rattle.meaning.specs.Text.{bytes, fieldsOf, number, sameBytes, sized, isPlain, allDigits, isDigit}
+use Rattle.meaning.specs.Line.{field, input, span, sum, relu, which, max, root, spelling, words, wordAmong, isCount, consNumber, numbersOf, assemble, lineOfFields, lineOf}
+use Rattle.meaning.specs.Line.{Word as MeantWord}
+use Rattle.text.specs.Place.{indexOf, fieldAt}
+use Rattle.text.specs.Parsed.{mostNumbers, ifSome, leadingNumbers, afterWord, leading, Stored}
+use Rattle.text.proofs.Bytes.{and-false, none-some}
+use Rattle.text.proofs.Numbers.{tab-number}
+use Rattle.text.proofs.Words.{same-spelled}
+use Rattle.text.proofs.Places.{fields-two, fields-one}
 
 -- the numbers that were read, before those that are left
 unfoldable pub afterNumbers : List ℤ → Option (List ℤ) → Option (List ℤ)
 afterNumbers ns none = none
 afterNumbers ns (some ms) = some (ns ++ ms)
 
--- the line of a word, of the numbers that were read, and of the fields that are left
-unfoldable pub lineAfter : Word → List ℤ → List (List ℕ) → Option MeantLine
-lineAfter w ns fields = assemble (some (wordOf w)) (afterNumbers ns (numbersOf fields))
-
 -- one number more: it goes from the first that is left to the last that was read
 pub after-next : (ns : List ℤ) (n : ℤ) (rest : Option (List ℤ)) → afterNumbers ns (consNumber (some n) rest) ≡ afterNumbers (ns ++ n ∷ []) rest
 unfolding afterNumbers consNumber
 after-next ns n none = refl
 after-next ns n (some ms) = ap some (sym (append-assoc ns (n ∷ []) ms))
+
+pub before-all : (numbers : Option (List ℤ)) → numbers ≡ afterNumbers [] numbers
+unfolding afterNumbers
+before-all none = refl
+before-all (some ns) = refl
 
 -- ---- no word has more than 33 numbers
 
@@ -65,63 +57,155 @@ after-full w ns none rest h = refl
 after-full w ns (some n) none h = refl
 after-full w ns (some n) (some ms) h = rw (count-over w (length (ns ++ n ∷ ms)) (omega (arith, length-append ns (n ∷ ms))))
 
+-- ---- the numbers of fields
+
+-- of all fields those that are left are still to read: the numbers of the others stand, and what comes after them is as it was before
+pub record Reading (all left : List (List ℕ)) (before numbers : List ℤ) (count : ℕ) : Type 0 where
+  pub told : numbersOf all ≡ afterNumbers (take count numbers) (numbersOf left)
+  pub stands : take mostNumbers (leadingNumbers all) ≡ take count numbers ++ take (mostNumbers - count) (leadingNumbers left)
+  pub rest : drop count numbers ≡ drop count before
+  pub long : length numbers ≡ mostNumbers
+  pub kept : length numbers ≡ length before
+
+pub reading-start : (all : List (List ℕ)) (numbers : List ℤ) → length numbers ≡ mostNumbers → Reading all all numbers numbers 0
+reading-start all numbers long = record { told = before-all (numbersOf all); stands = refl; rest = refl; long = long; kept = refl }
+
+module _ {all left : List (List ℕ)} {before numbers : List ℤ} {count : ℕ} (r : Reading all left before numbers count) (most : count ≤ mostNumbers) where
+  -- where none of the leading numbers is to come
+  stored : take (mostNumbers - count) (leadingNumbers left) ≡ [] → Stored (leadingNumbers all) before numbers
+  stored nothing =
+      let first : take mostNumbers (leadingNumbers all) ≡ take count numbers = r .stands ∙ rw nothing (append-nil (take count numbers)) in record {
+        stand = rw (first, length-take-le count numbers (omega (arith, r .long)), ← r .rest) (sym (take-append-drop count numbers));
+        kept = r .kept;
+      }
+
+  pub reading-end : left ≡ [] → (numbersOf all ≡ some (take count numbers)) × Stored (leadingNumbers all) before numbers
+  unfolding numbersOf afterNumbers leadingNumbers
+  reading-end q = (r .told ∙ rw q (ap some (append-nil (take count numbers))), stored (rw q (take-nil (mostNumbers - count))))
+
+  module _ {f : List ℕ} {fs : List (List ℕ)} (q : left ≡ f ∷ fs) where
+    pub reading-none : number f ≡ none → ((w : MeantWord) → assemble (some w) (numbersOf all) ≡ none) × Stored (leadingNumbers all) before numbers
+    unfolding numbersOf consNumber afterNumbers assemble leadingNumbers ifSome
+    reading-none no-number = (λ w. rw (r .told, q, no-number), stored (rw (q, no-number) (take-nil (mostNumbers - count))))
+
+    pub reading-full : mostNumbers ≤ count → ((w : MeantWord) → assemble (some w) (numbersOf all) ≡ none) × Stored (leadingNumbers all) before numbers
+    unfolding numbersOf
+    reading-full full =
+        let places : mostNumbers - count ≡ 0 = omega arith in (
+          λ w. rw (r .told, q) (after-full w (take count numbers) (number f) (numbersOf fs) (omega (arith, length-take-le count numbers (omega (arith, r .long))))),
+          stored (rw places),
+        )
+
+    pub reading-turn : {n : ℤ} → number f ≡ some n → count < mostNumbers → Reading all fs before (set numbers count n) (count + 1)
+    unfolding numbersOf leadingNumbers ifSome
+    reading-turn {n} is room =
+        let places : mostNumbers - count ≡ suc (mostNumbers - (count + 1)) = omega arith in
+        let more : take (count + 1) (set numbers count n) ≡ take count numbers ++ (n ∷ []) = rw add-one (take-suc-set numbers count n (omega (arith, r .long))) in
+        let later = take (mostNumbers - (count + 1)) (leadingNumbers fs) in
+        let one : take (mostNumbers - count) (leadingNumbers left) ≡ n ∷ later = rw (q, is, places) in
+        record {
+          told = r .told ∙ rw (q, is, more) (after-next (take count numbers) n (numbersOf fs));
+          stands = r .stands ∙ rw (one, more) (sym (append-assoc (take count numbers) (n ∷ []) later));
+          rest =
+              drop-set-lt (count + 1) numbers count n (omega arith) ∙ sym (drop-drop 1 count numbers) ∙ ap (drop 1) (r .rest)
+              ∙ drop-drop 1 count before;
+          long = length-set numbers count n ∙ r .long;
+          kept = length-set numbers count n ∙ r .kept;
+        }
+
 -- ---- the word: the line's first field
 
-pub before-all : (numbers : Option (List ℤ)) → numbers ≡ afterNumbers [] numbers
-unfolding afterNumbers
-before-all none = refl
-before-all (some ns) = refl
+module _ (line : List ℕ) {f : List ℕ} {fs : List (List ℕ)} (q : fieldsOf line ≡ f ∷ fs) where
+  module _ {w : MeantWord} (is : wordAmong words f ≡ some w) where
+    pub line-word : lineOf line ≡ assemble (some w) (numbersOf fs)
+    unfolding lineOf lineOfFields
+    line-word = rw (q, is)
 
-module _ (line : List ℕ) (at : ℕ) {r : Spelled} (read : WordRead line at r) where
-  pub no-word : r ≡ NoWord → wordAmong words (fieldAt line at) ≡ none
-  unfolding WordRead
-  no-word q = refused-none 3 _ (rw q at read)
+    pub leading-word : leading line ≡ leadingNumbers fs
+    unfolding leading afterWord ifSome
+    leading-word = rw (q, is)
 
-  pub line-no-word : r ≡ NoWord → lineOf (drop at line) ≡ none
-  unfolding lineOf lineOfFields fieldsOf assemble
-  line-no-word q = rw (fields-from line at, no-word q)
+  module _ (no-word : wordAmong words f ≡ none) where
+    pub line-no-word : lineOf line ≡ none
+    unfolding lineOf lineOfFields assemble
+    line-no-word = rw (q, no-word)
 
-  module _ {w : Word} {place : ℕ} (q : r ≡ Known w place) where
-    pub some-word : wordAmong words (fieldAt line at) ≡ some (wordOf w)
-    unfolding WordRead
-    some-word = (rw q at read) .0
+    pub leading-no-word : leading line ≡ leadingNumbers (fieldsOf line)
+    unfolding leading afterWord ifSome
+    leading-no-word = rw (q, no-word)
 
-    pub word-ends : Found 9 line at place
-    unfolding WordRead
-    word-ends = (rw q at read) .1
+-- ---- a line that is one number
 
-    pub line-word : lineOf (drop at line) ≡ lineAfter w [] (partsAfter 9 line place)
-    unfolding lineOf lineOfFields fieldsOf lineAfter
-    line-word =
-        rw (fields-found line word-ends, some-word) (ap (assemble (some (wordOf w))) (before-all (numbersOf (partsAfter 9 line place))))
+-- the number, where there is one alone
+unfoldable pub onlyOne : Option (List ℤ) → Option ℤ
+onlyOne none = none
+onlyOne (some []) = none
+onlyOne (some (z ∷ [])) = some z
+onlyOne (some (z ∷ (y ∷ zs))) = none
 
--- ---- the numbers: a law for each turn of the loop and each way out
+two-numbers : (first second : Option ℤ) (rest : Option (List ℤ)) → onlyOne (consNumber first (consNumber second rest)) ≡ none
+unfolding onlyOne consNumber
+two-numbers none second rest = refl
+two-numbers (some z) none rest = refl
+two-numbers (some z) (some y) none = refl
+two-numbers (some z) (some y) (some zs) = refl
 
-module _ (line : List ℕ) (w : Word) (end : ℕ) (h : end < length line) {r : Number} (read : NumberRead line (end + 1) r) where
-  pub line-no-number : (ns : List ℤ) → r ≡ NoNumber → lineAfter w ns (partsAfter 9 line end) ≡ none
-  unfolding lineAfter numbersOf consNumber afterNumbers assemble
-  line-no-number ns q = rw (fields-some line end h, number-is-none line (end + 1) read q)
+one-number : (first : Option ℤ) → onlyOne (consNumber first (some [])) ≡ first
+unfolding onlyOne consNumber
+one-number none = refl
+one-number (some z) = refl
 
-  pub line-number : (numbers : List ℤ) (count : ℕ) {n : ℤ} {next : ℕ} → r ≡ Of n next → count < length numbers
-      → lineAfter w (take count numbers) (partsAfter 9 line end) ≡ lineAfter w (take (count + 1) (set numbers count n)) (partsAfter 9 line next)
-  unfolding lineAfter numbersOf
-  line-number numbers count {n} {next} q k =
-      let more : take (count + 1) (set numbers count n) ≡ take count numbers ++ (n ∷ []) = rw add-one (take-suc-set numbers count n k) in
-      rw (fields-next line end h (number-ends line (end + 1) read q), number-is line (end + 1) read q, more)
-      (ap (assemble (some (wordOf w))) (after-next (take count numbers) n (numbersOf (partsAfter 9 line next))))
+alone-at : (has-tab : Bool) (xs : List ℕ) → ltb (indexOf 9 xs) (length xs) ≡ has-tab → number xs ≡ onlyOne (numbersOf (fieldsOf xs))
+unfolding numbersOf fieldsOf
+alone-at true xs p =
+    let two = fields-two xs (ltb-true _ _ p) in
+    tab-number xs (ltb-true _ _ p) ∙ sym (rw (two .2) (two-numbers (number (fieldAt xs 0)) (number (two .0)) (numbersOf (two .1))))
+alone-at false xs p =
+    let one = fields-one xs (ltb-false _ _ p) in
+    sym (rw one (one-number (number xs)))
 
-module _ (line : List ℕ) (w : Word) (numbers : List ℤ) (end count : ℕ) (room : length numbers ≡ mostNumbers) (most : count ≤ mostNumbers) where
-  pub line-full : end < length line → mostNumbers ≤ count → lineAfter w (take count numbers) (partsAfter 9 line end) ≡ none
-  unfolding lineAfter numbersOf
-  line-full h full = rw (fields-some line end h) (after-full (wordOf w) (take count numbers) _ _ (omega (arith, length-take-le count numbers (omega arith))))
+pub number-alone : (xs : List ℕ) → number xs ≡ onlyOne (numbersOf (fieldsOf xs))
+number-alone xs = alone-at _ xs refl
 
-  module _ (h : length line ≤ end) {right : Bool} (q : right ≡ isCount (wordOf w) count) where
-    counted : lineAfter w (take count numbers) (partsAfter 9 line end) ≡ cond right (some (record { word = wordOf w; numbers = take count numbers })) none
-    unfolding lineAfter numbersOf afterNumbers assemble
-    counted = rw (parts-none 9 line end h, append-nil (take count numbers), length-take-le count numbers (omega arith), sym q)
+-- no word has such numbers, so that they are not one
+pub none-alone : (ns : Option (List ℤ)) → assemble (some sum) ns ≡ none → onlyOne ns ≡ none
+unfolding onlyOne assemble isCount
+none-alone none q = refl
+none-alone (some []) q = refl
+none-alone (some (z ∷ [])) q = absurd (none-some (sym q))
+none-alone (some (z ∷ (y ∷ zs))) q = refl
 
-    pub line-is : right ≡ true → lineAfter w (take count numbers) (partsAfter 9 line end) ≡ some (record { word = wordOf w; numbers = take count numbers })
-    line-is holds = counted ∙ rw holds
+pub many-alone : (ns : List ℤ) → (length ns ≡ 1 → ⊥) → onlyOne (some ns) ≡ none
+unfolding onlyOne
+many-alone [] q = refl
+many-alone (z ∷ []) q = absurd (q refl)
+many-alone (z ∷ (y ∷ zs)) q = refl
 
-    pub line-wrong-count : right ≡ false → lineAfter w (take count numbers) (partsAfter 9 line end) ≡ none
-    line-wrong-count fails = counted ∙ rw fails
+-- a word is no number
+spelling-no-number : (w : MeantWord) → number (spelling w) ≡ none
+unfolding spelling bytes number sameBytes sized isPlain allDigits isDigit
+spelling-no-number field = refl
+spelling-no-number input = refl
+spelling-no-number span = refl
+spelling-no-number sum = refl
+spelling-no-number relu = refl
+spelling-no-number which = refl
+spelling-no-number max = refl
+spelling-no-number root = refl
+
+-- ---- a line at a place: what `fields_of` tells of it
+
+-- a word's field has its spelling
+spelled-at : (t : Bool) (v w : MeantWord) (f : List ℕ) (later : Option MeantWord) → sameBytes (spelling v) f ≡ t → (later ≡ some w → f ≡ spelling w)
+    → cond t (some v) later ≡ some w → f ≡ spelling w
+spelled-at true v w f later s rest q = let e : v ≡ w = cc in rw (← e) (sym (same-spelled (spelling v) f s))
+spelled-at false v w f later s rest q = rest q
+
+word-spelled : (ws : List MeantWord) (f : List ℕ) (w : MeantWord) → wordAmong ws f ≡ some w → f ≡ spelling w
+unfolding wordAmong
+word-spelled [] f w q = absurd (none-some q)
+word-spelled (v ∷ ws) f w q = spelled-at (sameBytes (spelling v) f) v w f (wordAmong ws f) refl (word-spelled ws f w) q
+
+pub word-no-number : (line : List ℕ) {f : List ℕ} {fs : List (List ℕ)} {w : MeantWord} → fieldsOf line ≡ f ∷ fs → wordAmong words f ≡ some w → number line ≡ none
+unfolding numbersOf consNumber onlyOne
+word-no-number line {f} {fs} {w} q is = number-alone line ∙ rw (q, word-spelled words f w is, spelling-no-number w)

@@ -9,7 +9,7 @@ use native.Mathlib.Decide.{decLt}
 use native.Mathlib.Omega.{arith}
 use borrow.Author.Tests.{le-leb, lt-leb, ne-eqb, leb-true, ltb-true, ltb-false, eqb-true, eqb-false}
 use lib.Dec.{leb, ltb, eqb}
-use lib.IntN.{ℤ, pos, negℤ, natAbs, _-ℤ_, +ℤ-idl}
+use lib.IntN.{ℤ, pos, negsuc, negℤ, natAbs, _-ℤ_, +ℤ-idl}
 use lib.ListN.{length, getD, drop, length-drop}
 use mir.Syntax.{w64}
 use mir.Val.{SFits, toZ, ofZ}
@@ -280,30 +280,10 @@ tab-number-at false true x xs z m h =
     let e = eqb-true x 45 m in let later = rw e at h in rw e (number-minus-is xs ∙ tab-sized xs _ (omega arith))
 tab-number-at false false x xs z m h = number-plain-at false x xs (eqb-false x 48 z) (eqb-false x 45 m) ∙ tab-sized (x ∷ xs) pos h
 
-tab-number : (xs : List ℕ) → indexOf 9 xs < length xs → number xs ≡ none
+pub tab-number : (xs : List ℕ) → indexOf 9 xs < length xs → number xs ≡ none
 unfolding number
 tab-number [] h = refl
 tab-number (x ∷ xs) h = tab-number-at _ _ x xs refl refl h
-
--- ---- the number that all of some bytes spell
-
-module _ (line : List ℕ) (at : ℕ) {r : Number} (read : NumberRead line at r) where
-  whole-none-at : (has-tab : Bool) → ltb (indexOf 9 (drop at line)) (length (drop at line)) ≡ has-tab → r ≡ NoNumber → number (drop at line) ≡ none
-  whole-none-at true p q = tab-number (drop at line) (ltb-true _ _ p)
-  whole-none-at false p q = ap number (sym (field-whole line at (ltb-false _ _ p))) ∙ number-is-none line at read q
-
-  pub whole-none : r ≡ NoNumber → number (drop at line) ≡ none
-  whole-none q = whole-none-at _ refl q
-
-  module _ {z : ℤ} {end : ℕ} (q : r ≡ Of z end) where
-    pub whole-tab : end < length line → number (drop at line) ≡ none
-    whole-tab h = tab-number (drop at line) (omega (arith, number-ends line at read q .is, length-drop at line))
-
-    pub whole-number : length line ≤ end → number (drop at line) ≡ some z
-    whole-number h =
-        let found = number-ends line at read q in
-        let all : fieldAt line at ≡ drop at line = field-whole line at (omega (arith, found .is, found .low, length-drop at line)) in
-        ap number (sym all) ∙ number-is line at read q
 
 -- ---- no number is larger than the limit
 
@@ -334,3 +314,8 @@ number-small (x ∷ xs) {z} q =
     let minus : ℕ → ℤ = λ n. negℤ (pos n) in
     signed-small (sameBytes (x ∷ xs) (48 ∷ [])) (eqb x 45) (sized xs minus) (sized (x ∷ xs) pos) z
     (sized-small xs minus z minus-size) (sized-small (x ∷ xs) pos z (λ n. refl)) q
+
+-- so that each fits a machine word
+pub small-fits : (z : ℤ) → natAbs z ≤ largest → SFits w64 z
+small-fits (pos n) h = record { sfits = omega arith }
+small-fits (negsuc n) h = record { sfits = omega arith }

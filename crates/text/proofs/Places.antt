@@ -160,7 +160,7 @@ module _ (separator : ℕ) (xs : List ℕ) where
   parts-none place h = simp (le-ltb place (length xs) h)
 
   -- where a byte, the separator, stands at the end of a part, a part follows
-  parts-more : (place : ℕ) → place < length xs → partsAfter separator xs place ≡ split separator (drop (place + 1) xs)
+  pub parts-more : (place : ℕ) → place < length xs → partsAfter separator xs place ≡ split separator (drop (place + 1) xs)
   unfolding partsAfter
   parts-more place h = rw (add-one) (simp (lt-ltb place (length xs) h))
 
@@ -171,6 +171,15 @@ fields-from line at = split-index 9 (drop at line)
 
 pub fields-found : (line : List ℕ) {at place : ℕ} → Found 9 line at place → split 9 (drop at line) ≡ fieldAt line at ∷ partsAfter 9 line place
 fields-found line {at} found = parts-from 9 line found ∙ rw (field-found line at found)
+
+-- bytes with a tab are two fields at least, bytes without one are one
+pub fields-two : (xs : List ℕ) → indexOf 9 xs < length xs → (g : List ℕ) × (gs : List (List ℕ)) × (split 9 xs ≡ fieldAt xs 0 ∷ g ∷ gs)
+fields-two xs h =
+    let left = drop (suc (indexOf 9 xs)) xs in
+    (fieldAt left 0, partsAfter 9 left (indexOf 9 left), fields-from xs 0 ∙ rw (parts-more 9 xs (indexOf 9 xs) h, add-one) (ap (λ (gs : List (List ℕ)). fieldAt xs 0 ∷ gs) (fields-from left 0)))
+
+pub fields-one : (xs : List ℕ) → length xs ≤ indexOf 9 xs → split 9 xs ≡ xs ∷ []
+fields-one xs h = fields-from xs 0 ∙ rw (parts-none 9 xs (indexOf 9 xs) h, field-whole xs 0 h)
 
 -- the fields after one that ends at a tab: the next, and those after it
 module _ (line : List ℕ) (place : ℕ) (h : place < length line) where

@@ -1,5 +1,5 @@
--- Laws of a number at a place in a text, one for each way out of `number_at` and `number_of`: the bytes are the text's, the number that of
--- the field.
+-- Laws of a number at a place in a text, one for each way out of `number_at`: the bytes are the text's, the number that of the field. Then what
+-- an answer of `number_of` tells.
 use mathlib.Core.Path.{_≡_, sym, _∙_}
 use mathlib.Core.List.{List}
 use mathlib.Core.Logic.{_⊎_}
@@ -21,7 +21,7 @@ use Rattle.text.specs.Number.{SizeRead, NumberRead, WholeRead}
 use Rattle.text.specs.Place.{endOf, upTo, lineAt, Found}
 use Rattle.text.proofs.Places.{field-more, found-byte}
 use Rattle.text.proofs.Ends.{InLine, place-inside, cut-length, cut-byte, before-end, end-here, place-next, place-later, same-line, field-ends, line-cut}
-use Rattle.text.proofs.Numbers.{zero-number, zero-none, minus-none, minus-number, plain-none, plain-number, number-ends, whole-none, whole-tab, whole-number}
+use Rattle.text.proofs.Numbers.{zero-number, zero-none, minus-none, minus-number, plain-none, plain-number}
 
 module _ {text : List ℕ} {at end : ℕ} (l : InLine text at end) where
   -- a byte of the text that stands in the line is the same byte of the line
@@ -74,37 +74,6 @@ module _ {text : List ℕ} {at end : ℕ} (l : InLine text at end) where
 
     pub reads-plain : {n place : ℕ} → r ≡ Small n place → NumberRead (take end text) at (Of (toZ w64 (ofZ w64 (pos n))) place)
     reads-plain = plain-number (take end text) at (other 48 no-zero) (other 45 no-minus) read
-
--- ---- the number of a whole line
-
-module _ {text : List ℕ} {at : ℕ} (l : InLine text at (endOf text at)) {r : Number} (read : NumberRead (upTo text at) at r) where
-  pub reads-no-line : r ≡ NoNumber → WholeRead text at NoNumber
-  unfolding WholeRead
-  reads-no-line q = none-refused 3 (rw (line-cut text at) (whole-none (upTo text at) at read q))
-
-  module _ {z : ℤ} {place : ℕ} (q : r ≡ Of z place) where
-    -- the place where the field ends is in the line
-    pub field-place : InLine text place (endOf text at)
-    field-place =
-        let found = number-ends (upTo text at) at read q in
-        place-later l (found .low) (omega (arith, cut-length l, found .high))
-
-    pub reads-fields : getD text place 0 ≡ 9 → WholeRead text at NoNumber
-    unfolding WholeRead
-    reads-fields tab =
-        let h = before-end field-place (λ e. omega arith) in
-        none-refused 3 (rw (line-cut text at) (whole-tab (upTo text at) at read q (omega (arith, cut-length l, h))))
-
-    pub reads-line : (getD text place 0 ≡ 9 → ⊥) → WholeRead text at (Of z place)
-    unfolding WholeRead
-    reads-line no-tab =
-        let found = number-ends (upTo text at) at read q in
-        let last : endOf text at ≤ place = elim (decLt place (endOf text at)) [
-          | yes h ↦ absurd (no-tab (sym (cut-byte field-place h) ∙ found-byte found (omega (arith, cut-length l))))
-          | no h ↦ omega arith
-        ] in
-        let e : place ≡ endOf text at = omega (arith, last, field-place .found .low) in
-        (rw (line-cut text at) (whole-number (upTo text at) at read q (omega (arith, cut-length l, last))), rw e (l .found))
 
 -- what `number_of` answered
 module _ (text : List ℕ) (at : ℕ) {r : Number} (read : WholeRead text at r) where

@@ -182,7 +182,7 @@ module _ {text : List ℕ} {at end : ℕ} (w : Word) {i : ℕ} (s : Spelling tex
 
 -- ---- the word among all words
 
-same-spelled : (xs ys : List ℕ) → sameBytes xs ys ≡ true → xs ≡ ys
+pub same-spelled : (xs ys : List ℕ) → sameBytes xs ys ≡ true → xs ≡ ys
 unfolding sameBytes
 same-spelled [] [] q = refl
 same-spelled [] (y ∷ ys) q = let z : _≡_ {A = ℕ} 0 1 = cc in absurd (omega arith)

@@ -7,11 +7,15 @@ use mathlib.Core.Option.{Option, none, some}
 use lib.IntN.{ℤ}
 use lib.ListN.{length, take, drop}
 use Rattle.meaning.specs.Text.{fieldsOf, number}
-use Rattle.meaning.specs.Line.{words, wordAmong, lineOf}
-use Rattle.meaning.specs.Line.{Line as Meant}
+use Rattle.meaning.specs.Line.{words, wordAmong, numbersOf, assemble, lineOf}
+use Rattle.meaning.specs.Line.{Word as MeantWord, Line as Meant}
 use Rattle.meaning.specs.Refusal.{Result, value, refusedBy, orRefused}
 use Rattle.text.specs.Word.{wordOf}
-use Rattle.text.specs.Place.{endOf}
+use Rattle.text.specs.Place.{endOf, lineAt, fieldsFrom}
+use Rattle.text.specs.declared.Counted.{Counted}
+use Rattle.text.specs.declared.Counted.the-variants.{Numbers, NoNumbers}
+use Rattle.text.specs.declared.Fields.{Fields}
+use Rattle.text.specs.declared.Fields.the-variants.{Worded, Alone, NoFields}
 use Rattle.text.specs.declared.Parsed.{Parsed}
 use Rattle.text.specs.declared.Parsed.the-variants.{Line, NoLine}
 
@@ -35,28 +39,46 @@ mostNumbers = 33
 
 -- ---- the numbers that are left
 
-unfoldable pub ifSome : {A : Type 0} → Option A → (A → List ℤ) → List ℤ
-ifSome none f = []
-ifSome (some x) f = f x
+unfoldable pub ifSome : {A : Type 0} {B : Type 0} → Option A → B → (A → B) → B
+ifSome none b f = b
+ifSome (some x) b f = f x
 
 -- the numbers that fields spell, up to the first field that spells none
 unfoldable pub leadingNumbers : List (List ℕ) → List ℤ
 leadingNumbers [] = []
-leadingNumbers (f ∷ fs) = ifSome (number f) (λ n. n ∷ leadingNumbers fs)
+leadingNumbers (f ∷ fs) = ifSome (number f) [] (λ n. n ∷ leadingNumbers fs)
 
--- those after the first field, as many as a line can have; none where that field is no word
-unfoldable pub leadingOfFields : List (List ℕ) → List ℤ
-leadingOfFields [] = []
-leadingOfFields (f ∷ fs) = ifSome (wordAmong words f) (λ _. take mostNumbers (leadingNumbers fs))
+-- the fields of a line that may be numbers: all but a word that stands first
+unfoldable pub afterWord : List (List ℕ) → List (List ℕ)
+afterWord [] = []
+afterWord (f ∷ fs) = ifSome (wordAmong words f) (f ∷ fs) (λ _. fs)
 
 -- the numbers that reading a line writes, whether it spells a line or is refused
 unfoldable pub leading : List ℕ → List ℤ
-leading line = leadingOfFields (fieldsOf line)
+leading line = leadingNumbers (afterWord (fieldsOf line))
 
--- the answer, with the numbers as they were left, is the line that the bytes spell; the leading numbers stand first, and what comes
--- after them is unchanged
+-- the leading numbers, as many as a line can have, stand first, and what comes after them is as it was before
+pub record Stored (ns before after : List ℤ) : Type 0 where
+  pub stand : after ≡ take mostNumbers ns ++ drop (length (take mostNumbers ns)) before
+  pub kept : length after ≡ length before
+
+-- ---- what is told of fields
+
+-- the numbers of the fields from `from` on, and where the line ends; or no word has such numbers
+unfoldable pub NumbersTold : List ℕ → ℕ → List ℤ → Counted → Type 0
+NumbersTold line from after (Numbers count end) = (numbersOf (fieldsFrom line from) ≡ some (take count after)) × (count ≤ mostNumbers) × (end ≡ length line)
+NumbersTold line from after NoNumbers = (w : MeantWord) → assemble (some w) (numbersOf (fieldsFrom line from)) ≡ none
+
+-- the word and the numbers of the line at `at`, or its numbers alone, and where it ends; or it is no line and no number
+unfoldable pub FieldsTold : List ℕ → ℕ → List ℤ → Fields → Type 0
+FieldsTold text at after (Worded w count end) = (lineOf (lineAt text at) ≡ assemble (some (wordOf w)) (some (take count after)))
+    × (number (lineAt text at) ≡ none) × (count ≤ mostNumbers) × (end ≡ endOf text at)
+FieldsTold text at after (Alone count end) = (lineOf (lineAt text at) ≡ none) × (numbersOf (fieldsOf (lineAt text at)) ≡ some (take count after))
+    × (count ≤ mostNumbers) × (end ≡ endOf text at)
+FieldsTold text at after NoFields = (lineOf (lineAt text at) ≡ none) × (number (lineAt text at) ≡ none)
+
+-- the answer, with the numbers as they were left, is the line that the bytes spell
 pub record LineRead (line : List ℕ) (before after : List ℤ) (r : Parsed) : Type 0 where
   pub seen : parsedSeen r after ≡ orRefused 3 (lineOf line)
   pub most : countSeen r ≤ mostNumbers
-  pub left : after ≡ leading line ++ drop (length (leading line)) before
-  pub kept : length after ≡ length before
+  pub left : Stored (leading line) before after

@@ -5,7 +5,7 @@ use mathlib.Core.Bool.{cond}
 use mathlib.Core.List.{List, [], _∷_}
 use lib.Dec.{eqb}
 use lib.ListN.{length, take, drop}
-use Rattle.meaning.specs.Text.{linesOf}
+use Rattle.meaning.specs.Text.{linesOf, fieldsOf}
 
 -- how many bytes stand before the first that equals separator: all, where there is none
 unfoldable pub indexOf : (separator : ℕ) → List ℕ → ℕ
@@ -33,6 +33,10 @@ lineAt text at = let left = drop at text in take (indexOf 10 left) left
 -- the field that starts at `at`: the bytes up to the first tab, or to the end
 unfoldable pub fieldAt : List ℕ → ℕ → List ℕ
 fieldAt line at = let left = drop at line in take (indexOf 9 left) left
+
+-- the fields of the line from `at` on
+abbrev pub fieldsFrom : List ℕ → ℕ → List (List ℕ)
+fieldsFrom line at = fieldsOf (drop at line)
 
 -- the lines of the text from `at` on
 abbrev pub linesFrom : List ℕ → ℕ → List (List ℕ)

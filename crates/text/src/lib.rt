@@ -11,8 +11,8 @@ ghost use Rattle.meaning.specs.Text.{sameBytes, isEnded, isDigit};
 ghost use Rattle.meaning.specs.Line.{isCount, spelling};
 ghost use Rattle.text.specs.Number.{SizeRead, NumberRead, WholeRead};
 ghost use Rattle.text.specs.Word.{wordOf, WordRead, OnlyWord, Spells};
-ghost use Rattle.text.specs.Place.{Found, upTo, lineAt};
-ghost use Rattle.text.specs.Parsed.{LineRead, NextAfter, mostNumbers};
+ghost use Rattle.text.specs.Place.{Found, upTo, lineAt, fieldsFrom};
+ghost use Rattle.text.specs.Parsed.{LineRead, NextAfter, NumbersTold, FieldsTold, Stored, leadingNumbers, leading, mostNumbers};
 
 // Bytes with a meaning of their own.
 const TAB: u8 = 9;
@@ -117,7 +117,7 @@ fn size_from(text: &[u8], at: usize) -> Size
 
 // The number that the field at `at` spells. A zero is one where its field ends just after it. Otherwise `from` is where the digits
 // start, and so tells the sign. One call reads them with either sign: with two this function is too large for the compiler to put it
-// into the loop of `line_of`, and each number pays for a call.
+// into the loop over the numbers, and each number pays for a call.
 fn number_at(text: &[u8], at: usize) -> Number
     requires { ⌜ (isEnded (now text) ≡ true) × (at < length (now text)) ⌝ }
     ensures { λ r. ⌜ NumberRead (upTo (now (text .entry)) at) at r ⌝ }
@@ -141,20 +141,6 @@ fn number_at(text: &[u8], at: usize) -> Number
         return Number::Of(n as i64, end);
     }
     Number::Of(-(n as i64), end)
-}
-
-// The number that the whole line at `at` spells, and the place where the line ends. With a tab it has more than one field, and is no number.
-pub fn number_of(text: &[u8], at: usize) -> Number
-    requires { ⌜ (isEnded (now text) ≡ true) × (at < length (now text)) ⌝ }
-    ensures { λ r. ⌜ WholeRead (now (text .entry)) at r ⌝ }
-{
-    let Number::Of(n, end) = number_at(text, at) else {
-        return Number::NoNumber;
-    };
-    if text[end] == TAB {
-        return Number::NoNumber;
-    }
-    Number::Of(n, end)
 }
 
 // ---- words
@@ -321,37 +307,106 @@ pub fn is_ended(text: &[u8]) -> bool
 
 // ---- lines
 
+// How many numbers fields spell, and where their line ends.
+enum Counted {
+    Numbers(usize, usize),
+    NoNumbers,
+}
+
+// The fields of a line: a word and so many numbers, or so many numbers alone, and where the line ends.
+enum Fields {
+    Worded(Word, usize, usize),
+    Alone(usize, usize),
+    NoFields,
+}
+
 // A line's word, how many numbers follow it, and where the next line starts.
 pub enum Parsed {
     Line(Word, usize, usize),
     NoLine,
 }
 
-// The line at `at`: its numbers are then the first in `numbers`. Where the bytes spell no line, `numbers` begins with those that were read
-// before that was seen. `end` is where the last field that was read ends: a tab, and then a field follows, or the line's end.
+// The numbers that the fields from the one at `from` up to the line's end spell: they are then the first in `numbers`. Where they spell none,
+// or are more than a line can have, `numbers` begins with those that were read before that was seen.
+fn numbers_from(text: &[u8], from: usize, numbers: &mut [i64]) -> Counted
+    requires { ⌜ (isEnded (now text) ≡ true) × (from < length (now text)) × (length (now numbers) ≡ mostNumbers) ⌝ }
+    ensures told { λ r. ⌜ NumbersTold (upTo (now (text .entry)) from) from (now (numbers .exit)) r ⌝ }
+    ensures left { λ _. ⌜ Stored (leadingNumbers (fieldsFrom (upTo (now (text .entry)) from) from)) (now (numbers .entry)) (now (numbers .exit)) ⌝ }
+{
+    let mut at = from;
+    let mut count: usize = 0;
+    while count < MOST_NUMBERS {
+        let Number::Of(n, end) = number_at(text, at) else {
+            return Counted::NoNumbers;
+        };
+        numbers[count] = n;
+        count += 1;
+        if text[end] != TAB {
+            return Counted::Numbers(count, end);
+        }
+        at = end + 1;
+    }
+    Counted::NoNumbers
+}
+
+// The fields of the line at `at`, whose numbers are then the first in `numbers`. Lines and inputs are both read here: as `number_at` and
+// `numbers_from` are called at one place alone, the compiler puts all of them into this function, and a line costs one call.
+fn fields_of(text: &[u8], at: usize, numbers: &mut [i64]) -> Fields
+    requires { ⌜ (isEnded (now text) ≡ true) × (at < length (now text)) × (length (now numbers) ≡ mostNumbers) ⌝ }
+    ensures told { λ r. ⌜ FieldsTold (now (text .entry)) at (now (numbers .exit)) r ⌝ }
+    ensures left { λ _. ⌜ Stored (leading (lineAt (now (text .entry)) at)) (now (numbers .entry)) (now (numbers .exit)) ⌝ }
+{
+    let spelled = word_at(text, at);
+    let mut from = at;
+    if let Spelled::Known(word, end) = spelled {
+        if text[end] != TAB {
+            return Fields::Worded(word, 0, end);
+        }
+        from = end + 1;
+    }
+    let Counted::Numbers(count, end) = numbers_from(text, from, numbers) else {
+        return Fields::NoFields;
+    };
+    match spelled {
+        Spelled::Known(word, _) => Fields::Worded(word, count, end),
+        Spelled::NoWord => Fields::Alone(count, end),
+    }
+}
+
+// The line at `at`: its numbers are then the first in `numbers`.
 pub fn line_of(text: &[u8], at: usize, numbers: &mut [i64]) -> Parsed
     requires { ⌜ (isEnded (now text) ≡ true) × (at < length (now text)) × (length (now numbers) ≡ mostNumbers) ⌝ }
     ensures read { λ r. ⌜ LineRead (lineAt (now (text .entry)) at) (now (numbers .entry)) (now (numbers .exit)) r ⌝ }
     ensures next { λ r. ⌜ NextAfter (now (text .entry)) at r ⌝ }
 {
-    let Spelled::Known(word, first) = word_at(text, at) else {
-        return Parsed::NoLine;
-    };
-    let mut end = first;
-    let mut count: usize = 0;
-    while text[end] == TAB {
-        if MOST_NUMBERS <= count {
-            return Parsed::NoLine;
+    let fields = fields_of(text, at, numbers);
+    match fields {
+        Fields::Worded(word, count, end) => {
+            if is_count(word, count) {
+                return Parsed::Line(word, count, end + 1);
+            }
+            Parsed::NoLine
         }
-        let Number::Of(n, place) = number_at(text, end + 1) else {
-            return Parsed::NoLine;
-        };
-        end = place;
-        numbers[count] = n;
-        count += 1;
+        Fields::Alone(_, _) => Parsed::NoLine,
+        Fields::NoFields => Parsed::NoLine,
     }
-    if is_count(word, count) {
-        return Parsed::Line(word, count, end + 1);
+}
+
+// The number that the whole line at `at` spells, and the place where the line ends.
+pub fn number_of(text: &[u8], at: usize) -> Number
+    requires { ⌜ (isEnded (now text) ≡ true) × (at < length (now text)) ⌝ }
+    ensures { λ r. ⌜ WholeRead (now (text .entry)) at r ⌝ }
+{
+    let mut numbers: [i64; 33] = [0; 33];
+    let fields = fields_of(text, at, &mut numbers);
+    match fields {
+        Fields::Alone(count, end) => {
+            if count == 1 {
+                return Number::Of(numbers[0], end);
+            }
+            Number::NoNumber
+        }
+        Fields::Worded(_, _, _) => Number::NoNumber,
+        Fields::NoFields => Number::NoNumber,
     }
-    Parsed::NoLine
 }

@@ -1,271 +1,95 @@
--- The fields up to `end` gave the word and the first `count` numbers: with the fields that are left they say what the whole line says.
--- The numbers after these are as they were.
-use mathlib.Core.Path.{_≡_, sym, ap, _∙_}
-use Prim.Native.Nat.{_≤_, _<_, _+_, _-_}
-use mir.Syntax.{w64}
-use mir.ValLaws.{toZ-ofZ}
-use lib.ListN.{length, getD, take, drop}
-use Rattle.meaning.specs.Line.{lineOf}
-use Rattle.meaning.proofs.Results.{none-refused, some-value}
-use Rattle.text.specs.Number.{NumberRead}
-use Rattle.text.specs.Parsed.{parsedSeen, countSeen, LineRead, NextAfter, mostNumbers}
-use Rattle.text.specs.Place.{endOf, upTo, lineAt}
-use Rattle.text.proofs.Places.{partsAfter}
-use Rattle.text.proofs.Ends.{InLine, in-line, place-inside, cut-length, before-end, place-next, place-later, same-line, stops-at, line-cut}
-use Rattle.text.proofs.Numbers.{number-ends}
-use Rattle.text.proofs.Lines.{lineAfter, no-word, some-word, word-ends, line-no-word, line-word, line-full, line-no-number, line-number, line-is, line-wrong-count}
-use Rattle.text.proofs.Storing.{Storing, stored-no-word, storing-start, storing-turn, stored-full, stored-no-field, stored-no-number}
-use borrow.Author.Needs.{needs}
-use native.Mathlib.Decide.{decLt}
+-- A line is a word with numbers, as many as belong to it: each way out is one law of `LineFields`.
 use native.Mathlib.Omega.{arith}
+use Rattle.text.specs.Parsed.{FieldsTold}
+use Rattle.text.proofs.Ends.{in-line}
+use Rattle.text.proofs.LineFields.{reads-no-line, reads-line, reads-wrong-count}
+use borrow.Author.Needs.{needs}
 use Rattle.text.proofs.line_of.Statement.{statement}
 use Rattle.text.proofs.line_of.Tie as tie
 
-abbrev Inv-loop : tie.InvT-loop
-Inv-loop text at numbers₀ word first end₀ count₀ numbers end count =
-    InLine text end (endOf text at) × (end < endOf text at → getD text end 0 ≡ 9) × (count ≤ mostNumbers) × (length numbers ≡ mostNumbers)
-    × (lineOf (drop at (upTo text at)) ≡ lineAfter word (take count numbers) (partsAfter 9 (upTo text at) end))
-    × Storing (upTo text at) at numbers₀ numbers end count
+fields-of-requires : tie.Need-fields-of-requires
+fields-of-requires c κs = search needs
 
-abbrev μ-loop : tie.MeasureT-loop
-μ-loop text at numbers₀ word first end₀ count₀ numbers end count = endOf text at - end
+enum-known-fields : tie.Need-enum-known-fields
+enum-known-fields c = search needs
 
-line : (c : tie.Start Inv-loop μ-loop) → InLine (c .args .text .now) (c .args .at) (endOf (c .args .text .now) (c .args .at))
-line c = in-line (c .args .text .now) (c .pre .0) (c .args .at) (c .pre .1)
-
-word-at-requires : tie.Need-word-at-requires Inv-loop μ-loop
-word-at-requires c κs = search needs
-
-enum-known-word : tie.Need-enum-known-word Inv-loop μ-loop
-enum-known-word c = search needs
-
-enum-told : tie.Need-enum-told Inv-loop μ-loop
-enum-told c = search needs
-
-returns : tie.Need-returns Inv-loop μ-loop
-unfolding parsedSeen countSeen NextAfter
-returns c =
-    let at-word = c .before .before in
-    let s = at-word .before .before .args in
-    let read = at-word .word-at .ensures in
-    let e = line-cut (s .text .now) (s .at) in (
-      record {
-        seen = rw e (sym (none-refused 3 (line-no-word _ _ read (c .enum-told .given .1))));
-        most = search needs;
-        left = rw e (stored-no-word _ _ _ (no-word _ _ read (c .enum-told .given .1)));
-        kept = search needs;
-      },
-      tt,
-    )
-
-loop-holds : tie.Need-loop-holds Inv-loop μ-loop
-loop-holds c =
-    let at-word = c .before .before .before in
-    let start = at-word .before .before in
-    let l = line start in
-    let read = at-word .word-at .ensures in
-    let q = c .before .word .given .1 in
-    let found = word-ends _ _ read q in
-    let place = place-later l (found .low) (omega (arith, cut-length l, found .high)) in (
-      place,
-      stops-at place found,
-      search needs,
-      search needs,
-      line-word _ _ read q,
-      storing-start _ _ _ found (some-word _ _ read q),
-    )
-
-shared-slice-read-if1 : tie.Need-shared-slice-read-if1 Inv-loop μ-loop
-shared-slice-read-if1 c = omega (arith, place-inside (c .before .loop .inv .0))
-
--- a tab at `end`: the line goes on
-goes-on : (c : tie.Then1 Inv-loop μ-loop) → let s = c .before .before .before .before .before .before .before .before .args in
-    c .before .before .loop .end < endOf (s .text .now) (s .at)
-goes-on c = before-end (c .before .before .loop .inv .0) (λ e. omega (arith, c .if1 .taken))
-
-inside : (c : tie.Then1 Inv-loop μ-loop) → let s = c .before .before .before .before .before .before .before .before .args in
-    c .before .before .loop .end < length (upTo (s .text .now) (s .at))
-inside c = omega (arith, goes-on c, cut-length (c .before .before .loop .inv .0))
-
-next-place : (c : tie.Then1 Inv-loop μ-loop) → let s = c .before .before .before .before .before .before .before .before .args in
-    InLine (s .text .now) (c .before .before .loop .end + 1) (endOf (s .text .now) (s .at))
-next-place c = place-next (c .before .before .loop .inv .0) (λ e. omega (arith, c .if1 .taken))
-
--- no tab there: it is the line's end
-ends : (c : tie.Else1 Inv-loop μ-loop) → let s = c .before .before .before .before .before .before .before .before .args in
-    endOf (s .text .now) (s .at) ≤ c .before .before .loop .end
-ends c =
-    let s = c .before .before .before .before .before .before .before .before .args in
-    let now = c .before .before .loop in
-    elim (decLt (now .end) (endOf (s .text .now) (s .at))) [ yes h ↦ absurd (c .if1 .left (now .inv .1 h)) | no h ↦ omega arith ]
-
-no-field : (c : tie.Else1 Inv-loop μ-loop) → let s = c .before .before .before .before .before .before .before .before .args in
-    length (upTo (s .text .now) (s .at)) ≤ c .before .before .loop .end
-no-field c = omega (arith, ends c, cut-length (c .before .before .loop .inv .0))
-
-same-length : tie.Need-same-length Inv-loop μ-loop
-same-length c = search needs
-
-returns-2 : tie.Need-returns-2 Inv-loop μ-loop
-unfolding parsedSeen countSeen NextAfter
-returns-2 c =
-    let now = c .before .before .before .loop in
-    let s = c .before .before .before .before .before .before .before .before .before .args in
-    let e = line-cut (s .text .now) (s .at) in (
-      record {
-        seen = rw e (sym (none-refused 3 (now .inv .4 ∙ line-full (upTo (s .text .now) (s .at)) _ _ _ _ (now .inv .3) (now .inv .2) (inside (c .before)) (c .if2 .taken))));
-        most = search needs;
-        left = rw e (stored-full _ _ _ _ _ _ (now .inv .5) (now .inv .3) (now .inv .2) (c .if2 .taken));
-        kept = search needs;
-      },
-      tt,
-    )
-
-add-number-at : tie.Need-add-number-at Inv-loop μ-loop
-add-number-at c = omega (arith, place-inside (c .before .before .before .loop .inv .0))
-
-number-at-requires : tie.Need-number-at-requires Inv-loop μ-loop
-number-at-requires c κs =
-    (c .before .before .before .before .before .before .before .before .before .pre .0, omega (arith, place-inside (next-place (c .before))))
-
--- what `number_at` answered, in the line
-number : (c : tie.After-number-at Inv-loop μ-loop) → let s = c .before .before .before .before .before .before .before .before .before .before .args in
-    NumberRead (upTo (s .text .now) (s .at)) (c .before .before .before .before .loop .end + 1) (c .number-at .result)
-number c = rw (same-line (next-place (c .before .before))) at (c .number-at .ensures)
-
-enum-known-n : tie.Need-enum-known-n Inv-loop μ-loop
-enum-known-n c = search needs
-
-enum-told-2 : tie.Need-enum-told-2 Inv-loop μ-loop
-enum-told-2 c = search needs
-
-same-length-2 : tie.Need-same-length-2 Inv-loop μ-loop
-same-length-2 c = search needs
-
-returns-3 : tie.Need-returns-3 Inv-loop μ-loop
-unfolding parsedSeen countSeen NextAfter
-returns-3 c =
-    let at-number-at = c .before .before in
-    let at-if1 = at-number-at .before .before in
-    let now = at-if1 .before .before .loop in
-    let s = at-if1 .before .before .before .before .before .before .before .before .args in
-    let e = line-cut (s .text .now) (s .at) in (
-      record {
-        seen = rw e (sym (none-refused 3 (now .inv .4 ∙ line-no-number (upTo (s .text .now) (s .at)) _ _ (inside at-if1) (number at-number-at) _ (c .enum-told2 .given .1))));
-        most = search needs;
-        left = rw e (stored-no-number _ _ _ _ _ _ (now .inv .5) (now .inv .3) (now .inv .2) (inside at-if1) (number at-number-at) (c .enum-told2 .given .1));
-        kept = search needs;
-      },
-      tt,
-    )
-
-mul-n : tie.Need-mul-n Inv-loop μ-loop
-mul-n c = search needs
-
-slice-set-from-n : tie.Need-slice-set-from-n Inv-loop μ-loop
-slice-set-from-n c = search needs
-
-add-count : tie.Need-add-count Inv-loop μ-loop
-add-count c = search needs
-
-loop-less : tie.Need-loop-less Inv-loop μ-loop
-loop-less c =
-    let at-number-at = c .before .before .before in
-    let found = number-ends _ _ (number at-number-at) (c .before .n .given .1) in
-    omega (arith, found .low, goes-on (at-number-at .before .before))
-
-loop-again : tie.Need-loop-again Inv-loop μ-loop
-loop-again c =
-    let at-number-at = c .before .before .before in
-    let at-if1 = at-number-at .before .before in
-    let now = at-if1 .before .before .loop in
-    let s = at-if1 .before .before .before .before .before .before .before .before .args in
-    let q = c .before .n .given .1 in
-    let found = number-ends _ _ (number at-number-at) q in
-    let l = next-place at-if1 in
-    let place = place-later l (found .low) (omega (arith, cut-length l, found .high)) in (
-      place,
-      stops-at place found,
-      search needs,
-      search needs,
-      rw (toZ-ofZ w64 (c .before .n .given .0 .0) (search needs))
-          (now .inv .4 ∙ line-number (upTo (s .text .now) (s .at)) _ _ (inside at-if1) (number at-number-at) (now .numbers) (now .count) q (search needs)),
-      rw (toZ-ofZ w64 (c .before .n .given .0 .0) (search needs))
-          (storing-turn _ _ _ _ _ _ (now .inv .5) (now .inv .3) (inside at-if1) (number at-number-at) q (search needs)),
-    )
-
-is-count-requires : tie.Need-is-count-requires Inv-loop μ-loop
+is-count-requires : tie.Need-is-count-requires
 is-count-requires c κs = search needs
 
-add-t18 : tie.Need-add-t18 Inv-loop μ-loop
-add-t18 c = omega (arith, place-inside (c .before .before .before .before .loop .inv .0))
+add-t12 : tie.Need-add-t12
+unfolding FieldsTold
+add-t12 c =
+    let at-told = c .before .before in
+    let at-fields = at-told .before .before .before .before in
+    let start = at-fields .before .before .before in
+    let told = rw (at-told .before .fields .given .1) at (at-fields .fields-of .ensures .0) in
+    omega (arith, told .3, in-line (start .args .text .now) (start .pre .0) (start .args .at) (start .pre .1) .inside)
 
-same-length-3 : tie.Need-same-length-3 Inv-loop μ-loop
+same-length : tie.Need-same-length
+same-length c = search needs
+
+returns : tie.Need-returns
+returns c =
+    let at-told = c .before .before in
+    let at-fields = at-told .before .before .before .before in
+    let start = at-fields .before .before .before in
+    let told = rw (at-told .before .fields .given .1) at (at-fields .fields-of .ensures .0) in
+    reads-line (start .args .text .now) (start .args .at) (at-fields .fields-of .ensures .1) _ _ _ (start .pre .2) told (c .before .is-count .ensures) (c .if1 .taken)
+
+enum-told : tie.Need-enum-told
+enum-told c = search needs
+
+enum-told-2 : tie.Need-enum-told-2
+enum-told-2 c = search needs
+
+same-length-2 : tie.Need-same-length-2
+same-length-2 c = search needs
+
+returns-2 : tie.Need-returns-2
+returns-2 c =
+    let at-told = c .before .before in
+    let at-fields = at-told .before .before .before .before in
+    let start = at-fields .before .before .before in
+    let told = rw (at-told .before .fields .given .1) at (at-fields .fields-of .ensures .0) in
+    reads-wrong-count (start .args .text .now) (start .args .at) (at-fields .fields-of .ensures .1) _ _ _ (start .pre .2) told (c .before .is-count .ensures) (c .if1 .left)
+
+same-length-3 : tie.Need-same-length-3
 same-length-3 c = search needs
 
-returns-4 : tie.Need-returns-4 Inv-loop μ-loop
-unfolding parsedSeen countSeen NextAfter
-returns-4 c =
-    let at-if1 = c .before .before in
-    let now = at-if1 .before .before .loop in
-    let s = at-if1 .before .before .before .before .before .before .before .before .args in
-    let e = line-cut (s .text .now) (s .at) in (
-      record {
-        seen = rw e (sym (some-value 3 (now .inv .4 ∙ line-is (upTo (s .text .now) (s .at)) _ _ _ _ (now .inv .3) (now .inv .2) (no-field at-if1) (c .before .is-count .ensures) (c .if3 .taken))));
-        most = search needs;
-        left = rw e (stored-no-field _ _ _ _ _ _ (now .inv .5) (now .inv .3) (now .inv .2) (no-field at-if1));
-        kept = search needs;
-      },
-      omega (arith, ends at-if1, now .inv .0 .found .low),
-    )
+returns-3 : tie.Need-returns-3
+unfolding FieldsTold
+returns-3 c =
+    let at-fields = c .before .before .before in
+    let start = at-fields .before .before .before in
+    let told = rw (c .enum-told .given .1) at (at-fields .fields-of .ensures .0) in
+    reads-no-line (start .args .text .now) (start .args .at) (at-fields .fields-of .ensures .1) (told .0)
 
-same-length-4 : tie.Need-same-length-4 Inv-loop μ-loop
+same-length-4 : tie.Need-same-length-4
 same-length-4 c = search needs
 
-returns-5 : tie.Need-returns-5 Inv-loop μ-loop
-unfolding parsedSeen countSeen NextAfter
-returns-5 c =
-    let at-if1 = c .before .before in
-    let now = at-if1 .before .before .loop in
-    let s = at-if1 .before .before .before .before .before .before .before .before .args in
-    let e = line-cut (s .text .now) (s .at) in (
-      record {
-        seen = rw e (sym (none-refused 3 (now .inv .4 ∙ line-wrong-count (upTo (s .text .now) (s .at)) _ _ _ _ (now .inv .3) (now .inv .2) (no-field at-if1) (c .before .is-count .ensures) (c .if3 .left))));
-        most = search needs;
-        left = rw e (stored-no-field _ _ _ _ _ _ (now .inv .5) (now .inv .3) (now .inv .2) (no-field at-if1));
-        kept = search needs;
-      },
-      tt,
-    )
+returns-4 : tie.Need-returns-4
+unfolding FieldsTold
+returns-4 c =
+    let at-fields = c .before .before .before in
+    let start = at-fields .before .before .before in
+    let told = rw (c .enum-told2 .given .1) at (at-fields .fields-of .ensures .0) in
+    reads-no-line (start .args .text .now) (start .args .at) (at-fields .fields-of .ensures .1) (told .0)
 
 pub line-of-spec : {M : Type 1} → statement M
 line-of-spec =
     tie.close
     (tie.spec
-    Inv-loop
-    μ-loop
-    word-at-requires
-    enum-known-word
-    enum-told
-    returns
-    loop-holds
-    shared-slice-read-if1
+    fields-of-requires
+    enum-known-fields
+    is-count-requires
+    add-t12
     same-length
-    returns-2
-    add-number-at
-    number-at-requires
-    enum-known-n
+    returns
+    enum-told
     enum-told-2
     same-length-2
-    returns-3
-    mul-n
-    slice-set-from-n
-    add-count
-    loop-less
-    loop-again
-    is-count-requires
-    add-t18
+    returns-2
     same-length-3
-    returns-4
+    returns-3
     same-length-4
-    returns-5)
+    returns-4)

@@ -1,47 +1,73 @@
--- Each way out is one law of `Signed`.
-use native.Mathlib.Omega.{arith}
-use mir.Syntax.{w64}
-use mir.ValLaws.{toZ-ofZ}
-use Rattle.text.specs.Place.{endOf}
-use Rattle.text.proofs.Ends.{InLine, in-line, place-inside}
-use Rattle.text.proofs.Signed.{reads-no-line, field-place, reads-fields, reads-line}
+-- A line that is one number: each way out is one law of `LineFields`.
+use Rattle.text.specs.Parsed.{FieldsTold}
+use Rattle.text.proofs.Ends.{in-line}
+use Rattle.text.proofs.LineFields.{reads-no-number, reads-many, reads-one}
 use borrow.Author.Needs.{needs}
 use Rattle.text.proofs.number_of.Statement.{statement}
 use Rattle.text.proofs.number_of.Tie as tie
 
-line : (c : tie.Start) → InLine (c .args .text .now) (c .args .at) (endOf (c .args .text .now) (c .args .at))
-line c = in-line (c .args .text .now) (c .pre .0) (c .args .at) (c .pre .1)
+slice-aggregate-fields-of : tie.Need-slice-aggregate-fields-of
+slice-aggregate-fields-of c = search needs
 
-number-at-requires : tie.Need-number-at-requires
-number-at-requires c κs = search needs
+fields-of-requires : tie.Need-fields-of-requires
+fields-of-requires c κs = search needs
 
-enum-known-n : tie.Need-enum-known-n
-enum-known-n c = search needs
+enum-known-fields : tie.Need-enum-known-fields
+enum-known-fields c = search needs
+
+array-copy-out-t13 : tie.Need-array-copy-out-t13
+array-copy-out-t13 c = search needs
+
+returns : tie.Need-returns
+returns c =
+    let at-told = c .before .before in
+    let at-fields = at-told .before .before .before .before in
+    let start = at-fields .before .before .before in
+    let told = rw (at-told .before .fields .given .1) at (at-fields .fields-of .ensures .0) in
+    reads-one (start .args .text .now) (start .args .at) _ _ _ told (at-fields .fields-of .ensures .1 .kept) (c .before .if1 .taken)
+    (in-line (start .args .text .now) (start .pre .0) (start .args .at) (start .pre .1))
 
 enum-told : tie.Need-enum-told
 enum-told c = search needs
 
-returns : tie.Need-returns
-returns c =
-    let at-number-at = c .before .before in
-    reads-no-line (line (at-number-at .before .before)) (at-number-at .number-at .ensures) (c .enum-told .given .1)
-
-shared-slice-read-if1 : tie.Need-shared-slice-read-if1
-shared-slice-read-if1 c =
-    let at-number-at = c .before .before .before .before in
-    omega (arith, place-inside (field-place (line (at-number-at .before .before)) (at-number-at .number-at .ensures) (c .before .before .n .given .1)))
+enum-told-2 : tie.Need-enum-told-2
+enum-told-2 c = search needs
 
 returns-2 : tie.Need-returns-2
 returns-2 c =
-    let at-number-at = c .before .before .before .before .before in
-    reads-fields (line (at-number-at .before .before)) (at-number-at .number-at .ensures) (c .before .before .before .n .given .1) (c .if1 .taken)
+    let at-told = c .before in
+    let at-fields = at-told .before .before .before .before in
+    let start = at-fields .before .before .before in
+    let told = rw (at-told .before .fields .given .1) at (at-fields .fields-of .ensures .0) in
+    reads-many (start .args .text .now) (start .args .at) _ _ _ told (at-fields .fields-of .ensures .1 .kept) (c .if1 .left)
 
 returns-3 : tie.Need-returns-3
+unfolding FieldsTold
 returns-3 c =
-    let at-number-at = c .before .before .before .before .before in
-    let n = c .before .before .before .n .given in
-    rw (toZ-ofZ w64 (n .0 .0) (search needs))
-    (reads-line (line (at-number-at .before .before)) (at-number-at .number-at .ensures) (n .1) (c .if1 .left))
+    let at-fields = c .before .before .before in
+    let start = at-fields .before .before .before in
+    let told = rw (c .enum-told .given .1) at (at-fields .fields-of .ensures .0) in
+    reads-no-number (start .args .text .now) (start .args .at) (told .1)
+
+returns-4 : tie.Need-returns-4
+unfolding FieldsTold
+returns-4 c =
+    let at-fields = c .before .before .before in
+    let start = at-fields .before .before .before in
+    let told = rw (c .enum-told2 .given .1) at (at-fields .fields-of .ensures .0) in
+    reads-no-number (start .args .text .now) (start .args .at) (told .1)
 
 pub number-of-spec : {M : Type 1} → statement M
-number-of-spec = tie.close (tie.spec number-at-requires enum-known-n enum-told returns shared-slice-read-if1 returns-2 returns-3)
+number-of-spec =
+    tie.close
+    (tie.spec
+    slice-aggregate-fields-of
+    fields-of-requires
+    enum-known-fields
+    array-copy-out-t13
+    returns
+    enum-told
+    enum-told-2
+    returns-2
+    returns-3
+    returns-4)

@@ -31,7 +31,7 @@ returns : tie.Need-returns
 unfolding firstSeen primeIn SecondLine
 returns c = (
   first-none (lineAt (now (c .before .before .before .before .before .before .args .list)) 0) (no-line-seen (c .before .before .before .line-of .ensures .0) (c .enum-told .given .1)),
-  (omega arith, (tt, c .before .before .before .line-of .ensures .0 .kept)),
+  (omega arith, (tt, c .before .before .before .line-of .ensures .0 .left .kept)),
 )
 
 is-field-requires : tie.Need-is-field-requires
@@ -44,7 +44,7 @@ returns-2 : tie.Need-returns-2
 unfolding firstSeen primeIn SecondLine
 returns-2 c = (
   first-not-field (lineAt (now (c .before .before .before .before .before .before .before .before .before .args .list)) 0) (c .before .before .before .before .before .before .line-of .ensures .0) (c .before .before .before .word .given .1) (c .before .before .before .before .before .before .before .before .before .pre .2) (sym (c .before .is-field .ensures) ∙ not-true _ (c .if1 .taken)),
-  (omega arith, (tt, c .before .before .before .before .before .before .line-of .ensures .0 .kept)),
+  (omega arith, (tt, c .before .before .before .before .before .before .line-of .ensures .0 .left .kept)),
 )
 
 slice-copy-out-n : tie.Need-slice-copy-out-n
@@ -57,7 +57,7 @@ returns-3 : tie.Need-returns-3
 unfolding firstSeen primeIn SecondLine
 returns-3 c = (
   first-negative (lineAt (now (c .before .before .before .before .before .before .before .before .before .before .before .args .list)) 0) (c .before .before .before .before .before .before .before .before .line-of .ensures .0) (c .before .before .before .before .before .word .given .1) (c .before .before .before .before .before .before .before .before .before .before .before .pre .2) (sym (c .before .before .before .is-field .ensures) ∙ not-false _ (c .before .before .if1 .left)) (c .if2 .taken),
-  (omega arith, (tt, c .before .before .before .before .before .before .before .before .line-of .ensures .0 .kept)),
+  (omega arith, (tt, c .before .before .before .before .before .before .before .before .line-of .ensures .0 .left .kept)),
 )
 
 cast-p : tie.Need-cast-p
@@ -78,7 +78,7 @@ returns-4 c =
     let number = first-number (lineAt (now (c .before .before .before .before .before .before .before .before .before .before .before .before .before .args .list)) 0) (c .before .before .before .before .before .before .before .before .before .before .line-of .ensures .0) (c .before .before .before .before .before .before .before .word .given .1) (c .before .before .before .before .before .before .before .before .before .before .before .before .before .pre .2) f (c .before .before .if2 .left) in (
       first-composite (lineAt (now (c .before .before .before .before .before .before .before .before .before .before .before .before .before .args .list)) 0) (c .before .before .before .before .before .before .before .before .before .before .line-of .ensures .0) (c .before .before .before .before .before .before .before .word .given .1) (c .before .before .before .before .before .before .before .before .before .before .before .before .before .pre .2) f (c .before .before .if2 .left)
           (ap oddPrime (sym number) ∙ sym (c .before .is-odd-prime .ensures) ∙ not-true _ (c .if3 .taken)),
-      (omega arith, (tt, c .before .before .before .before .before .before .before .before .before .before .line-of .ensures .0 .kept)),
+      (omega arith, (tt, c .before .before .before .before .before .before .before .before .before .before .line-of .ensures .0 .left .kept)),
     )
 
 same-length-5 : tie.Need-same-length-5
@@ -91,7 +91,7 @@ returns-5 c =
     let number = first-number (lineAt (now (c .before .before .before .before .before .before .before .before .before .before .before .before .before .args .list)) 0) (c .before .before .before .before .before .before .before .before .before .before .line-of .ensures .0) (c .before .before .before .before .before .before .before .word .given .1) (c .before .before .before .before .before .before .before .before .before .before .before .before .before .pre .2) f (c .before .before .if2 .left) in (
       ap (λ (m : ℕ). goes (only m)) number ∙ first-odd-prime (lineAt (now (c .before .before .before .before .before .before .before .before .before .before .before .before .before .args .list)) 0) (c .before .before .before .before .before .before .before .before .before .before .line-of .ensures .0) (c .before .before .before .before .before .before .before .word .given .1) (c .before .before .before .before .before .before .before .before .before .before .before .before .before .pre .2) f (c .before .before .if2 .left)
           (ap oddPrime (sym number) ∙ sym (c .before .is-odd-prime .ensures) ∙ not-false _ (c .if3 .left)),
-      (rw number (first-size (lineAt (now (c .before .before .before .before .before .before .before .before .before .before .before .before .before .args .list)) 0) (c .before .before .before .before .before .before .before .before .before .before .line-of .ensures .0) (c .before .before .before .before .before .before .before .word .given .1) (c .before .before .before .before .before .before .before .before .before .before .before .before .before .pre .2) f (c .before .before .if2 .left)), (line-next (now (c .before .before .before .before .before .before .before .before .before .before .before .before .before .args .list)) 0 (c .before .before .before .before .before .before .before .before .before .before .line-of .ensures .1) (c .before .before .before .before .before .before .before .word .given .1), c .before .before .before .before .before .before .before .before .before .before .line-of .ensures .0 .kept)),
+      (rw number (first-size (lineAt (now (c .before .before .before .before .before .before .before .before .before .before .before .before .before .args .list)) 0) (c .before .before .before .before .before .before .before .before .before .before .line-of .ensures .0) (c .before .before .before .before .before .before .before .word .given .1) (c .before .before .before .before .before .before .before .before .before .before .before .before .before .pre .2) f (c .before .before .if2 .left)), (line-next (now (c .before .before .before .before .before .before .before .before .before .before .before .before .before .args .list)) 0 (c .before .before .before .before .before .before .before .before .before .before .line-of .ensures .1) (c .before .before .before .before .before .before .before .word .given .1), c .before .before .before .before .before .before .before .before .before .before .line-of .ensures .0 .left .kept)),
     )
 
 pub first-line-spec : {M : Type 1} → statement M

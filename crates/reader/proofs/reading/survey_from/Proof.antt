@@ -81,7 +81,7 @@ step-requires c κs =
     let q = at-word .word .given .1 in (
       walk-ready (S .args .p) _ _ _ _ (w .sized) _ (w .later) (S .pre .4) (w .sound) (w .ordered),
       w .sized,
-      read .kept ∙ w .numbers-long,
+      read .left .kept ∙ w .numbers-long,
       line-counted read q (w .numbers-long),
       line-most read q,
       line-small read q,
@@ -136,7 +136,7 @@ loop-again c =
     let stepped = at-step .step .ensures in
     rw (next-at c)
     (walk-next (now-at .inv) (S .pre .0) (at-test .loop-test .taken) _ (c .before .stepped2 .given .0 .0) _ _ _ _ (c .before .stepped2 .given .1)
-    (line-step _ (lineAt (now (S .args .list)) (now-at .at)) line (stepped .0 _ refl)) (stepped .1 .0) (read .kept ∙ now-at .inv .numbers-long) (stepped .1 .1 .long)
+    (line-step _ (lineAt (now (S .args .list)) (now-at .at)) line (stepped .0 _ refl)) (stepped .1 .0) (read .left .kept ∙ now-at .inv .numbers-long) (stepped .1 .1 .long)
     (stepped .1 .2 .long) (stepped .1 .3 .long))
 
 returns-3 : tie.Need-returns-3 Inv-loop μ-loop

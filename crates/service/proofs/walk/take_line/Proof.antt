@@ -30,7 +30,7 @@ returns c =
 counts-after-requires : tie.Need-counts-after-requires
 counts-after-requires c κs =
     let S = c .before .before .before .before .before .before .before .before in
-    (S .pre .0 .stands .few, c .before .before .before .before .before .line-of .ensures .0 .kept ∙ S .pre .1)
+    (S .pre .0 .stands .few, c .before .before .before .before .before .line-of .ensures .0 .left .kept ∙ S .pre .1)
 
 same-length-2 : tie.Need-same-length-2
 same-length-2 c = search needs

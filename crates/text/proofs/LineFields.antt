@@ -1,0 +1,183 @@
+-- Laws of the fields of a line at a place in a text, one for each way out of `fields_of`: a word alone, a word with the numbers after it, and
+-- numbers alone.
+use mathlib.Core.Path.{_≡_, refl, sym, ap, _∙_}
+use mathlib.Core.Bool.{Bool, true, false, cond}
+use mathlib.Core.List.{List, [], _∷_}
+use mathlib.Core.Option.{none, some}
+use Prim.Native.Nat.{ℕ, suc, _+_, _≤_, _<_}
+use native.Mathlib.Decide.{decLt}
+use native.Mathlib.Omega.{arith}
+use lib.IntN.{ℤ, pos}
+use lib.ListN.{length, getD, take, drop}
+use lib.Seq.{length-take-le}
+use mir.Syntax.{w64}
+use mir.Val.{toZ, ofZ}
+use mir.ValLaws.{toZ-ofZ}
+use Rattle.meaning.specs.Text.{fieldsOf, number}
+use Rattle.meaning.specs.Line.{sum, words, wordAmong, isCount, numbersOf, assemble, lineOf}
+use Rattle.meaning.proofs.Results.{none-refused, some-value, refused-none}
+use Rattle.text.specs.declared.Word.{Word}
+use Rattle.text.specs.declared.Spelled.{Spelled}
+use Rattle.text.specs.declared.Spelled.the-variants.{Known, NoWord}
+use Rattle.text.specs.declared.Counted.{Counted}
+use Rattle.text.specs.declared.Counted.the-variants.{Numbers, NoNumbers}
+use Rattle.text.specs.declared.Fields.the-variants.{Worded, Alone, NoFields}
+use Rattle.text.specs.declared.Parsed.the-variants.{Line, NoLine}
+use Rattle.text.specs.declared.Number.the-variants.{Of, NoNumber}
+use Rattle.text.specs.Number.{WholeRead}
+use Rattle.text.specs.Word.{wordOf, WordRead}
+use Rattle.text.specs.Place.{indexOf, Found, endOf, upTo, lineAt, fieldAt, fieldsFrom}
+use Rattle.text.specs.Parsed.{parsedSeen, countSeen, NumbersTold, FieldsTold, LineRead, NextAfter, Stored, leadingNumbers, leading, mostNumbers}
+use Rattle.text.proofs.Places.{partsAfter, parts-none, parts-more, fields-from, fields-found}
+use Rattle.text.proofs.Numbers.{number-small, small-fits}
+use Rattle.text.proofs.Ends.{InLine, cut-length, before-end, place-next, place-later, same-line, stops-at, line-cut}
+use Rattle.text.proofs.Lines.{line-word, line-no-word, leading-word, leading-no-word, onlyOne, number-alone, none-alone, many-alone, word-no-number}
+
+take-one : (ns : List ℤ) → 0 < length ns → take 1 ns ≡ getD ns 0 (pos 0) ∷ []
+take-one [] h = absurd (omega arith)
+take-one (z ∷ ns) h = refl
+
+-- where nothing was written and nothing is to write
+stored-none : (ns : List ℤ) (numbers : List ℤ) → ns ≡ [] → Stored ns numbers numbers
+stored-none ns numbers q = rw q (record { stand = refl; kept = refl })
+
+module _ {text : List ℕ} {at : ℕ} (l : InLine text at (endOf text at)) where
+  abbrev line : List ℕ
+  line = upTo text at
+
+  -- ---- a word
+
+  module _ {r : Spelled} (read : WordRead line at r) {w : Word} {end : ℕ} (q : r ≡ Known w end) where
+    is-word : wordAmong words (fieldAt line at) ≡ some (wordOf w)
+    unfolding WordRead
+    is-word = (rw q at read) .0
+
+    ends : Found 9 line at end
+    unfolding WordRead
+    ends = (rw q at read) .1
+
+    pub word-place : InLine text end (endOf text at)
+    word-place = place-later l (ends .low) (omega (arith, cut-length l, ends .high))
+
+    fields : fieldsOf (lineAt text at) ≡ fieldAt line at ∷ partsAfter 9 line end
+    unfolding fieldsOf
+    fields = rw (line-cut text at) (fields-found line ends)
+
+    module _ (no-tab : getD text end 0 ≡ 9 → ⊥) where
+      last : endOf text at ≤ end
+      last = elim (decLt end (endOf text at)) [ yes h ↦ absurd (no-tab (stops-at word-place ends h)) | no h ↦ omega arith ]
+
+      nothing : partsAfter 9 line end ≡ []
+      nothing = parts-none 9 line end (omega (arith, cut-length l, last))
+
+      pub word-alone : (numbers : List ℤ) → FieldsTold text at numbers (Worded w 0 end) × Stored (leading (lineAt text at)) numbers numbers
+      unfolding FieldsTold numbersOf leadingNumbers
+      word-alone numbers = (
+        (
+          line-word (lineAt text at) fields is-word ∙ rw nothing,
+          word-no-number (lineAt text at) fields is-word,
+          omega arith,
+          omega (arith, last, word-place .found .low),
+        ),
+        stored-none (leading (lineAt text at)) numbers (leading-word (lineAt text at) fields is-word ∙ rw nothing),
+      )
+
+    module _ (tab : getD text end 0 ≡ 9) where
+      next : InLine text (end + 1) (endOf text at)
+      next = place-next word-place (λ e. omega arith)
+
+      -- the numbers are read from after the tab on, in the same line
+      after-tab : partsAfter 9 line end ≡ fieldsFrom (upTo text (end + 1)) (end + 1)
+      unfolding fieldsOf
+      after-tab = rw (same-line next) (parts-more 9 line end (omega (arith, cut-length l, before-end word-place (λ e. omega arith))))
+
+      pub word-stored : {before after : List ℤ} → Stored (leadingNumbers (fieldsFrom (upTo text (end + 1)) (end + 1))) before after
+          → Stored (leading (lineAt text at)) before after
+      word-stored s = rw (leading-word (lineAt text at) fields is-word, after-tab) s
+
+      module _ (after : List ℤ) {c : Counted} (told : NumbersTold (upTo text (end + 1)) (end + 1) after c) where
+        pub word-numbers : {count place : ℕ} → c ≡ Numbers count place → FieldsTold text at after (Worded w count place)
+        unfolding FieldsTold NumbersTold
+        word-numbers {count} {place} is =
+            let t = rw is at told in (
+              line-word (lineAt text at) fields is-word ∙ rw (after-tab, t .0),
+              word-no-number (lineAt text at) fields is-word,
+              t .1,
+              t .2 ∙ rw (same-line next) (cut-length next),
+            )
+
+        pub word-no-numbers : c ≡ NoNumbers → FieldsTold text at after NoFields
+        unfolding FieldsTold NumbersTold
+        word-no-numbers is =
+            let t = rw is at told in
+            (line-word (lineAt text at) fields is-word ∙ rw after-tab (t (wordOf w)), word-no-number (lineAt text at) fields is-word)
+
+  -- ---- no word
+
+  module _ {r : Spelled} (read : WordRead line at r) (q : r ≡ NoWord) where
+    no-word : wordAmong words (fieldAt line at) ≡ none
+    unfolding WordRead
+    no-word = refused-none 3 _ (rw q at read)
+
+    all : fieldsOf (lineAt text at) ≡ fieldsFrom line at
+    all = rw (line-cut text at)
+
+    first : (fs : List (List ℕ)) × (fieldsOf (lineAt text at) ≡ fieldAt line at ∷ fs)
+    unfolding fieldsOf
+    first = let left = drop at line in (partsAfter 9 left (indexOf 9 left), rw (line-cut text at) (fields-from line at))
+
+    no-line : lineOf (lineAt text at) ≡ none
+    no-line = line-no-word (lineAt text at) (first .1) no-word
+
+    pub bare-stored : {before after : List ℤ} → Stored (leadingNumbers (fieldsFrom line at)) before after → Stored (leading (lineAt text at)) before after
+    bare-stored s = rw (leading-no-word (lineAt text at) (first .1) no-word, all) s
+
+    module _ (after : List ℤ) {c : Counted} (told : NumbersTold line at after c) where
+      pub bare-numbers : {count place : ℕ} → c ≡ Numbers count place → FieldsTold text at after (Alone count place)
+      unfolding FieldsTold NumbersTold
+      bare-numbers is = let t = rw is at told in (no-line, rw all (t .0), t .1, t .2 ∙ cut-length l)
+
+      pub bare-no-numbers : c ≡ NoNumbers → FieldsTold text at after NoFields
+      unfolding FieldsTold NumbersTold
+      bare-no-numbers is =
+          let t = rw is at told in
+          (no-line, number-alone (lineAt text at) ∙ rw all (none-alone (numbersOf (fieldsFrom line at)) (t sum)))
+
+-- ---- the answers of `line_of` and `number_of`
+
+module _ (text : List ℕ) (at : ℕ) {before after : List ℤ} (left : Stored (leading (lineAt text at)) before after) where
+  pub reads-no-line : lineOf (lineAt text at) ≡ none → LineRead (lineAt text at) before after NoLine × NextAfter text at NoLine
+  unfolding parsedSeen countSeen NextAfter
+  reads-no-line q = (record { seen = sym (none-refused 3 q); most = omega arith; left = left }, tt)
+
+  module _ (w : Word) (count end : ℕ) (long : length before ≡ mostNumbers) (told : FieldsTold text at after (Worded w count end))
+      {right : Bool} (q : right ≡ isCount (wordOf w) count) where
+    counted : lineOf (lineAt text at) ≡ cond right (some (record { word = wordOf w; numbers = take count after })) none
+    unfolding FieldsTold assemble
+    counted = told .0 ∙ rw (length-take-le count after (omega (arith, told .2, left .kept)), sym q)
+
+    pub reads-line : right ≡ true → LineRead (lineAt text at) before after (Line w count (end + 1)) × NextAfter text at (Line w count (end + 1))
+    unfolding parsedSeen countSeen NextAfter FieldsTold
+    reads-line holds = (record { seen = sym (some-value 3 (counted ∙ rw holds)); most = told .2; left = left }, ap (λ (n : ℕ). n + 1) (told .3))
+
+    pub reads-wrong-count : right ≡ false → LineRead (lineAt text at) before after NoLine × NextAfter text at NoLine
+    reads-wrong-count fails = reads-no-line (counted ∙ rw fails)
+
+module _ (text : List ℕ) (at : ℕ) where
+  pub reads-no-number : number (lineAt text at) ≡ none → WholeRead text at NoNumber
+  unfolding WholeRead
+  reads-no-number q = none-refused 3 q
+
+  module _ (after : List ℤ) (count end : ℕ) (told : FieldsTold text at after (Alone count end)) (long : length after ≡ mostNumbers) where
+    pub reads-many : (count ≡ 1 → ⊥) → WholeRead text at NoNumber
+    unfolding FieldsTold
+    reads-many q =
+        reads-no-number (number-alone (lineAt text at) ∙ rw (told .1) (many-alone (take count after) (λ e. q (sym (length-take-le count after (omega (arith, told .2))) ∙ e))))
+
+    -- the number is stored as it is: it fits a machine word
+    pub reads-one : count ≡ 1 → InLine text at (endOf text at) → WholeRead text at (Of (toZ w64 (ofZ w64 (getD after 0 (pos 0)))) end)
+    unfolding FieldsTold WholeRead onlyOne
+    reads-one q l =
+        let one : take count after ≡ getD after 0 (pos 0) ∷ [] = rw q (take-one after (omega arith)) in
+        let is : number (lineAt text at) ≡ some (getD after 0 (pos 0)) = number-alone (lineAt text at) ∙ rw (told .1, one) in
+        rw (toZ-ofZ w64 (getD after 0 (pos 0)) (small-fits (getD after 0 (pos 0)) (number-small (lineAt text at) is))) (is, rw (told .3) (l .found))
