@@ -1,14 +1,17 @@
 -- A base and a digit count: what rule 6 says of them as whole numbers, what the code's answer says, and the digit rule, whose shift -B
--- the code takes from c = b^k.
-use mathlib.Core.Path.{_≡_, refl, ap, _∙_}
+-- the code takes from b^(k-1).
+use mathlib.Core.Path.{_≡_, refl, sym, ap, _∙_}
+use mathlib.Core.Logic.{_⊎_, inl, inr, ⊎-elim}
 use mathlib.Core.Bool.{Bool, true, false, cond, _&&_}
 use mathlib.Core.List.{[], _∷_}
-use Prim.Native.Nat.{ℕ, zero, suc, _+_, _-_, _*_, _/_, _^_, _≤_, _<_}
+use Prim.Native.Nat.{ℕ, zero, suc, _+_, _-_, _*_, _^_, _≤_, _<_}
 use native.Mathlib.Omega.{arith}
-use native.Mathlib.Nat.{pow-suc, one-le-pow, mul-suc, mul-comm, mul-div-cancel, mul-le-mul-right, one-mul}
+use native.Mathlib.Nat.{pow-zero, pow-suc, pow-le-pow-right, one-le-pow, mul-suc, mul-comm, mul-le-mul-left, mul-le-mul-right, one-mul, mul-one}
 use lib.Dec.{T, leb, leb→le}
 use lib.IntN.{ℤ, pos, negsuc, natAbs, _+ℤ_, _-ℤ_}
 use lib.Signed.{leZ, nonNeg}
+use mir.Syntax.{w64}
+use mir.Val.{Fits}
 use borrow.Author.Tests.{le-leb, lt-leb}
 use Rattle.algebra.proofs.Test.{≡-test, left, right}
 use Rattle.meaning.specs.Number.{half}
@@ -17,7 +20,8 @@ use Rattle.meaning.specs.Known.{Ends, ends, digitRule, topPart}
 use Rattle.meaning.specs.Refusal.{value, refusedBy, isDigits}
 use Rattle.number.specs.Power.{cappedPower}
 use Rattle.number.specs.declared.power.Power.the-variants.{Of as PowerOf}
-use Rattle.number.proofs.CappedPower.{of-capped}
+use Rattle.number.proofs.Word.{wide-product}
+use Rattle.number.proofs.CappedPower.{of-capped, power-one}
 use Rattle.reader.specs.declared.rule.Digits.{Digits as DigitsRead}
 use Rattle.reader.specs.declared.rule.Digits.the-variants.{Of, NoDigits}
 use Rattle.reader.specs.Told.{refuses, makes}
@@ -109,19 +113,46 @@ module _ (p b k : ℕ) (es : Ends) (shift : ℤ) where
   unfolding digitRule
   rule-within {c} r = let h : b ^ k ≤ p = omega (arith, r .power, r .within) in rw (r .power, le-leb (b ^ k) p h)
 
--- ---- B
+-- ---- B, from part = b^(k-1)
 
-pub top-part : (b k c : ℕ) → 1 ≤ b → 1 ≤ k → c ≡ b ^ k → c - c / b ≡ topPart b k
-unfolding topPart
-top-part zero k c h l e = absurd (omega arith)
-top-part (suc b) zero c h l e = absurd (omega arith)
-top-part (suc b) (suc k) c h l e =
-    let x : ℕ = suc b ^ k in
-    let power : c ≡ x * suc b = e ∙ pow-suc (suc b) k in
-    let quotient : c / suc b ≡ x = rw power (mul-div-cancel x (omega arith)) in
-    let base : suc b - 1 ≡ b = omega arith in
-    let count : suc k - 1 ≡ k = omega arith in
-    rw (quotient, base, count) (omega (arith, power, mul-suc x b, mul-comm b x))
+power-step : (b k : ℕ) → 1 ≤ k → b ^ (k - 1) * b ≡ b ^ k
+power-step b zero h = absurd (omega arith)
+power-step b (suc k) h = let count : suc k - 1 ≡ k = omega arith in rw count (sym (pow-suc b k))
+
+pub step-above : (p b k : ℕ) → 1 ≤ b → p < b ^ (k - 1) → p < b ^ k
+step-above p b k h l = let most : b ^ (k - 1) ≤ b ^ k = pow-le-pow-right h (omega arith) in omega arith
+
+less-one : (b x : ℕ) → 1 ≤ b → x * b - x ≡ (b - 1) * x
+less-one zero x h = absurd (omega arith)
+less-one (suc b) x h = let base : suc b - 1 ≡ b = omega arith in rw base (omega (arith, mul-suc x b, mul-comm b x))
+
+-- part is 1 where k is 1; else it has b as a factor
+short-or-wide : (b k : ℕ) → 1 ≤ b → 1 ≤ k → (b ^ (k - 1) ≡ 1) ⊎ (b ≤ b ^ (k - 1))
+short-or-wide b zero h l = absurd (omega arith)
+short-or-wide b (suc zero) h l = inl (pow-zero b)
+short-or-wide b (suc (suc k)) h l =
+    let most : b ^ 1 ≤ b ^ (suc (suc k) - 1) = pow-le-pow-right h (omega arith) in inr (omega (arith, power-one b))
+
+module _ {p b k part : ℕ} (base : 1 ≤ b) (one : 1 ≤ k) (r : Power p b (k - 1) part) where
+  pub part-power : part * b ≡ b ^ k
+  part-power = rw (r .power) (power-step b k one)
+
+  pub part-within : part * b ≤ p → Power p b k (part * b)
+  part-within h = let l : 1 ≤ b ^ k = one-le-pow k b base in record { power = part-power; positive = omega (arith, part-power); within = h }
+
+  pub part-less : part ≤ part * b
+  part-less = let l : part * 1 ≤ part * b = mul-le-mul-left part base in omega (arith, mul-one part)
+
+  pub top-part : part * b - part ≡ topPart b k
+  unfolding topPart
+  top-part = rw (r .power) (less-one b (b ^ (k - 1)) base)
+
+  pub part-fits : p < 2 ^ 32 → Fits w64 b → Fits w64 (part * b)
+  part-fits h f =
+      ⊎-elim
+      (λ e. let unit : part ≡ 1 = r .power ∙ e in rw (unit, one-mul b) f)
+      (λ l. wide-product {a = part} {b = b} (omega (arith, r .within)) (omega (arith, r .power, r .within)))
+      (short-or-wide b k base one)
 
 -- ---- the root rule
 

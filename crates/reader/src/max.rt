@@ -5,8 +5,10 @@ use super::rule::Made;
 use super::rule::apart;
 use super::rule::are_made;
 use super::rule::begin_line;
-use super::rule::digit_rule;
 use super::rule::ends_named;
+use super::rule::is_narrow;
+use number::power::Power;
+use number::power::capped_power;
 use number::whole::Whole;
 use number::whole::larger;
 use number::whole::smaller;
@@ -49,14 +51,17 @@ pub fn read_max(
     }
 }
 
-// The digit rule over y - u and y - v with shift 0, for y the greater of u and v.
+// The digit rule over y - u and y - v with shift 0, for y the greater of u and v: both have the same c = b^k.
 fn max_rule(p: u32, b: u64, k: u32, u: Ends, v: Ends) -> bool
     requires { ⌜ Field p × (1 ≤ b) × BoundedEnds greatest u × BoundedEnds greatest v ⌝ }
     ensures { λ r. ⌜ r
         ≡ digitRule p b k (above (endsSeen u) (endsSeen v)) (pos 0) && digitRule p b k (above (endsSeen v) (endsSeen u)) (pos 0) ⌝ }
 {
-    if digit_rule(p, b, k, above(u, v), 0) {
-        return digit_rule(p, b, k, above(v, u), 0);
+    let Power::Of(c) = capped_power(b, k, p) else {
+        return false;
+    };
+    if is_narrow(p, c, above(u, v), 0) {
+        return is_narrow(p, c, above(v, u), 0);
     }
     false
 }

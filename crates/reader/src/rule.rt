@@ -189,26 +189,21 @@ pub fn apart(u: Ends, v: Ends) -> Ends
 
 // ---- rule 10
 
-// The digit rule.
-pub fn digit_rule(p: u32, b: u64, k: u32, e: Ends, shift: i64) -> bool
-    requires { ⌜ Field p × (1 ≤ b) × BoundedEnds greatestApart e × Bounded greatest shift ⌝ }
-    ensures { λ r. ⌜ r ≡ digitRule p b k (endsSeen e) shift ⌝ }
-{
-    let Power::Of(c) = capped_power(b, k, p) else {
-        return false;
-    };
-    is_narrow(p, c, e, shift)
-}
-
-// The digit rule with the shift -B, of relu and which: B = (b-1)·b^(k-1) = c - c/b.
+// The digit rule with the shift -B, of relu and which. With part = b^(k-1) the power is c = part·b and B = (b-1)·part = c - part, so that
+// nothing is divided. The product fits: part is 1, or b is at most part, which is at most p.
 pub fn sign_rule(p: u32, b: u64, k: u32, e: Ends) -> bool
     requires { ⌜ Field p × (1 ≤ b) × (1 ≤ k) × BoundedEnds greatestApart e ⌝ }
     ensures { λ r. ⌜ r ≡ digitRule p b k (endsSeen e) (signShift b k) ⌝ }
 {
-    let Power::Of(c) = capped_power(b, k, p) else {
+    let Power::Of(part) = capped_power(b, k - 1, p) else {
         return false;
     };
-    let top = c - c / b;
+    let c = part * b;
+    let most = p as u64;
+    if most < c {
+        return false;
+    }
+    let top = c - part;
     is_narrow(p, c, e, 0 - top as i64)
 }
 
