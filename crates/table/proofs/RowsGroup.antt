@@ -49,7 +49,23 @@ module _ (p : ℕ) (t : List ℕ) (first at b k : ℕ) where
       let e : k - i ≡ suc (k - (i + 1)) = omega arith in
       rw (e, le-ltb _ _ l) refl
 
-  pub digits-end : (i : ℕ) → k ≤ i → firstRefusal (holds p t) (first + i) (digitRows (at + i) b (k - i)) ≡ none
+  -- the digits of the numbers i and i + 1, of which the second comes to be looked at where the first passes
+  pub two-pass : (i : ℕ) → i + 1 < k → getD t (at + i) 0 < b → getD t (at + i + 1) 0 < b
+      → firstRefusal (holds p t) (first + i) (digitRows (at + i) b (k - i))
+      ≡ firstRefusal (holds p t) (first + (i + 2)) (digitRows (at + (i + 2)) b (k - (i + 2)))
+  two-pass i h low high =
+      let e : at + i + 1 ≡ at + (i + 1) = omega arith in
+      let u : i + 1 + 1 ≡ i + 2 = omega arith in
+      digit-passes i (omega arith) low ∙ rw u at (digit-passes (i + 1) h (rw e at high))
+
+  pub second-fails : (i : ℕ) → i + 1 < k → getD t (at + i) 0 < b → b ≤ getD t (at + i + 1) 0
+      → firstRefusal (holds p t) (first + i) (digitRows (at + i) b (k - i)) ≡ some (reply 15 (first + i + 1))
+  second-fails i h low high =
+      let e : at + i + 1 ≡ at + (i + 1) = omega arith in
+      let v : first + i + 1 ≡ first + (i + 1) = omega arith in
+      digit-passes i (omega arith) low ∙ rw v (digit-fails (i + 1) h (rw e at high))
+
+  digits-end : (i : ℕ) → k ≤ i → firstRefusal (holds p t) (first + i) (digitRows (at + i) b (k - i)) ≡ none
   unfolding firstFail refusalAt digitRows
   digits-end i h = let e : k - i ≡ 0 = omega arith in rw e refl
 
@@ -84,11 +100,22 @@ module _ (t : List ℕ) (at b k : ℕ) where
         whole = s .whole ∙ rw rest (omega arith);
       }
 
+  -- two digits at once, the second of which counts b times as much as the first
+  pub seen-two : {i v part : ℕ} → Seen t at b k i v part → at + k ≤ length t → i + 1 < k → getD t (at + i) 0 < b → getD t (at + i + 1) 0 < b
+      → Seen t at b k (i + 2) (v + (getD t (at + i) 0 + getD t (at + i + 1) 0 * b) * part) (part * (b * b))
+  seen-two {i} {v} {part} s room h low high =
+      let d : ℕ = getD t (at + i) 0 in
+      let e : at + i + 1 ≡ at + (i + 1) = omega arith in
+      let u : i + 2 ≡ i + 1 + 1 = omega arith in
+      let sum : v + (d + getD t (at + (i + 1)) 0 * b) * part ≡ v + d * part + getD t (at + (i + 1)) 0 * (part * b) = omega arith in
+      let power : part * (b * b) ≡ part * b * b = omega arith in
+      rw (e, u, sum, power) (seen-next (seen-next s room (omega arith) low) room h (rw e at high))
+
   -- so far as k digits nothing is above b ^ k
   pub seen-most : {i v part : ℕ} → Seen t at b k i v part → 0 < b → i ≤ k → part ≤ b ^ k
   seen-most s h l = rw (s .part-is) (pow-le-pow-right h l)
 
-  pub seen-all : (p : ℕ) {i v part : ℕ} → Seen t at b k i v part → at + k ≤ length t → i ≡ k → b ^ k ≤ p → Leaves p t v (placeValues 1 at b k)
+  seen-all : (p : ℕ) {i v part : ℕ} → Seen t at b k i v part → at + k ≤ length t → i ≡ k → b ^ k ≤ p → Leaves p t v (placeValues 1 at b k)
   unfolding value
   seen-all p {i} {v} {part} s room e h =
       let u : k - i ≡ 0 = omega arith in
@@ -114,7 +141,7 @@ module _ (p : ℕ) (t : List ℕ) (f : Form) (L : ℤ) (first at b k : ℕ) wher
   group-fails d = group-split refl d refl
 
   -- else it is that of the last row
-  pub group-answer : {number v : ℕ} {r : Option Reply} → remainder p (eval t f -ℤ L) ≡ number → Leaves p t v (placeValues 1 at b k)
+  group-answer : {number v : ℕ} {r : Option Reply} → remainder p (eval t f -ℤ L) ≡ number → Leaves p t v (placeValues 1 at b k)
       → none ≡ firstRefusal (holds p t) first (digitRows at b k) → r ≡ cond (eqb number v) none (some (reply 15 (first + k)))
       → r ≡ firstRefusal (holds p t) first (group f L at b k)
   unfolding firstOf holds eval
@@ -124,6 +151,14 @@ module _ (p : ℕ) (t : List ℕ) (f : Form) (L : ℤ) (first at b k : ℕ) wher
     where
       test : eqb number v ≡ holds p t (f ⊖ constant L ≅ placeValues 1 at b k)
       test = rw (e, ← l .is) refl
+
+  -- where k digits were looked at, their value is tested
+  pub group-seen : {i number v part : ℕ} {r : Option Reply} → i ≡ k → at + k ≤ length t → b ^ k ≤ p → remainder p (eval t f -ℤ L) ≡ number
+      → Seen t at b k i v part
+      → firstRefusal (holds p t) first (digitRows at b k) ≡ firstRefusal (holds p t) (first + i) (digitRows (at + i) b (k - i))
+      → r ≡ cond (eqb number v) none (some (reply 15 (first + k))) → r ≡ firstRefusal (holds p t) first (group f L at b k)
+  group-seen {i} all room h e s digits =
+      group-answer e (seen-all t at b k p s room all h) (sym (digits ∙ digits-end p t first at b k i (omega arith)))
 
 -- a group, and then other rows, the first of which has the number m
 pub group-then : (p : ℕ) (t : List ℕ) (n m : ℕ) (f : Form) (L : ℤ) (at b k : ℕ) (rows : List Row) {r digits later : Option Reply}

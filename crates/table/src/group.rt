@@ -99,7 +99,8 @@ pub fn two_groups(out: &mut [u32], first: i64, second: i64, b: u32, k: usize)
 
 // The rows of a group over the k cells from the one called `at`, whose number modulo p is `number`, for every p from b^k on. `first` is the
 // number that the first of these rows has in its line. Digits below b have a value below b^k, so that it is its own remainder: nothing is
-// reduced. In each turn it is the value of the digits before, and part is the power of b below which it is.
+// reduced. In each turn it is the value of the digits before, and part is the power of b below which it is. Each power waits for the one
+// before it, and that is most of the time, so that a turn takes two digits to one step of the power. A last digit may be left over.
 pub fn group_rows(table: &[u32], number: Residue, first: usize, at: Cell, b: u32, k: usize) -> Rows
     requires { ⌜ GroupOf b k (b ^ k) × (at .0 + k ≤ length (now table)) × (first + k < 2 ^ 64) ⌝ }
     ensures { λ r. ⌜ ((p : ℕ) (f : Form) (L : ℤ) → b ^ k ≤ p → remainder p (eval (now (table .entry)) f -ℤ L) ≡ number .0
@@ -108,14 +109,25 @@ pub fn group_rows(table: &[u32], number: Residue, first: usize, at: Cell, b: u32
     let mut value: u32 = 0;
     let mut part: u32 = 1;
     let mut i: usize = 0;
-    while i < k {
+    while i + 1 < k {
+        let low = table[at.0 + i];
+        if b <= low {
+            return Rows::Fails(first + i);
+        }
+        let high = table[at.0 + i + 1];
+        if b <= high {
+            return Rows::Fails(first + i + 1);
+        }
+        value = value + (low + high * b) * part;
+        part = part * (b * b);
+        i += 2;
+    }
+    if i < k {
         let digit = table[at.0 + i];
         if b <= digit {
             return Rows::Fails(first + i);
         }
         value = value + digit * part;
-        part = part * b;
-        i += 1;
     }
     row_before(number.0 == value, first + k, Rows::AllHold)
 }

@@ -1,14 +1,16 @@
 -- `table::group::group_rows`: the digits before `i` pass, `value` is theirs, and what is left to test says what the whole test says.
 use mathlib.Core.Path.{_≡_, sym, _∙_}
-use Prim.Native.Nat.{ℕ, _+_, _-_, _*_, _≤_}
+use mathlib.Core.Logic.{⊎-elim}
+use Prim.Native.Nat.{ℕ, _+_, _-_, _*_, _≤_, _<_}
 use native.Mathlib.Omega.{arith}
+use native.Mathlib.Nat.{le-mul-of-pos-right}
 use lib.ListN.{getD}
 use borrow.Author.Needs.{needs}
 use Rattle.meaning.specs.Row.{holds, digitRows}
 use Rattle.table.specs.Rows.{rowsSeen, firstRefusal}
 use Rattle.table.specs.Cells.{powerBound}
-use Rattle.table.proofs.RowsGroup.{digits-start, digit-passes, digit-fails, digits-end}
-use Rattle.table.proofs.RowsGroup.{Seen, seen-none, seen-next, seen-most, seen-all, group-fails, group-answer}
+use Rattle.table.proofs.RowsGroup.{digits-start, digit-passes, digit-fails, two-pass, second-fails}
+use Rattle.table.proofs.RowsGroup.{Seen, seen-none, seen-next, seen-two, seen-most, group-fails, group-seen}
 use Rattle.table.proofs.group.group_rows.Statement.{statement}
 use Rattle.table.proofs.group.group_rows.Tie as tie
 
@@ -24,17 +26,20 @@ loop-holds c =
     let s = c .before .args in
     (search needs, seen-none (s .table .now) (s .at .0) (s .b) (s .k), λ p. digits-start p (s .table .now) (s .first) (s .at .0) (s .b) (s .k))
 
-add-digit : tie.Need-add-digit Inv-loop μ-loop
-add-digit c = search needs
+add-loop : tie.Need-add-loop Inv-loop μ-loop
+add-loop c = search needs
 
-mul-digit : tie.Need-mul-digit Inv-loop μ-loop
-mul-digit c = search needs
+add-low : tie.Need-add-low Inv-loop μ-loop
+add-low c = search needs
 
-shared-slice-read-digit : tie.Need-shared-slice-read-digit Inv-loop μ-loop
-shared-slice-read-digit c = search needs
+mul-low : tie.Need-mul-low Inv-loop μ-loop
+mul-low c = search needs
 
-add-t16 : tie.Need-add-t16 Inv-loop μ-loop
-add-t16 c = search needs
+shared-slice-read-low : tie.Need-shared-slice-read-low Inv-loop μ-loop
+shared-slice-read-low c = search needs
+
+add-t18 : tie.Need-add-t18 Inv-loop μ-loop
+add-t18 c = search needs
 
 returns : tie.Need-returns Inv-loop μ-loop
 unfolding rowsSeen
@@ -43,34 +48,92 @@ returns c p f L h e =
     let now = at-test .before .loop in
     let s = at-test .before .before .before .args in
     group-fails p (s .table .now) f L (s .first) (s .at .0) (s .b) (s .k)
-    (sym (now .inv .2 p ∙ digit-fails p (s .table .now) (s .first) (s .at .0) (s .b) (s .k) (now .i) (at-test .loop-test .taken) (c .if1 .taken)))
+    (sym (now .inv .2 p ∙ digit-fails p (s .table .now) (s .first) (s .at .0) (s .b) (s .k) (now .i) (omega arith) (omega arith)))
 
--- after a digit that passes
-seen : (c : tie.Else1 Inv-loop μ-loop) → let now = c .before .before .before .before .loop in
-    let s = c .before .before .before .before .before .before .args in
-    let digit = getD (s .table .now) (s .at .0 + now .i) 0 in
-    Seen (s .table .now) (s .at .0) (s .b) (s .k) (now .i + 1) (now .value + digit * now .part) (now .part * s .b)
+add-high : tie.Need-add-high Inv-loop μ-loop
+add-high c = search needs
+
+add-high-2 : tie.Need-add-high-2 Inv-loop μ-loop
+add-high-2 c = search needs
+
+mul-high : tie.Need-mul-high Inv-loop μ-loop
+mul-high c = search needs
+
+shared-slice-read-high : tie.Need-shared-slice-read-high Inv-loop μ-loop
+shared-slice-read-high c = search needs
+
+add-t21 : tie.Need-add-t21 Inv-loop μ-loop
+add-t21 c = search needs
+
+add-t22 : tie.Need-add-t22 Inv-loop μ-loop
+add-t22 c = search needs
+
+returns-2 : tie.Need-returns-2 Inv-loop μ-loop
+unfolding rowsSeen
+returns-2 c p f L h e =
+    let at-low = c .before .before .before in
+    let at-test = at-low .before .before .before in
+    let now = at-test .before .loop in
+    let s = at-test .before .before .before .args in
+    let fails = second-fails p (s .table .now) (s .first) (s .at .0) (s .b) (s .k) (now .i) (at-test .loop-test .taken) (at-low .if1 .left) (omega arith) in
+    group-fails p (s .table .now) f L (s .first) (s .at .0) (s .b) (s .k) (sym (now .inv .2 p ∙ fails))
+
+-- the value of the two digits of a turn, and what is seen after them where both pass
+abbrev pair : tie.Else2 Inv-loop μ-loop → ℕ
+pair c =
+    let at-test = c .before .before .before .before .before .before in
+    let s = at-test .before .before .before .args in
+    let low = s .at .0 + at-test .before .loop .i in
+    getD (s .table .now) low 0 + getD (s .table .now) (low + 1) 0 * s .b
+
+seen : (c : tie.Else2 Inv-loop μ-loop) → let at-test = c .before .before .before .before .before .before in
+    let now = at-test .before .loop in
+    let s = at-test .before .before .before .args in
+    Seen (s .table .now) (s .at .0) (s .b) (s .k) (now .i + 2) (now .value + pair c * now .part) (now .part * (s .b * s .b))
 seen c =
-    let at-test = c .before .before .before in
+    let at-low = c .before .before .before in
+    let at-test = at-low .before .before .before in
     let start = at-test .before .before .before in
     let s = start .args in
-    seen-next (s .table .now) (s .at .0) (s .b) (s .k) (at-test .before .loop .inv .1) (start .pre .1) (at-test .loop-test .taken) (c .if1 .left)
+    seen-two (s .table .now) (s .at .0) (s .b) (s .k) (at-test .before .loop .inv .1) (start .pre .1) (at-test .loop-test .taken) (at-low .if1 .left)
+    (c .if2 .left)
 
-most : (c : tie.Else1 Inv-loop μ-loop) → c .before .before .before .before .loop .part * c .before .before .before .before .before .before .args .b ≤ powerBound
+most : (c : tie.Else2 Inv-loop μ-loop) → let at-test = c .before .before .before .before .before .before in
+    let s = at-test .before .before .before .args in
+    at-test .before .loop .part * (s .b * s .b) ≤ powerBound
 most c =
-    let start = c .before .before .before .before .before .before in
+    let at-test = c .before .before .before .before .before .before in
+    let start = at-test .before .before .before in
     let s = start .args in
     let g = start .pre .0 in
     omega (arith, seen-most (s .table .now) (s .at .0) (s .b) (s .k) (seen c) (omega (arith, g .base)) (omega arith), g .small)
 
+-- what is multiplied by part is no more than the product
+part-counts : (c : tie.Else2 Inv-loop μ-loop) (n : ℕ) → n ≤ n * c .before .before .before .before .before .before .before .loop .part
+part-counts c n = le-mul-of-pos-right n (omega (arith, c .before .before .before .before .before .before .before .loop .inv .1 .below))
+
+pair-most : (c : tie.Else2 Inv-loop μ-loop) → pair c ≤ powerBound
+pair-most c = omega (arith, part-counts c (pair c), seen c .below, most c)
+
 mul-value : tie.Need-mul-value Inv-loop μ-loop
-mul-value c = omega (arith, seen c .below, most c)
+mul-value c = omega (arith, pair-most c)
 
 add-value : tie.Need-add-value Inv-loop μ-loop
-add-value c = omega (arith, seen c .below, most c)
+add-value c = omega (arith, pair-most c)
+
+mul-value-2 : tie.Need-mul-value-2 Inv-loop μ-loop
+mul-value-2 c = omega (arith, seen c .below, most c)
+
+add-value-2 : tie.Need-add-value-2 Inv-loop μ-loop
+add-value-2 c = omega (arith, seen c .below, most c)
 
 mul-part : tie.Need-mul-part Inv-loop μ-loop
-mul-part c = omega (arith, most c)
+mul-part c =
+    let s = c .before .before .before .before .before .before .before .before .before .args in
+    omega (arith, part-counts c (s .b * s .b), most c)
+
+mul-part-2 : tie.Need-mul-part-2 Inv-loop μ-loop
+mul-part-2 c = omega (arith, most c)
 
 add-i : tie.Need-add-i Inv-loop μ-loop
 add-i c = search needs
@@ -80,14 +143,62 @@ loop-less c = search needs
 
 loop-again : tie.Need-loop-again Inv-loop μ-loop
 loop-again c =
-    let at-test = c .before .before .before in
+    let at-low = c .before .before .before in
+    let at-test = at-low .before .before .before in
     let now = at-test .before .loop in
     let s = at-test .before .before .before .args in (
       search needs,
       seen c,
       λ p. now .inv .2 p
-          ∙ digit-passes p (s .table .now) (s .first) (s .at .0) (s .b) (s .k) (now .i) (at-test .loop-test .taken) (c .if1 .left),
+          ∙ two-pass p (s .table .now) (s .first) (s .at .0) (s .b) (s .k) (now .i) (at-test .loop-test .taken) (at-low .if1 .left) (c .if2 .left),
     )
+
+add-digit : tie.Need-add-digit Inv-loop μ-loop
+add-digit c = search needs
+
+mul-digit : tie.Need-mul-digit Inv-loop μ-loop
+mul-digit c = search needs
+
+shared-slice-read-digit : tie.Need-shared-slice-read-digit Inv-loop μ-loop
+shared-slice-read-digit c = search needs
+
+add-t31 : tie.Need-add-t31 Inv-loop μ-loop
+add-t31 c = search needs
+
+returns-3 : tie.Need-returns-3 Inv-loop μ-loop
+unfolding rowsSeen
+returns-3 c p f L h e =
+    let at-odd = c .before .before .before in
+    let now = at-odd .before .before .loop in
+    let s = at-odd .before .before .before .before .args in
+    group-fails p (s .table .now) f L (s .first) (s .at .0) (s .b) (s .k)
+    (sym (now .inv .2 p ∙ digit-fails p (s .table .now) (s .first) (s .at .0) (s .b) (s .k) (now .i) (at-odd .if3 .taken) (omega arith)))
+
+-- after a last digit that passes
+seen-last : (c : tie.Else4 Inv-loop μ-loop) → let now = c .before .before .before .before .before .loop in
+    let s = c .before .before .before .before .before .before .before .args in
+    let digit = getD (s .table .now) (s .at .0 + now .i) 0 in
+    Seen (s .table .now) (s .at .0) (s .b) (s .k) (now .i + 1) (now .value + digit * now .part) (now .part * s .b)
+seen-last c =
+    let at-odd = c .before .before .before in
+    let start = at-odd .before .before .before .before in
+    let s = start .args in
+    seen-next (s .table .now) (s .at .0) (s .b) (s .k) (at-odd .before .before .loop .inv .1) (start .pre .1) (at-odd .if3 .taken) (c .if4 .left)
+
+last-most : (c : tie.Else4 Inv-loop μ-loop) → let now = c .before .before .before .before .before .loop in
+    now .part * c .before .before .before .before .before .before .before .args .b ≤ powerBound
+last-most c =
+    let at-odd = c .before .before .before in
+    let start = at-odd .before .before .before .before in
+    let s = start .args in
+    let g = start .pre .0 in
+    omega (arith, seen-most (s .table .now) (s .at .0) (s .b) (s .k) (seen-last c) (omega (arith, g .base)) (omega arith), g .small)
+
+mul-value-3 : tie.Need-mul-value-3 Inv-loop μ-loop
+mul-value-3 c = omega (arith, seen-last c .below, last-most c)
+
+add-value-3 : tie.Need-add-value-3 Inv-loop μ-loop
+add-value-3 c = omega (arith, seen-last c .below, last-most c)
 
 add-row-before : tie.Need-add-row-before Inv-loop μ-loop
 add-row-before c = search needs
@@ -95,17 +206,22 @@ add-row-before c = search needs
 row-before-requires : tie.Need-row-before-requires Inv-loop μ-loop
 row-before-requires c κs = search needs
 
-returns-2 : tie.Need-returns-2 Inv-loop μ-loop
+returns-4 : tie.Need-returns-4 Inv-loop μ-loop
 unfolding rowsSeen
-returns-2 c p f L h e =
-    let at-test = c .before .before in
+returns-4 c p f L h e =
+    let at-odd = c .before .before in
+    let at-test = at-odd .before in
     let now = at-test .before .loop in
     let start = at-test .before .before .before in
     let s = start .args in
     let t = s .table .now in
-    let value = seen-all t (s .at .0) (s .b) (s .k) p (now .inv .1) (start .pre .1) (omega arith) h in
-    let digits = now .inv .2 p ∙ digits-end p t (s .first) (s .at .0) (s .b) (s .k) (now .i) (at-test .loop-test .left) in
-    group-answer p t f L (s .first) (s .at .0) (s .b) (s .k) e value (sym digits) (c .row-before .ensures)
+    ⊎-elim
+    (λ w. group-seen p t f L (s .first) (s .at .0) (s .b) (s .k) {i = now .i + 1} (omega (arith, w .0 .taken)) (start .pre .1) h e
+    (seen-next t (s .at .0) (s .b) (s .k) (now .inv .1) (start .pre .1) (w .0 .taken) (w .3 .left))
+    (now .inv .2 p ∙ digit-passes p t (s .first) (s .at .0) (s .b) (s .k) (now .i) (w .0 .taken) (w .3 .left)) (rw (w .4) at (c .row-before .ensures)))
+    (λ w. group-seen p t f L (s .first) (s .at .0) (s .b) (s .k) {i = now .i} (omega (arith, w .0 .left)) (start .pre .1) h e (now .inv .1) (now .inv .2 p)
+    (rw (w .1) at (c .row-before .ensures)))
+    (at-odd .if3 .came)
 
 pub group-rows-spec : {M : Type 1} → statement M
 group-rows-spec =
@@ -114,17 +230,35 @@ group-rows-spec =
     Inv-loop
     μ-loop
     loop-holds
-    add-digit
-    mul-digit
-    shared-slice-read-digit
-    add-t16
+    add-loop
+    add-low
+    mul-low
+    shared-slice-read-low
+    add-t18
     returns
+    add-high
+    add-high-2
+    mul-high
+    shared-slice-read-high
+    add-t21
+    add-t22
+    returns-2
     mul-value
     add-value
+    mul-value-2
+    add-value-2
     mul-part
+    mul-part-2
     add-i
     loop-less
     loop-again
+    add-digit
+    mul-digit
+    shared-slice-read-digit
+    add-t31
+    returns-3
+    mul-value-3
+    add-value-3
     add-row-before
     row-before-requires
-    returns-2)
+    returns-4)
