@@ -1,5 +1,5 @@
-//! The lists that are measured: a short reorder list, lists of one gadget that are as large as the limits allow, the largest texts,
-//! and lists of growing length.
+//! The lists that are measured: a short reorder list, lists of one gadget that are as large as the limits allow, a mixed one, the
+//! largest texts, lists of growing length, and lists that differ in their digits alone.
 //!
 //! A list of spans, or at the greatest prime of any gadget but the sum, comes close to 4,096 cells. The others end at 256 values: a sum
 //! has one cell, and at p = 31 a group has at most four digits.
@@ -16,7 +16,11 @@ pub struct Workload {
 }
 
 /// The greatest prime, and one whose numbers have one or two digits.
-pub const PRIMES: [i64; 2] = [31, 2_147_483_647];
+pub const PRIMES: [i64; 2] = [31, GREATEST];
+const GREATEST: i64 = 2_147_483_647;
+
+/// The greatest prime but one. The service knows the greatest at once, and this one only by trying divisors.
+const TRIED: i64 = 2_147_483_629;
 
 /// How many gadgets have a list of their own.
 pub const GADGETS: usize = 6;
@@ -38,10 +42,14 @@ const SMALL_REORDER: &str =
 impl Workload {
     /// The workload of a list that is read and inputs whose statements are true.
     fn new(name: String, list: Vec<u8>, inputs: Vec<i64>) -> Workload {
-        let counts = counts(&list).unwrap_or_else(|| panic!("{name} is not read"));
-        let mut table = vec![0; counts.cells as usize];
-        assert_eq!(reference::make(&list, &inputs, &mut table), (0, 0), "{name}");
-        Workload { name, list, inputs, table }
+        Workload::made(&name, list, inputs).unwrap_or_else(|| panic!("{name} is not made"))
+    }
+
+    /// The same, or none where the list is not read or a statement is false.
+    fn made(name: &str, list: Vec<u8>, inputs: Vec<i64>) -> Option<Workload> {
+        let mut table = vec![0; counts(&list)?.cells as usize];
+        let made = reference::make(&list, &inputs, &mut table) == (0, 0);
+        made.then(|| Workload { name: name.into(), list, inputs, table })
     }
 }
 
@@ -68,19 +76,32 @@ fn gadgets(p: i64) -> Vec<Gadget> {
         inputs: inputs.to_vec(),
     };
     let pair = |k: u32| format!("in;in;span 0 2 {k} 0;span 1 2 {k} 0");
-    let half = |k: u32| (1 << (k - 1)) - 1;
-    let span = digits(4, 30);
     let sign = digits(4, 13);
     let max = digits(3, 7);
     let root = digits(2, 15);
     vec![
-        gadget("span", "in".into(), format!("span 0 2 {span} 0"), &[half(span)]),
+        spans(p, digits(4, 30)),
         gadget("sum", "in;span 0 2 1 0".into(), format!("sum 1{}", " 1 0 -1 0".repeat(8)), &[1]),
         gadget("relu", "in".into(), format!("relu 0 2 {sign}"), &[-3]),
         gadget("which", pair(sign - 1), format!("which 0 1 2 {sign}"), &[2, 5]),
         gadget("max", pair(max), format!("max 0 1 2 {max}"), &[3, 6]),
         gadget("root", "in".into(), format!("root 0 2 {root}"), &[half(root)]),
     ]
+}
+
+/// The gadget span with so many digits.
+fn spans(p: i64, k: u32) -> Gadget {
+    Gadget {
+        name: "span",
+        begin: format!("field {p};in"),
+        line: format!("span 0 2 {k} 0"),
+        inputs: vec![half(k)],
+    }
+}
+
+/// A number of so many binary digits, all 1 but the highest.
+fn half(k: u32) -> i64 {
+    (1 << (k - 1)) - 1
 }
 
 impl Gadget {
@@ -104,36 +125,54 @@ impl Gadget {
         let name = format!("{} {p}, {} values, {} cells", self.name, read.values, read.cells);
         Workload::new(name, list, self.inputs.clone())
     }
+
+    /// So many of its lines.
+    fn lines(&self, p: i64, lines: usize) -> Workload {
+        let name = format!("{} {p}, {lines} lines", self.name);
+        Workload::new(name, self.list(lines), self.inputs.clone())
+    }
 }
 
 /// Every list that is measured.
 pub fn workloads() -> Vec<Workload> {
-    let mut all = vec![
-        Workload::new(
-            "reorder 31".into(),
-            text(&format!("field 31;{SMALL_REORDER}")),
-            vec![1, 3, 2],
-        ),
-        Workload::new(
-            "reorder 2147483647".into(),
-            text(&format!("field 2147483647;{REORDER}")),
-            vec![40, 120, 95],
-        ),
-    ];
+    let mut all = vec![Workload::new(
+        "reorder 31".into(),
+        text(&format!("field 31;{SMALL_REORDER}")),
+        vec![1, 3, 2],
+    )];
+    all.extend([GREATEST, TRIED].map(reorder));
     for p in PRIMES {
         all.extend(gadgets(p).iter().map(|gadget| gadget.full(p)));
     }
-    let mixed = large(0);
-    all.push(Workload::new("mixed 2147483647".into(), mixed.list, mixed.inputs));
-    for p in PRIMES {
+    all.extend([GREATEST, TRIED].map(mixed));
+    for p in [31, GREATEST, TRIED] {
         all.push(longest_of_sums(p));
         all.push(longest_of_spans(p));
     }
     all
 }
 
+fn reorder(p: i64) -> Workload {
+    let list = text(&format!("field {p};{REORDER}"));
+    Workload::new(format!("reorder {p}"), list, vec![40, 120, 95])
+}
+
+/// A list of every kind of line, drawn for the greatest prime. A few of its lines do not fit at another, and are left out there.
+fn mixed(p: i64) -> Workload {
+    let drawn = large(0);
+    let mut inputs = drawn.inputs.iter();
+    let mut work = Workload::new(format!("mixed {p}"), text(&format!("field {p}")), Vec::new());
+    for line in drawn.list.split_inclusive(|&byte| byte == b'\n').skip(1) {
+        let list = [&work.list, line].concat();
+        let input = if line == b"in\n" { inputs.next() } else { None };
+        let inputs = work.inputs.iter().chain(input).copied().collect();
+        work = Workload::made(&work.name, list, inputs).unwrap_or(work);
+    }
+    work
+}
+
 /// A text of sums close to 65,536 bytes: a value known to be 0 takes any coefficient.
-fn longest_of_sums(p: i64) -> Workload {
+pub fn longest_of_sums(p: i64) -> Workload {
     let far = -(p - 1) / 2;
     let mut list = text(&format!("field {p};sum 0"));
     let line = text(&format!("sum {far}{}", format!(" {far} 0").repeat(16)));
@@ -146,7 +185,7 @@ fn longest_of_sums(p: i64) -> Workload {
 }
 
 /// A text of spans, each with one digit of a long base.
-fn longest_of_spans(p: i64) -> Workload {
+pub fn longest_of_spans(p: i64) -> Workload {
     let far = -(p - 1) / 2;
     let mut list = text(&format!("field {p};in"));
     let line = text(&format!("span 0 {p} 1 {far}"));
@@ -160,14 +199,22 @@ fn longest_of_spans(p: i64) -> Workload {
 /// A gadget's list with 1, 2, 4, .. of its lines, for how cost grows.
 pub fn growing(gadget: usize, p: i64) -> Vec<Workload> {
     let gadget = &gadgets(p)[gadget];
-    let mut all = Vec::new();
-    for lines in (3..8).map(|power| 1 << power) {
-        let list = gadget.list(lines);
-        all.push(Workload::new(
-            format!("{} {p}, {lines} lines", gadget.name),
-            list,
-            gadget.inputs.clone(),
-        ));
-    }
-    all
+    (3..8).map(|power| gadget.lines(p, 1 << power)).collect()
+}
+
+/// A list of spans that have so many digits each.
+pub struct Spans {
+    pub digits: usize,
+    pub work: Workload,
+}
+
+/// Two lists of spans with as many lines and bytes, of few digits and of many. The second is the one that is measured among the gadgets.
+pub fn few_and_many_digits(p: i64) -> [Spans; 2] {
+    let (few, many) = if p == 31 { (1, 4) } else { (10, 30) };
+    // The first cell is the input's.
+    let lines = (MOST_CELLS as usize - 1) / many as usize;
+    let lists =
+        [few, many].map(|k| Spans { digits: k as usize, work: spans(p, k).lines(p, lines) });
+    assert_eq!(lists[0].work.list.len(), lists[1].work.list.len());
+    lists
 }
