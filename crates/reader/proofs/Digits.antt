@@ -122,7 +122,7 @@ power-step b (suc k) h = let count : suc k - 1 ≡ k = omega arith in rw count (
 pub step-above : (p b k : ℕ) → 1 ≤ b → p < b ^ (k - 1) → p < b ^ k
 step-above p b k h l = let most : b ^ (k - 1) ≤ b ^ k = pow-le-pow-right h (omega arith) in omega arith
 
-less-one : (b x : ℕ) → 1 ≤ b → x * b - x ≡ (b - 1) * x
+pub less-one : (b x : ℕ) → 1 ≤ b → x * b - x ≡ (b - 1) * x
 less-one zero x h = absurd (omega arith)
 less-one (suc b) x h = let base : suc b - 1 ≡ b = omega arith in rw base (omega (arith, mul-suc x b, mul-comm b x))
 

@@ -16,11 +16,10 @@ use Rattle.meaning.specs.Reply.{Reply, reply}
 use Rattle.meaning.specs.Gadget.Sign.{signShift, signRows}
 use Rattle.meaning.specs.Gadget.Relu.{reluLine}
 use Rattle.meaning.specs.Gadget.Which.{whichLine}
-use Rattle.reader.proofs.Digits.{top-part}
 use Rattle.reader.proofs.Sizes.{length-groupRows}
 use Rattle.table.specs.Cells.{GroupOf}
 use Rattle.table.specs.Rows.{Leaves, firstRefusal, firstOf}
-use Rattle.table.proofs.SignPower.{part-power}
+use Rattle.table.proofs.SignPower.{part-power, rest-top}
 use Rattle.table.proofs.RowsFirst.{first-none, first-row, first-rows}
 use Rattle.table.proofs.RowsForm.{leaves-constant, leaves-⊖, leaves-⊗, row-test}
 
@@ -31,7 +30,7 @@ pub top-below : {b k : ℕ} → GroupOf b k (b ^ k) → (i : ℕ) → 1 ≤ i �
 top-below {b} {k} g i h l =
     let base : 0 < b = omega (arith, g .base) in
     let less : b ^ i ≤ b ^ k = pow-le-pow-right base l in
-    omega (arith, top-part b i (b ^ i) base h refl, part-power b i (b ^ i) base h refl, one-le-pow (i - 1) b base, one-le-pow i b base)
+    omega (arith, rest-top b i (b ^ i) base h refl, part-power b i (b ^ i) base h refl, one-le-pow (i - 1) b base, one-le-pow i b base)
 
 pub greatest-digit-below : {b k : ℕ} → GroupOf b k (b ^ k) → b - 1 < b ^ k
 unfolding topPart

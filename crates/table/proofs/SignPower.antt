@@ -2,10 +2,11 @@
 use mathlib.Core.Path.{_≡_, ap, _∙_}
 use Prim.Native.Nat.{ℕ, zero, suc, _-_, _*_, _/_, _^_, _≤_, _<_}
 use native.Mathlib.Omega.{arith}
-use native.Mathlib.Nat.{pow-succ', mul-div-cancel-left}
+use native.Mathlib.Nat.{pow-succ', mul-comm, mul-div-cancel-left}
 use lib.IntN.{pos, negℤ, _-ℤ_, +ℤ-idl}
+use Rattle.meaning.specs.Known.{topPart}
 use Rattle.meaning.specs.Gadget.Sign.{signShift}
-use Rattle.reader.proofs.Digits.{top-part}
+use Rattle.reader.proofs.Digits.{less-one}
 
 module _ (b k c : ℕ) (base : zero < b) (some-digit : 1 ≤ k) (power : c ≡ b ^ k) where
   split : c ≡ b * b ^ (k - 1)
@@ -17,6 +18,10 @@ module _ (b k c : ℕ) (base : zero < b) (some-digit : 1 ≤ k) (power : c ≡ b
   pub part-power : c / b ≡ b ^ (k - 1)
   part-power = ap (λ n. n / b) split ∙ mul-div-cancel-left (b ^ (k - 1)) base
 
+  pub rest-top : c - c / b ≡ topPart b k
+  unfolding topPart
+  rest-top = rw (part-power, split, mul-comm b (b ^ (k - 1))) (less-one b (b ^ (k - 1)) base)
+
   pub rest-shift : pos 0 -ℤ pos (c - c / b) ≡ signShift b k
   unfolding signShift
-  rest-shift = +ℤ-idl (negℤ (pos (c - c / b))) ∙ ap (λ n. negℤ (pos n)) (top-part b k c base some-digit power)
+  rest-shift = +ℤ-idl (negℤ (pos (c - c / b))) ∙ ap (λ n. negℤ (pos n)) rest-top
