@@ -21,13 +21,14 @@ use Rattle.text.specs.declared.Spelled.{Spelled}
 use Rattle.text.specs.declared.Spelled.the-variants.{Known, NoWord}
 use Rattle.text.specs.declared.Counted.{Counted}
 use Rattle.text.specs.declared.Counted.the-variants.{Numbers, NoNumbers}
+use Rattle.text.specs.declared.Fields.{Fields}
 use Rattle.text.specs.declared.Fields.the-variants.{Worded, Alone, NoFields}
 use Rattle.text.specs.declared.Parsed.the-variants.{Line, NoLine}
 use Rattle.text.specs.declared.Number.the-variants.{Of, NoNumber}
 use Rattle.text.specs.Number.{WholeRead}
 use Rattle.text.specs.Word.{wordOf, WordRead}
 use Rattle.text.specs.Place.{indexOf, Found, endOf, upTo, lineAt, fieldAt, fieldsFrom}
-use Rattle.text.specs.Parsed.{parsedSeen, countSeen, NumbersTold, FieldsTold, LineRead, NextAfter, Stored, leadingNumbers, leading, mostNumbers}
+use Rattle.text.specs.Parsed.{parsedSeen, countSeen, NumbersTold, wordedBy, FieldsTold, LineRead, NextAfter, Stored, leadingNumbers, leading, mostNumbers}
 use Rattle.text.proofs.Places.{partsAfter, parts-none, parts-more, fields-from, fields-found}
 use Rattle.text.proofs.Numbers.{number-small, small-fits}
 use Rattle.text.proofs.Ends.{InLine, cut-length, before-end, place-next, place-later, same-line, stops-at, line-cut}
@@ -63,6 +64,20 @@ module _ {text : List ℕ} {at : ℕ} (l : InLine text at (endOf text at)) where
     unfolding fieldsOf
     fields = rw (line-cut text at) (fields-found line ends)
 
+    -- what is told of the word with so many numbers, by whether as many belong to it
+    told-by : (right : Bool) (after : List ℤ) (count : ℕ) {place : ℕ} → isCount (wordOf w) count ≡ right
+        → lineOf (lineAt text at) ≡ assemble (some (wordOf w)) (some (take count after)) → count ≤ mostNumbers → length after ≡ mostNumbers
+        → place ≡ endOf text at → (f : Fields) → f ≡ wordedBy right w count place → FieldsTold text at after f
+    unfolding wordedBy FieldsTold assemble
+    told-by true after count t is most long last f e =
+        rw e (is ∙ rw (length-take-le count after (omega arith), t), word-no-number (lineAt text at) fields is-word, most, last)
+    told-by false after count t is most long last f e =
+        rw e (is ∙ rw (length-take-le count after (omega arith), t), word-no-number (lineAt text at) fields is-word)
+
+    told-at : (after : List ℤ) (count : ℕ) {place : ℕ} → lineOf (lineAt text at) ≡ assemble (some (wordOf w)) (some (take count after)) → count ≤ mostNumbers
+        → length after ≡ mostNumbers → place ≡ endOf text at → (f : Fields) → f ≡ wordedBy (isCount (wordOf w) count) w count place → FieldsTold text at after f
+    told-at after count = told-by (isCount (wordOf w) count) after count refl
+
     module _ (no-tab : getD text end 0 ≡ 9 → ⊥) where
       last : endOf text at ≤ end
       last = elim (decLt end (endOf text at)) [ yes h ↦ absurd (no-tab (stops-at word-place ends h)) | no h ↦ omega arith ]
@@ -70,17 +85,13 @@ module _ {text : List ℕ} {at : ℕ} (l : InLine text at (endOf text at)) where
       nothing : partsAfter 9 line end ≡ []
       nothing = parts-none 9 line end (omega (arith, cut-length l, last))
 
-      pub word-alone : (numbers : List ℤ) → FieldsTold text at numbers (Worded w 0 end) × Stored (leading (lineAt text at)) numbers numbers
-      unfolding FieldsTold numbersOf leadingNumbers
-      word-alone numbers = (
-        (
-          line-word (lineAt text at) fields is-word ∙ rw nothing,
-          word-no-number (lineAt text at) fields is-word,
-          omega arith,
-          omega (arith, last, word-place .found .low),
-        ),
-        stored-none (leading (lineAt text at)) numbers (leading-word (lineAt text at) fields is-word ∙ rw nothing),
-      )
+      pub word-alone : (numbers : List ℤ) → length numbers ≡ mostNumbers → (r : Fields) → r ≡ wordedBy (isCount (wordOf w) 0) w 0 end → FieldsTold text at numbers r
+      unfolding numbersOf
+      word-alone numbers long = told-at numbers 0 (line-word (lineAt text at) fields is-word ∙ rw nothing) (omega arith) long (omega (arith, last, word-place .found .low))
+
+      pub word-alone-stored : (numbers : List ℤ) → Stored (leading (lineAt text at)) numbers numbers
+      unfolding leadingNumbers
+      word-alone-stored numbers = stored-none (leading (lineAt text at)) numbers (leading-word (lineAt text at) fields is-word ∙ rw nothing)
 
     module _ (tab : getD text end 0 ≡ 9) where
       next : InLine text (end + 1) (endOf text at)
@@ -96,15 +107,12 @@ module _ {text : List ℕ} {at : ℕ} (l : InLine text at (endOf text at)) where
       word-stored s = rw (leading-word (lineAt text at) fields is-word, after-tab) s
 
       module _ (after : List ℤ) {c : Counted} (told : NumbersTold (upTo text (end + 1)) (end + 1) after c) where
-        pub word-numbers : {count place : ℕ} → c ≡ Numbers count place → FieldsTold text at after (Worded w count place)
-        unfolding FieldsTold NumbersTold
-        word-numbers {count} {place} is =
-            let t = rw is at told in (
-              line-word (lineAt text at) fields is-word ∙ rw (after-tab, t .0),
-              word-no-number (lineAt text at) fields is-word,
-              t .1,
-              t .2 ∙ rw (same-line next) (cut-length next),
-            )
+        pub word-numbers : length after ≡ mostNumbers → {count place : ℕ} → c ≡ Numbers count place → (f : Fields)
+            → f ≡ wordedBy (isCount (wordOf w) count) w count place → FieldsTold text at after f
+        unfolding NumbersTold
+        word-numbers long {count} {place} is =
+            let t = rw is at told in
+            told-at after count (line-word (lineAt text at) fields is-word ∙ rw (after-tab, t .0)) (t .1) long (t .2 ∙ rw (same-line next) (cut-length next))
 
         pub word-no-numbers : c ≡ NoNumbers → FieldsTold text at after NoFields
         unfolding FieldsTold NumbersTold
@@ -150,18 +158,10 @@ module _ (text : List ℕ) (at : ℕ) {before after : List ℤ} (left : Stored (
   unfolding parsedSeen countSeen NextAfter
   reads-no-line q = (record { seen = sym (none-refused 3 q); most = omega arith; left = left }, tt)
 
-  module _ (w : Word) (count end : ℕ) (long : length before ≡ mostNumbers) (told : FieldsTold text at after (Worded w count end))
-      {right : Bool} (q : right ≡ isCount (wordOf w) count) where
-    counted : lineOf (lineAt text at) ≡ cond right (some (record { word = wordOf w; numbers = take count after })) none
-    unfolding FieldsTold assemble
-    counted = told .0 ∙ rw (length-take-le count after (omega (arith, told .2, left .kept)), sym q)
-
-    pub reads-line : right ≡ true → LineRead (lineAt text at) before after (Line w count (end + 1)) × NextAfter text at (Line w count (end + 1))
-    unfolding parsedSeen countSeen NextAfter FieldsTold
-    reads-line holds = (record { seen = sym (some-value 3 (counted ∙ rw holds)); most = told .2; left = left }, ap (λ (n : ℕ). n + 1) (told .3))
-
-    pub reads-wrong-count : right ≡ false → LineRead (lineAt text at) before after NoLine × NextAfter text at NoLine
-    reads-wrong-count fails = reads-no-line (counted ∙ rw fails)
+  pub reads-line : (w : Word) (count end : ℕ) → FieldsTold text at after (Worded w count end)
+      → LineRead (lineAt text at) before after (Line w count (end + 1)) × NextAfter text at (Line w count (end + 1))
+  unfolding parsedSeen countSeen NextAfter FieldsTold
+  reads-line w count end told = (record { seen = sym (some-value 3 (told .0)); most = told .2; left = left }, ap (λ (n : ℕ). n + 1) (told .3))
 
 module _ (text : List ℕ) (at : ℕ) where
   pub reads-no-number : number (lineAt text at) ≡ none → WholeRead text at NoNumber

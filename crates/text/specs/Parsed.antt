@@ -2,6 +2,7 @@
 -- that were lent to it. Bytes that spell no line are refusal 3.
 use mathlib.Core.Path.{_≡_}
 use Prim.Native.Nat.{ℕ, _+_, _≤_}
+use mathlib.Core.Bool.{Bool, true, false}
 use mathlib.Core.List.{List, [], _∷_, _++_}
 use mathlib.Core.Option.{Option, none, some}
 use lib.IntN.{ℤ}
@@ -12,6 +13,7 @@ use Rattle.meaning.specs.Line.{Word as MeantWord, Line as Meant}
 use Rattle.meaning.specs.Refusal.{Result, value, refusedBy, orRefused}
 use Rattle.text.specs.Word.{wordOf}
 use Rattle.text.specs.Place.{endOf, lineAt, fieldsFrom}
+use Rattle.text.specs.declared.Word.{Word}
 use Rattle.text.specs.declared.Counted.{Counted}
 use Rattle.text.specs.declared.Counted.the-variants.{Numbers, NoNumbers}
 use Rattle.text.specs.declared.Fields.{Fields}
@@ -69,9 +71,14 @@ unfoldable pub NumbersTold : List ℕ → ℕ → List ℤ → Counted → Type 
 NumbersTold line from after (Numbers count end) = (numbersOf (fieldsFrom line from) ≡ some (take count after)) × (count ≤ mostNumbers) × (end ≡ length line)
 NumbersTold line from after NoNumbers = (w : MeantWord) → assemble (some w) (numbersOf (fieldsFrom line from)) ≡ none
 
+-- the answer for a word with so many numbers, by whether as many belong to it
+unfoldable pub wordedBy : Bool → Word → ℕ → ℕ → Fields
+wordedBy true w count end = Worded w count end
+wordedBy false w count end = NoFields
+
 -- the word and the numbers of the line at `at`, or its numbers alone, and where it ends; or it is no line and no number
 unfoldable pub FieldsTold : List ℕ → ℕ → List ℤ → Fields → Type 0
-FieldsTold text at after (Worded w count end) = (lineOf (lineAt text at) ≡ assemble (some (wordOf w)) (some (take count after)))
+FieldsTold text at after (Worded w count end) = (lineOf (lineAt text at) ≡ some (record { word = wordOf w; numbers = take count after }))
     × (number (lineAt text at) ≡ none) × (count ≤ mostNumbers) × (end ≡ endOf text at)
 FieldsTold text at after (Alone count end) = (lineOf (lineAt text at) ≡ none) × (numbersOf (fieldsOf (lineAt text at)) ≡ some (take count after))
     × (count ≤ mostNumbers) × (end ≡ endOf text at)

@@ -12,7 +12,7 @@ ghost use Rattle.meaning.specs.Line.{isCount, spelling};
 ghost use Rattle.text.specs.Number.{SizeRead, NumberRead, WholeRead};
 ghost use Rattle.text.specs.Word.{wordOf, WordRead, OnlyWord, Spells};
 ghost use Rattle.text.specs.Place.{Found, upTo, lineAt, fieldsFrom};
-ghost use Rattle.text.specs.Parsed.{LineRead, NextAfter, NumbersTold, FieldsTold, Stored, leadingNumbers, leading, mostNumbers};
+ghost use Rattle.text.specs.Parsed.{LineRead, NextAfter, NumbersTold, wordedBy, FieldsTold, Stored, leadingNumbers, leading, mostNumbers};
 
 // Bytes with a meaning of their own.
 const TAB: u8 = 9;
@@ -313,7 +313,7 @@ enum Counted {
     NoNumbers,
 }
 
-// The fields of a line: a word and so many numbers, or so many numbers alone, and where the line ends.
+// The fields of a line: a word and the numbers that belong to it, so many, or so many numbers alone, and where the line ends.
 enum Fields {
     Worded(Word, usize, usize),
     Alone(usize, usize),
@@ -349,6 +349,16 @@ fn numbers_from(text: &[u8], from: usize, numbers: &mut [i64]) -> Counted
     Counted::NoNumbers
 }
 
+// A word with so many numbers, where as many belong to it.
+fn worded(word: Word, count: usize, end: usize) -> Fields
+    ensures { λ r. ⌜ r ≡ wordedBy (isCount (wordOf word) count) word count end ⌝ }
+{
+    if is_count(word, count) {
+        return Fields::Worded(word, count, end);
+    }
+    Fields::NoFields
+}
+
 // The fields of the line at `at`, whose numbers are then the first in `numbers`. Lines and inputs are both read here: as `number_at` and
 // `numbers_from` are called at one place alone, the compiler puts all of them into this function, and a line costs one call.
 fn fields_of(text: &[u8], at: usize, numbers: &mut [i64]) -> Fields
@@ -360,7 +370,7 @@ fn fields_of(text: &[u8], at: usize, numbers: &mut [i64]) -> Fields
     let mut from = at;
     if let Spelled::Known(word, end) = spelled {
         if text[end] != TAB {
-            return Fields::Worded(word, 0, end);
+            return worded(word, 0, end);
         }
         from = end + 1;
     }
@@ -368,7 +378,7 @@ fn fields_of(text: &[u8], at: usize, numbers: &mut [i64]) -> Fields
         return Fields::NoFields;
     };
     match spelled {
-        Spelled::Known(word, _) => Fields::Worded(word, count, end),
+        Spelled::Known(word, _) => worded(word, count, end),
         Spelled::NoWord => Fields::Alone(count, end),
     }
 }
@@ -381,12 +391,7 @@ pub fn line_of(text: &[u8], at: usize, numbers: &mut [i64]) -> Parsed
 {
     let fields = fields_of(text, at, numbers);
     match fields {
-        Fields::Worded(word, count, end) => {
-            if is_count(word, count) {
-                return Parsed::Line(word, count, end + 1);
-            }
-            Parsed::NoLine
-        }
+        Fields::Worded(word, count, end) => Parsed::Line(word, count, end + 1),
         Fields::Alone(_, _) => Parsed::NoLine,
         Fields::NoFields => Parsed::NoLine,
     }

@@ -8,7 +8,7 @@ use Rattle.text.specs.declared.Word.{Word}
 use Rattle.text.specs.declared.Spelled.the-variants.{Known, NoWord}
 use Rattle.text.specs.Place.{endOf}
 use Rattle.text.proofs.Ends.{InLine, in-line, place-inside, place-next}
-use Rattle.text.proofs.LineFields.{word-place, word-alone, word-stored, word-numbers, word-no-numbers, bare-stored, bare-numbers, bare-no-numbers}
+use Rattle.text.proofs.LineFields.{word-place, word-alone, word-alone-stored, word-stored, word-numbers, word-no-numbers, bare-stored, bare-numbers, bare-no-numbers}
 use borrow.Author.Needs.{needs}
 use Rattle.text.proofs.fields_of.Statement.{statement}
 use Rattle.text.proofs.fields_of.Tie as tie
@@ -27,10 +27,18 @@ shared-slice-read-if1 c =
     let at-word = c .before .before .before .before in
     omega (arith, place-inside (word-place (line (at-word .before .before)) (at-word .word-at .ensures) (c .before .before .spelled .given .1)))
 
+worded-requires : tie.Need-worded-requires
+worded-requires c κs = search needs
+
 returns : tie.Need-returns
 returns c =
-    let at-word = c .before .before .before .before .before in
-    word-alone (line (at-word .before .before)) (at-word .word-at .ensures) (c .before .before .before .spelled .given .1) (c .if1 .taken) _
+    let at-word = c .before .before .before .before .before .before in
+    let start = at-word .before .before in
+    let is = c .before .before .before .before .spelled .given .1 in
+    let no-tab = c .before .if1 .taken in (
+      word-alone (line start) (at-word .word-at .ensures) is no-tab _ (start .pre .2) _ (c .worded .ensures),
+      word-alone-stored (line start) (at-word .word-at .ensures) is no-tab _,
+    )
 
 add-from : tie.Need-add-from
 add-from c =
@@ -107,19 +115,22 @@ enum-told-3 c = search needs
 same-length-2 : tie.Need-same-length-2
 same-length-2 c = search needs
 
+worded-requires-2 : tie.Need-worded-requires-2
+worded-requires-2 c κs = search needs
+
 returns-3 : tie.Need-returns-3
 unfolding Started
 returns-3 c =
-    let at-count = c .before .before .before .before in
+    let at-count = c .before .before .before .before .before in
     let at-numbers = at-count .before .before .before in
     let at-match = at-numbers .before .before in
     let at-word = at-match .before in
     let start = at-word .before .before in
-    let is = c .before .spelled2 .given .1 in
+    let is = c .before .before .spelled2 .given .1 in
     ⊎-elim
     (λ w. (
-      rw (same-word (sym is ∙ w .4))
-          (word-numbers (line start) (at-word .word-at .ensures) (w .2) (w .3) _ (rw (w .5) at (at-numbers .numbers-from .ensures .0)) (at-count .count .given .1)),
+      word-numbers (line start) (at-word .word-at .ensures) (w .2) (w .3) _ (rw (w .5) at (at-numbers .numbers-from .ensures .0))
+          (at-numbers .numbers-from .ensures .1 .kept ∙ start .pre .2) (at-count .count .given .1) _ (rw (same-word (sym is ∙ w .4)) at (c .worded2 .ensures)),
       word-stored (line start) (at-word .word-at .ensures) (w .2) (w .3) (rw (w .5) at (at-numbers .numbers-from .ensures .1)),
     ))
     (λ w. absurd (no-word-known (sym (w .1) ∙ is)))
@@ -152,6 +163,7 @@ fields-of-spec =
     word-at-requires
     enum-known-spelled
     shared-slice-read-if1
+    worded-requires
     returns
     add-from
     enum-told
@@ -161,6 +173,7 @@ fields-of-spec =
     same-length
     returns-2
     enum-known-spelled-2
+    worded-requires-2
     enum-told-3
     same-length-2
     returns-3

@@ -1,0 +1,21 @@
+-- One test, as in the contract.
+use mathlib.Core.Path.{sym, ap, _∙_}
+use mathlib.Core.Bool.{Bool}
+use Rattle.text.specs.Parsed.{wordedBy}
+use borrow.Author.Needs.{needs}
+use Rattle.text.proofs.worded.Statement.{statement}
+use Rattle.text.proofs.worded.Tie as tie
+
+is-count-requires : tie.Need-is-count-requires
+is-count-requires c κs = search needs
+
+returns : tie.Need-returns
+unfolding wordedBy
+returns c = sym (rw (sym (c .before .is-count .ensures) ∙ c .if1 .taken))
+
+returns-2 : tie.Need-returns-2
+unfolding wordedBy
+returns-2 c = sym (rw (sym (c .before .is-count .ensures) ∙ c .if1 .left))
+
+pub worded-spec : {M : Type 1} → statement M
+worded-spec = tie.close (tie.spec is-count-requires returns returns-2)
