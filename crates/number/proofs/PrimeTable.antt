@@ -1,7 +1,7 @@
 -- The table holds exactly the primes below 256. The checker computes two tests, each once: every entry is 2 or an odd prime, and
 -- below 256, and every number below 256 that is 2 or an odd prime is an entry. A third test is that of the great primes that are
 -- known: no number up to their roots divides them.
-use mathlib.Core.Path.{_≡_, refl}
+use mathlib.Core.Path.{_≡_, refl, sym}
 use mathlib.Core.Bool.{Bool, true, false, not, _&&_, _||_}
 use mathlib.Core.List.{List, [], _∷_}
 use mathlib.Core.Logic.{_⊎_, inl, inr, ⊎-elim, _≢_}
@@ -14,9 +14,9 @@ use lib.ListN.{length, getD}
 use Rattle.meaning.specs.Number.{noDivisor, oddPrime}
 use Rattle.meaning.proofs.Number.{noDivisor-all, odd-prime}
 use Rattle.algebra.specs.Prime.{Prime}
-use Rattle.algebra.proofs.Test.{left, right}
+use Rattle.algebra.proofs.Test.{left, right, not-false}
 use Rattle.algebra.proofs.Prime.{prime-by-trial, prime-by-roots, prime-no-remainder}
-use Rattle.number.specs.Table.{primes, wheel, FirstDivisor}
+use Rattle.number.specs.Table.{primes, wheel, Listed, FirstDivisor}
 use Rattle.algebra.proofs.PrimeDivisor.{prime-by-prime-roots}
 use Rattle.number.proofs.OddPrime.{odd-prime-passes}
 
@@ -109,6 +109,13 @@ unfolding listed-test
 prime-listed q P h =
     let t : T (listed-test q) = everyBelow-at listed-test 256 primes-listed q h in
     listed-place q primes (rw (prime-test q P) at t)
+
+-- a number from 3 on and below 256 is an odd prime exactly where the table has it
+pub listed-decides : (n : ℕ) (r : Bool) → 3 ≤ n → n < 256 → Listed n primes r → r ≡ oddPrime n
+listed-decides n true h l w = let p = w .found refl in odd-prime-passes n h (rw (p .2) at (entry-prime (p .0) (p .1)))
+listed-decides n false h l w = sym (not-false (oddPrime n) (λ t.
+    let p = prime-listed n (odd-prime n t .prime) l in
+    w .absent refl (p .0) (p .1) (p .2)))
 
 -- ---- the trial by the table and by the odd numbers above it
 

@@ -1,5 +1,7 @@
--- The primes below 256 as a table, the numbers below 30 without the factors 2, 3 and 5, and what a search of a table for a divisor says.
+-- The primes below 256 as a table, the numbers below 30 without the factors 2, 3 and 5, and what a search of a table says, for
+-- a number or for a divisor.
 use mathlib.Core.Path.{_≡_}
+use mathlib.Core.Bool.{Bool, true, false}
 use mathlib.Core.List.{List, [], _∷_}
 use mathlib.Core.Logic.{_≢_}
 use Prim.Native.Nat.{ℕ, _+_, _%_, _≤_, _<_}
@@ -14,6 +16,11 @@ primes =
 
 abbrev pub wheel : List ℕ
 wheel = 1 ∷ 7 ∷ 11 ∷ 13 ∷ 17 ∷ 19 ∷ 23 ∷ 29 ∷ []
+
+-- r tells whether n is an entry of the table
+pub record Listed (n : ℕ) (table : List ℕ) (r : Bool) : Type 0 where
+  pub found : r ≡ true → (i : ℕ) × (i < length table) × (getD table i 0 ≡ n)
+  pub absent : r ≡ false → (i : ℕ) → i < length table → getD table i 0 ≢ n
 
 -- place is where the first entry of the table stands that with d added divides n, and the table's length where none does
 pub record FirstDivisor (n d : ℕ) (table : List ℕ) (place : ℕ) : Type 0 where

@@ -1,12 +1,12 @@
 // Whether a number is an odd prime. Of five great primes that proof systems use it is known: 119·2^23 + 1, 15·2^27 + 1, 127·2^24 + 1,
-// 2^31 - 1 and the greatest below 2^32. For any other number the primes below 256 are tried first, from a table, then the odd numbers from 241 on up to
-// the square root, but for multiples of 3 and 5: each test is one division of 32-bit numbers.
+// 2^31 - 1 and the greatest below 2^32. Of a number below 256 a table of the primes says it. For any other number the primes of the table are tried
+// first, then the odd numbers from 241 on up to the square root, but for multiples of 3 and 5: each test is one division of 32-bit numbers.
 use super::root::square_root;
 ghost use mathlib.Core.Path.{_≡_};
 ghost use Prim.Native.Nat.{ℕ, _+_, _^_, _≤_, _<_};
 ghost use lib.ListN.{length, getD};
 ghost use Rattle.meaning.specs.Number.{oddPrime};
-ghost use Rattle.number.specs.Table.{primes, FirstDivisor};
+ghost use Rattle.number.specs.Table.{primes, Listed, FirstDivisor};
 
 // The primes below 256.
 const PRIMES: [u32; 54] = [
@@ -81,12 +81,30 @@ pub fn is_odd_prime(n: u32) -> bool
         _ => {}
     }
     let primes = PRIMES;
+    // Below 256 the table holds every prime, and no division is needed.
+    if n < 256 {
+        return is_listed(n, &primes);
+    }
     let at = first_divisor(n, 0, &primes);
     if at < 54 {
         // A prime of the table that divides n: n is prime only where it is that prime itself.
         return primes[at] == n;
     }
     passes_odd_trial(n)
+}
+
+// Whether n is a number of the table.
+fn is_listed(n: u32, table: &[u32]) -> bool
+    ensures { λ r. ⌜ Listed n (now (table .entry)) r ⌝ }
+{
+    let mut i: usize = 0;
+    while i < table.len() {
+        if table[i] == n {
+            return true;
+        }
+        i += 1;
+    }
+    false
 }
 
 // The place of the first number of the table that with d added divides n, or its length where none does.

@@ -1,11 +1,11 @@
--- `number::prime::is_odd_prime`: a prime that is known passes. Else a divisor from the table decides, and where there is none the trial by
--- odd numbers does.
+-- `number::prime::is_odd_prime`: a prime that is known passes. Below 256 the table decides. Else a divisor from the table does, and
+-- where there is none the trial by odd numbers.
 use mathlib.Core.Path.{_≡_}
 use native.Mathlib.Omega.{arith}
 use native.Mathlib.Nat.{zero-add}
 use borrow.Author.Needs.{needs}
 use Rattle.number.proofs.OddPrime.{odd-prime-passes, odd-prime-low, prime-divisor-decides}
-use Rattle.number.proofs.PrimeTable.{entry-prime, entry-below, known-prime}
+use Rattle.number.proofs.PrimeTable.{entry-prime, entry-below, listed-decides, known-prime}
 use Rattle.number.proofs.prime.is_odd_prime.Statement.{statement}
 use Rattle.number.proofs.prime.is_odd_prime.Tie as tie
 
@@ -14,6 +14,15 @@ returns c = odd-prime-low _ (omega arith)
 
 returns-2 : tie.Need-returns-2
 returns-2 c = odd-prime-passes _ (omega arith) (known-prime _ (c .match .keys1))
+
+slice-aggregate-is-listed : tie.Need-slice-aggregate-is-listed
+slice-aggregate-is-listed c = search needs
+
+is-listed-requires : tie.Need-is-listed-requires
+is-listed-requires c κs = search needs
+
+returns-3 : tie.Need-returns-3
+returns-3 c = listed-decides _ _ (omega arith) (omega arith) (c .is-listed .ensures)
 
 slice-aggregate-first-divisor : tie.Need-slice-aggregate-first-divisor
 slice-aggregate-first-divisor c = search needs
@@ -28,10 +37,10 @@ mul-result c = search needs
 array-read-result : tie.Need-array-read-result
 array-read-result c = search needs
 
-returns-3 : tie.Need-returns-3
-returns-3 c =
+returns-4 : tie.Need-returns-4
+returns-4 c =
     let d = c .before .first-divisor in
-    prime-divisor-decides _ _ (omega arith) (entry-prime (d .result) (c .if2 .taken)) (rw zero-add at (d .ensures .divides (c .if2 .taken)))
+    prime-divisor-decides _ _ (omega arith) (entry-prime (d .result) (c .if3 .taken)) (rw zero-add at (d .ensures .divides (c .if3 .taken)))
 
 passes-odd-trial-requires : tie.Need-passes-odd-trial-requires
 passes-odd-trial-requires c κs =
@@ -39,8 +48,8 @@ passes-odd-trial-requires c κs =
     let e : d .result ≡ 54 = omega (arith, d .ensures .within) in
     (omega arith, rw e at (d .ensures))
 
-returns-4 : tie.Need-returns-4
-returns-4 c = search needs
+returns-5 : tie.Need-returns-5
+returns-5 c = search needs
 
 pub is-odd-prime-spec : {M : Type 1} → statement M
 is-odd-prime-spec =
@@ -48,10 +57,13 @@ is-odd-prime-spec =
     (tie.spec
     returns
     returns-2
+    slice-aggregate-is-listed
+    is-listed-requires
+    returns-3
     slice-aggregate-first-divisor
     first-divisor-requires
     mul-result
     array-read-result
-    returns-3
+    returns-4
     passes-odd-trial-requires
-    returns-4)
+    returns-5)
