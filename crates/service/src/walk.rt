@@ -32,20 +32,19 @@ pub fn take_line(list: &[u8], at: usize, counts: Counts, numbers: &mut [i64]) ->
     requires { ⌜ AtLine (now list) counts at × (length (now numbers) ≡ mostNumbers) ⌝ }
     ensures { λ r. ⌜ ((a : AtLine (now (list .entry)) counts at) → Took a (now (numbers .exit)) r) ⌝ }
 {
+    let mut word = Word::Field;
+    let mut count: usize = 0;
+    let mut next = at;
     // The list was read, so that each of its lines is one: what is answered for other bytes is never asked for.
-    let Parsed::Line(word, count, next) = line_of(list, at, numbers) else {
-        return Taken {
-            word: Word::Field,
-            count: 0,
-            counts: counts,
-            next: at,
-        };
-    };
-    let after = counts_after(counts, word, numbers);
+    if let Parsed::Line(read, many, end) = line_of(list, at, numbers) {
+        word = read;
+        count = many;
+        next = end;
+    }
     Taken {
         word: word,
         count: count,
-        counts: after,
+        counts: counts_after(counts, word, numbers),
         next: next,
     }
 }

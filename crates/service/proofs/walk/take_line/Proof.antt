@@ -1,7 +1,8 @@
 -- `service::walk::take_line`: the one place where a line of a list that was read is parsed and counted.
-use denote.Ref.{now}
-use mathlib.Core.Path.{_∙_}
+use mathlib.Core.Logic.{⊎-elim}
+use mathlib.Core.Path.{_≡_, refl, _∙_}
 use borrow.Author.Needs.{needs}
+use Rattle.text.specs.declared.Parsed.the-variants.{Line}
 use Rattle.service.proofs.Listed.{read-ended}
 use Rattle.service.proofs.Standing.{line-is-there, took}
 use Rattle.service.proofs.walk.take_line.Statement.{statement}
@@ -13,44 +14,35 @@ line-of-requires c κs =
     let l = S .pre .0 .listed in
     (read-ended _ (l .lines) (l .last) (l .is-read), S .pre .0 .inside, S .pre .1)
 
-enum-known-word : tie.Need-enum-known-word
-enum-known-word c = search needs
+enum-known-read : tie.Need-enum-known-read
+enum-known-read c = search needs
 
 enum-told : tie.Need-enum-told
 enum-told c = search needs
+
+counts-after-requires : tie.Need-counts-after-requires
+counts-after-requires c κs =
+    let at-line = c .before .before .before in
+    let S = at-line .before .before .before in
+    (S .pre .0 .stands .few, at-line .line-of .ensures .0 .left .kept ∙ S .pre .1)
 
 same-length : tie.Need-same-length
 same-length c = search needs
 
 returns : tie.Need-returns
 returns c =
-    let S = c .before .before .before .before .before .before in
-    λ a. absurd (line-is-there a (c .before .before .before .line-of .ensures .0) (S .pre .1) (c .enum-told .given .1))
-
-counts-after-requires : tie.Need-counts-after-requires
-counts-after-requires c κs =
-    let S = c .before .before .before .before .before .before .before .before in
-    (S .pre .0 .stands .few, c .before .before .before .before .before .line-of .ensures .0 .left .kept ∙ S .pre .1)
-
-same-length-2 : tie.Need-same-length-2
-same-length-2 c = search needs
-
-returns-2 : tie.Need-returns-2
-returns-2 c =
-    let S = c .before .before .before .before .before .before .before .before .before in
-    let at-line = c .before .before .before .before .before .before in
-    λ a. took a (at-line .line-of .ensures .0) (S .pre .1) (c .before .before .before .word .given .1) (at-line .line-of .ensures .1) _ (c .counts-after .ensures .0)
-    (c .counts-after .ensures .1 .1)
+    let at-match = c .before .before in
+    let at-line = at-match .before .before in
+    let S = at-line .before .before .before in
+    let m = at-match .match in
+    λ a. ⊎-elim
+    (λ w.
+    let is : at-line .line-of .result ≡ Line (m .word) (m .count) (m .next) = w .1 .given .1 ∙ rw (w .3, w .4, w .5) refl in
+    took a (at-line .line-of .ensures .0) (S .pre .1) is (at-line .line-of .ensures .1) _ (c .counts-after .ensures .0) (c .counts-after .ensures .1 .1))
+    (λ w. absurd (line-is-there a (at-line .line-of .ensures .0) (S .pre .1) (w .1 .given .1)))
+    (m .came)
 
 pub take-line-spec : {M : Type 1} → statement M
 take-line-spec =
     tie.close
-    (tie.spec
-    line-of-requires
-    enum-known-word
-    enum-told
-    same-length
-    returns
-    counts-after-requires
-    same-length-2
-    returns-2)
+    (tie.spec line-of-requires enum-known-read enum-told counts-after-requires same-length returns)
