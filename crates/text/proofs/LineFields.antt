@@ -67,7 +67,7 @@ module _ {text : List ℕ} {at : ℕ} (l : InLine text at (endOf text at)) where
     -- what is told of the word with so many numbers, by whether as many belong to it
     told-by : (right : Bool) (after : List ℤ) (count : ℕ) {place : ℕ} → isCount (wordOf w) count ≡ right
         → lineOf (lineAt text at) ≡ assemble (some (wordOf w)) (some (take count after)) → count ≤ mostNumbers → length after ≡ mostNumbers
-        → place ≡ endOf text at → (f : Fields) → f ≡ wordedBy right w count place → FieldsTold text at after f
+        → place ≡ endOf text at + 1 → (f : Fields) → f ≡ wordedBy right w count place → FieldsTold text at after f
     unfolding wordedBy FieldsTold assemble
     told-by true after count t is most long last f e =
         rw e (is ∙ rw (length-take-le count after (omega arith), t), word-no-number (lineAt text at) fields is-word, most, last)
@@ -75,7 +75,8 @@ module _ {text : List ℕ} {at : ℕ} (l : InLine text at (endOf text at)) where
         rw e (is ∙ rw (length-take-le count after (omega arith), t), word-no-number (lineAt text at) fields is-word)
 
     told-at : (after : List ℤ) (count : ℕ) {place : ℕ} → lineOf (lineAt text at) ≡ assemble (some (wordOf w)) (some (take count after)) → count ≤ mostNumbers
-        → length after ≡ mostNumbers → place ≡ endOf text at → (f : Fields) → f ≡ wordedBy (isCount (wordOf w) count) w count place → FieldsTold text at after f
+        → length after ≡ mostNumbers → place ≡ endOf text at + 1 → (f : Fields) → f ≡ wordedBy (isCount (wordOf w) count) w count place
+        → FieldsTold text at after f
     told-at after count = told-by (isCount (wordOf w) count) after count refl
 
     module _ (no-tab : getD text end 0 ≡ 9 → ⊥) where
@@ -85,7 +86,7 @@ module _ {text : List ℕ} {at : ℕ} (l : InLine text at (endOf text at)) where
       nothing : partsAfter 9 line end ≡ []
       nothing = parts-none 9 line end (omega (arith, cut-length l, last))
 
-      pub word-alone : (numbers : List ℤ) → length numbers ≡ mostNumbers → (r : Fields) → r ≡ wordedBy (isCount (wordOf w) 0) w 0 end → FieldsTold text at numbers r
+      pub word-alone : (numbers : List ℤ) → length numbers ≡ mostNumbers → (r : Fields) → r ≡ wordedBy (isCount (wordOf w) 0) w 0 (end + 1) → FieldsTold text at numbers r
       unfolding numbersOf
       word-alone numbers long = told-at numbers 0 (line-word (lineAt text at) fields is-word ∙ rw nothing) (omega arith) long (omega (arith, last, word-place .found .low))
 
@@ -108,11 +109,11 @@ module _ {text : List ℕ} {at : ℕ} (l : InLine text at (endOf text at)) where
 
       module _ (after : List ℤ) {c : Counted} (told : NumbersTold (upTo text (end + 1)) (end + 1) after c) where
         pub word-numbers : length after ≡ mostNumbers → {count place : ℕ} → c ≡ Numbers count place → (f : Fields)
-            → f ≡ wordedBy (isCount (wordOf w) count) w count place → FieldsTold text at after f
+            → f ≡ wordedBy (isCount (wordOf w) count) w count (place + 1) → FieldsTold text at after f
         unfolding NumbersTold
         word-numbers long {count} {place} is =
             let t = rw is at told in
-            told-at after count (line-word (lineAt text at) fields is-word ∙ rw (after-tab, t .0)) (t .1) long (t .2 ∙ rw (same-line next) (cut-length next))
+            told-at after count (line-word (lineAt text at) fields is-word ∙ rw (after-tab, t .0)) (t .1) long (ap (λ (n : ℕ). n + 1) (t .2 ∙ rw (same-line next) (cut-length next)))
 
         pub word-no-numbers : c ≡ NoNumbers → FieldsTold text at after NoFields
         unfolding FieldsTold NumbersTold
@@ -158,10 +159,10 @@ module _ (text : List ℕ) (at : ℕ) {before after : List ℤ} (left : Stored (
   unfolding parsedSeen countSeen NextAfter
   reads-no-line q = (record { seen = sym (none-refused 3 q); most = omega arith; left = left }, tt)
 
-  pub reads-line : (w : Word) (count end : ℕ) → FieldsTold text at after (Worded w count end)
-      → LineRead (lineAt text at) before after (Line w count (end + 1)) × NextAfter text at (Line w count (end + 1))
+  pub reads-line : (w : Word) (count next : ℕ) → FieldsTold text at after (Worded w count next)
+      → LineRead (lineAt text at) before after (Line w count next) × NextAfter text at (Line w count next)
   unfolding parsedSeen countSeen NextAfter FieldsTold
-  reads-line w count end told = (record { seen = sym (some-value 3 (told .0)); most = told .2; left = left }, ap (λ (n : ℕ). n + 1) (told .3))
+  reads-line w count next told = (record { seen = sym (some-value 3 (told .0)); most = told .2; left = left }, told .3)
 
 module _ (text : List ℕ) (at : ℕ) where
   pub reads-no-number : number (lineAt text at) ≡ none → WholeRead text at NoNumber

@@ -73,13 +73,14 @@ NumbersTold line from after NoNumbers = (w : MeantWord) → assemble (some w) (n
 
 -- the answer for a word with so many numbers, by whether as many belong to it
 unfoldable pub wordedBy : Bool → Word → ℕ → ℕ → Fields
-wordedBy true w count end = Worded w count end
-wordedBy false w count end = NoFields
+wordedBy true w count next = Worded w count next
+wordedBy false w count next = NoFields
 
--- the word and the numbers of the line at `at`, or its numbers alone, and where it ends; or it is no line and no number
+-- the word and the numbers of the line at `at` and where the next line starts, or its numbers alone and where it ends; or it is no line and no
+-- number
 unfoldable pub FieldsTold : List ℕ → ℕ → List ℤ → Fields → Type 0
-FieldsTold text at after (Worded w count end) = (lineOf (lineAt text at) ≡ some (record { word = wordOf w; numbers = take count after }))
-    × (number (lineAt text at) ≡ none) × (count ≤ mostNumbers) × (end ≡ endOf text at)
+FieldsTold text at after (Worded w count next) = (lineOf (lineAt text at) ≡ some (record { word = wordOf w; numbers = take count after }))
+    × (number (lineAt text at) ≡ none) × (count ≤ mostNumbers) × (next ≡ endOf text at + 1)
 FieldsTold text at after (Alone count end) = (lineOf (lineAt text at) ≡ none) × (numbersOf (fieldsOf (lineAt text at)) ≡ some (take count after))
     × (count ≤ mostNumbers) × (end ≡ endOf text at)
 FieldsTold text at after NoFields = (lineOf (lineAt text at) ≡ none) × (number (lineAt text at) ≡ none)

@@ -4,7 +4,7 @@
 // contract says that it is the definition's. Nothing is read past a slice's end and no sum overflows, however long the bytes are.
 ghost use mathlib.Core.Path.{_≡_};
 ghost use mathlib.Core.Bool.{true, _||_};
-ghost use Prim.Native.Nat.{_≤_, _<_};
+ghost use Prim.Native.Nat.{_+_, _^_, _≤_, _<_};
 ghost use lib.Dec.{eqb};
 ghost use lib.ListN.{length};
 ghost use Rattle.meaning.specs.Text.{sameBytes, isEnded, isDigit};
@@ -313,7 +313,8 @@ enum Counted {
     NoNumbers,
 }
 
-// The fields of a line: a word and the numbers that belong to it, so many, or so many numbers alone, and where the line ends.
+// The fields of a line: a word, how many numbers it has and where the next line starts; or how many numbers there are alone, and where the
+// line ends.
 enum Fields {
     Worded(Word, usize, usize),
     Alone(usize, usize),
@@ -349,12 +350,13 @@ fn numbers_from(text: &[u8], from: usize, numbers: &mut [i64]) -> Counted
     Counted::NoNumbers
 }
 
-// A word with so many numbers, where as many belong to it.
+// A word with so many numbers, where as many belong to it, in a line that ends at `end`.
 fn worded(word: Word, count: usize, end: usize) -> Fields
-    ensures { λ r. ⌜ r ≡ wordedBy (isCount (wordOf word) count) word count end ⌝ }
+    requires { ⌜ end + 1 < 2 ^ 64 ⌝ }
+    ensures { λ r. ⌜ r ≡ wordedBy (isCount (wordOf word) count) word count (end + 1) ⌝ }
 {
     if is_count(word, count) {
-        return Fields::Worded(word, count, end);
+        return Fields::Worded(word, count, end + 1);
     }
     Fields::NoFields
 }
@@ -391,7 +393,7 @@ pub fn line_of(text: &[u8], at: usize, numbers: &mut [i64]) -> Parsed
 {
     let fields = fields_of(text, at, numbers);
     match fields {
-        Fields::Worded(word, count, end) => Parsed::Line(word, count, end + 1),
+        Fields::Worded(word, count, next) => Parsed::Line(word, count, next),
         Fields::Alone(_, _) => Parsed::NoLine,
         Fields::NoFields => Parsed::NoLine,
     }

@@ -2,12 +2,13 @@
 use mathlib.Core.Path.{_≡_, sym, ap, _∙_}
 use mathlib.Core.Logic.{_⊎_, inl, inr, ⊎-elim}
 use native.Mathlib.Omega.{arith}
-use Prim.Native.Nat.{ℕ, _+_}
-use lib.ListN.{getD}
+use Prim.Native.Nat.{ℕ, _+_, _<_}
+use lib.ListN.{length, getD}
 use Rattle.text.specs.declared.Word.{Word}
 use Rattle.text.specs.declared.Spelled.the-variants.{Known, NoWord}
+use Rattle.text.specs.Parsed.{NumbersTold}
 use Rattle.text.specs.Place.{endOf}
-use Rattle.text.proofs.Ends.{InLine, in-line, place-inside, place-next}
+use Rattle.text.proofs.Ends.{InLine, in-line, place-inside, cut-length, place-next}
 use Rattle.text.proofs.LineFields.{word-place, word-alone, word-alone-stored, word-stored, word-numbers, word-no-numbers, bare-stored, bare-numbers, bare-no-numbers}
 use borrow.Author.Needs.{needs}
 use Rattle.text.proofs.fields_of.Statement.{statement}
@@ -28,7 +29,10 @@ shared-slice-read-if1 c =
     omega (arith, place-inside (word-place (line (at-word .before .before)) (at-word .word-at .ensures) (c .before .before .spelled .given .1)))
 
 worded-requires : tie.Need-worded-requires
-worded-requires c κs = search needs
+worded-requires c κs =
+    let at-word = c .before .before .before .before .before in
+    let inside = place-inside (word-place (line (at-word .before .before)) (at-word .word-at .ensures) (c .before .before .before .spelled .given .1)) in
+    search (needs, inside)
 
 returns : tie.Need-returns
 returns c =
@@ -116,7 +120,16 @@ same-length-2 : tie.Need-same-length-2
 same-length-2 c = search needs
 
 worded-requires-2 : tie.Need-worded-requires-2
-worded-requires-2 c κs = search needs
+unfolding NumbersTold
+worded-requires-2 c κs =
+    let at-count = c .before .before .before .before in
+    let at-numbers = at-count .before .before .before in
+    let asked = numbers-from-requires (at-numbers .before) (at-numbers .numbers-from .lifetimes) in
+    let text = at-numbers .before .before .before .before .before .args .text .now in
+    let l = in-line text (asked .0) (at-numbers .before .before .match .from) (asked .1) in
+    let told = rw (at-count .count .given .1) at (at-numbers .numbers-from .ensures .0) in
+    let inside : at-count .count .given .0 .1 .0 < length text = omega (arith, told .2, cut-length l, l .inside) in
+    search (needs, inside)
 
 returns-3 : tie.Need-returns-3
 unfolding Started

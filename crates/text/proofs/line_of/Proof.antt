@@ -1,7 +1,5 @@
 -- A line is a word with the numbers that belong to it: each way out is one law of `LineFields`.
-use native.Mathlib.Omega.{arith}
 use Rattle.text.specs.Parsed.{FieldsTold}
-use Rattle.text.proofs.Ends.{in-line}
 use Rattle.text.proofs.LineFields.{reads-no-line, reads-line}
 use borrow.Author.Needs.{needs}
 use Rattle.text.proofs.line_of.Statement.{statement}
@@ -12,14 +10,6 @@ fields-of-requires c κs = search needs
 
 enum-known-fields : tie.Need-enum-known-fields
 enum-known-fields c = search needs
-
-add-t11 : tie.Need-add-t11
-unfolding FieldsTold
-add-t11 c =
-    let at-fields = c .before .before .before .before in
-    let start = at-fields .before .before .before in
-    let told = rw (c .before .fields .given .1) at (at-fields .fields-of .ensures .0) in
-    omega (arith, told .3, in-line (start .args .text .now) (start .pre .0) (start .args .at) (start .pre .1) .inside)
 
 enum-told : tie.Need-enum-told
 enum-told c = search needs
@@ -65,7 +55,6 @@ line-of-spec =
     (tie.spec
     fields-of-requires
     enum-known-fields
-    add-t11
     enum-told
     enum-told-2
     same-length

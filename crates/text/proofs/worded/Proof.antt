@@ -9,6 +9,9 @@ use Rattle.text.proofs.worded.Tie as tie
 is-count-requires : tie.Need-is-count-requires
 is-count-requires c κs = search needs
 
+add-t5 : tie.Need-add-t5
+add-t5 c = search needs
+
 returns : tie.Need-returns
 unfolding wordedBy
 returns c = sym (rw (sym (c .before .is-count .ensures) ∙ c .if1 .taken))
@@ -18,4 +21,4 @@ unfolding wordedBy
 returns-2 c = sym (rw (sym (c .before .is-count .ensures) ∙ c .if1 .left))
 
 pub worded-spec : {M : Type 1} → statement M
-worded-spec = tie.close (tie.spec is-count-requires returns returns-2)
+worded-spec = tie.close (tie.spec is-count-requires add-t5 returns returns-2)
