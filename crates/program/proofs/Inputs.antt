@@ -2,20 +2,18 @@
 use mathlib.Core.Path.{_≡_, refl, sym, ap, _∙_}
 use mathlib.Core.Bool.{true}
 use mathlib.Core.List.{List, [], _∷_, _++_, append-nil}
-use mathlib.Core.Option.{none, some}
+use mathlib.Core.Option.{some}
 use Prim.Native.Nat.{ℕ, _+_, _-_, _≤_, _<_}
 use native.Mathlib.Decide.{decLt}
 use native.Mathlib.Omega.{arith}
 use native.Mathlib.Numerals.{add-one}
 use lib.IntN.{ℤ}
-use lib.ListN.{length, take, drop, set, length-append, length-set}
+use lib.ListN.{length, take, set, length-append, length-set}
 use lib.Seq.{take-all, take-append-le, take-suc-set, set-out}
 use Rattle.meaning.specs.Text.{isEnded, number}
 use Rattle.meaning.specs.Line.{numbersOf}
-use Rattle.meaning.specs.Refusal.{orRefused}
 use Rattle.meaning.specs.Reply.{reply, firstFail, refusalAt}
 use Rattle.meaning.specs.Program.{isSome, orNone}
-use Rattle.meaning.proofs.Results.{refused-none, value-some}
 use Rattle.text.specs.declared.Number.{Number}
 use Rattle.text.specs.declared.Number.the-variants.{Of, NoNumber}
 use Rattle.text.specs.Number.{WholeRead}

@@ -8,7 +8,7 @@ use Prim.Native.Nat.{ℕ, zero, suc, _+_, _-_, _≤_, _<_}
 use native.Mathlib.Omega.{arith}
 use native.Mathlib.Numerals.{add-one}
 use lib.Dec.{leb→le}
-use lib.ListN.{length, getD, take, drop, length-append}
+use lib.ListN.{length, getD, take, length-append}
 use lib.Seq.{length-take-le, getD-take}
 use lib.IntN.{ℤ, pos, natAbs}
 use Rattle.number.proofs.Bounded.{bounded-range}

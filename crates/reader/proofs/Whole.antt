@@ -6,7 +6,7 @@ use mathlib.Core.Option.{none}
 use Prim.Native.Nat.{ℕ, _+_, _-_, _≤_, _<_}
 use native.Mathlib.Omega.{arith}
 use borrow.Author.Tests.{le-leb, lt-leb}
-use lib.ListN.{length, take, drop}
+use lib.ListN.{length}
 use Rattle.meaning.specs.Text.{isEnded}
 use Rattle.meaning.specs.Line.{Line, lineOf}
 use Rattle.meaning.specs.Known.{Known, fresh}

@@ -8,7 +8,7 @@ use native.Mathlib.Omega.{arith}
 use native.Mathlib.Numerals.{add-one}
 use lib.Dec.{T, leb→le}
 use lib.IntN.{ℤ}
-use lib.ListN.{length, take, drop, length-append}
+use lib.ListN.{length, take, length-append}
 use Rattle.meaning.specs.Text.{isEnded}
 use Rattle.meaning.specs.Line.{Line, lineOf, isCount}
 use Rattle.meaning.specs.Line.{Word as Meant}

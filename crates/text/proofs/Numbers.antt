@@ -1,16 +1,16 @@
 -- Laws of the number reader: one byte of its digits, its early refusals against the definition's one test at the end, the sign, and
 -- bytes that are read as one field though a tab may be among them.
-use mathlib.Core.Path.{_≡_, refl, sym, _∙_, ap}
+use mathlib.Core.Path.{_≡_, refl, _∙_, ap}
 use mathlib.Core.Bool.{Bool, true, false, cond, _&&_}
 use mathlib.Core.List.{List, [], _∷_}
 use mathlib.Core.Option.{Option, none, some}
 use Prim.Native.Nat.{ℕ, zero, suc, _+_, _*_, _-_, _≤_, _<_}
 use native.Mathlib.Decide.{decLt}
 use native.Mathlib.Omega.{arith}
-use borrow.Author.Tests.{le-leb, lt-leb, ne-eqb, leb-true, ltb-true, ltb-false, eqb-true, eqb-false}
-use lib.Dec.{leb, ltb, eqb}
+use borrow.Author.Tests.{le-leb, lt-leb, ne-eqb, leb-true, eqb-true, eqb-false}
+use lib.Dec.{leb, eqb}
 use lib.IntN.{ℤ, pos, negsuc, negℤ, natAbs, _-ℤ_, +ℤ-idl}
-use lib.ListN.{length, getD, drop, length-drop}
+use lib.ListN.{length, getD, drop}
 use mir.Syntax.{w64}
 use mir.Val.{SFits, toZ, ofZ}
 use mir.ValLaws.{toZ-pos, toZ-ofZ}
@@ -23,7 +23,7 @@ use Rattle.text.specs.declared.Size.the-variants.{Small, NoSize}
 use Rattle.text.specs.Number.{plainSize, SizeRead, NumberRead}
 use Rattle.text.specs.Place.{indexOf, Found, fieldAt}
 use Rattle.text.proofs.Bytes.{and-false, none-some}
-use Rattle.text.proofs.Places.{index-past, index-end, found-next, field-empty, field-byte, field-more, field-whole}
+use Rattle.text.proofs.Places.{index-past, index-end, found-next, field-empty, field-byte, field-more}
 
 -- ---- a digit
 

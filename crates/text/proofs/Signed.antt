@@ -4,23 +4,22 @@ use mathlib.Core.Path.{_≡_, sym, _∙_}
 use mathlib.Core.List.{List}
 use mathlib.Core.Logic.{_⊎_}
 use mathlib.Core.Option.{none, some}
-use Prim.Native.Nat.{ℕ, suc, _+_, _<_, _≤_}
-use native.Mathlib.Decide.{decLt}
+use Prim.Native.Nat.{ℕ, _+_, _<_}
 use native.Mathlib.Omega.{arith}
 use lib.IntN.{ℤ, pos, _-ℤ_}
 use lib.ListN.{length, getD, take}
 use mir.Syntax.{w64}
 use mir.Val.{toZ, ofZ}
 use Rattle.meaning.specs.Text.{number}
-use Rattle.meaning.proofs.Results.{none-refused, refused-none}
+use Rattle.meaning.proofs.Results.{refused-none}
 use Rattle.text.specs.declared.Number.{Number}
 use Rattle.text.specs.declared.Number.the-variants.{Of, NoNumber}
 use Rattle.text.specs.declared.Size.{Size}
 use Rattle.text.specs.declared.Size.the-variants.{Small, NoSize}
 use Rattle.text.specs.Number.{SizeRead, NumberRead, WholeRead}
 use Rattle.text.specs.Place.{endOf, upTo, lineAt, Found}
-use Rattle.text.proofs.Places.{field-more, found-byte}
-use Rattle.text.proofs.Ends.{InLine, place-inside, cut-length, cut-byte, before-end, end-here, place-next, place-later, same-line, field-ends, line-cut}
+use Rattle.text.proofs.Places.{field-more}
+use Rattle.text.proofs.Ends.{InLine, cut-length, cut-byte, before-end, place-next, same-line, field-ends}
 use Rattle.text.proofs.Numbers.{zero-number, zero-none, minus-none, minus-number, plain-none, plain-number}
 
 module _ {text : List ℕ} {at end : ℕ} (l : InLine text at end) where

@@ -1,6 +1,6 @@
 -- Laws of a size, as `size_from` reads it: the first digit, one more, and each way out. It reads up to ten digits before it looks at how
 -- large they make the size.
-use mathlib.Core.Path.{_≡_, refl, sym, _∙_, ap}
+use mathlib.Core.Path.{_≡_, refl, _∙_}
 use mathlib.Core.Bool.{true, false}
 use mathlib.Core.List.{List}
 use mathlib.Core.Logic.{_⊎_}
@@ -9,14 +9,14 @@ use Prim.Native.Nat.{ℕ, suc, _+_, _*_, _-_, _^_, _≤_, _<_}
 use native.Mathlib.Decide.{decLt}
 use native.Mathlib.Nat.{pow-suc, pow-le-pow-right}
 use native.Mathlib.Omega.{arith}
-use lib.ListN.{length, getD, take}
+use lib.ListN.{getD, take}
 use Rattle.meaning.specs.Text.{isDigit, largest}
 use Rattle.meaning.proofs.Results.{none-refused}
 use Rattle.text.specs.declared.Size.the-variants.{Small, NoSize}
 use Rattle.text.specs.Number.{plainSize, SizeRead}
-use Rattle.text.specs.Place.{fieldAt, Found}
+use Rattle.text.specs.Place.{fieldAt}
 use Rattle.text.proofs.Places.{Searched, search-past}
-use Rattle.text.proofs.Ends.{InLine, place-inside, cut-length, cut-byte, before-end, place-next, field-ends}
+use Rattle.text.proofs.Ends.{InLine, cut-length, cut-byte, before-end, place-next, field-ends}
 use Rattle.text.proofs.Numbers.{digit-bounds, digit-is, digit-above, digitsAfter, digits-end, digits-not, digits-next, digits-over, size-empty, size-low, size-digits}
 
 -- ---- how many digits a number has

@@ -5,7 +5,6 @@ use mathlib.Core.List.{List, [], _∷_}
 use mathlib.Core.Logic.{_≢_, _⊎_}
 use mathlib.Core.Option.{none, some}
 use Prim.Native.Nat.{ℕ, zero, suc, _+_, _-_, _≤_, _<_}
-use native.Mathlib.Decide.{decLt}
 use native.Mathlib.Omega.{arith}
 use borrow.Author.Tests.{ltb-true, eqb-true}
 use lib.Dec.{eqb, ltb}
@@ -20,8 +19,8 @@ use Rattle.text.specs.declared.Spelled.the-variants.{Known, NoWord}
 use Rattle.text.specs.Word.{wordOf, WordRead, OnlyWord, Spells}
 use Rattle.text.specs.Place.{indexOf, Found, fieldAt}
 use Rattle.text.proofs.Bytes.{drop-more}
-use Rattle.text.proofs.Places.{Searched, search-past, index-end, field-empty, field-byte, field-more}
-use Rattle.text.proofs.Ends.{InLine, cut-length, cut-byte, before-end, end-here, place-next, field-ends}
+use Rattle.text.proofs.Places.{Searched, search-past, field-empty, field-more}
+use Rattle.text.proofs.Ends.{InLine, cut-length, cut-byte, before-end, place-next, field-ends}
 
 -- ---- the word that two bytes tell
 

@@ -1,6 +1,6 @@
 -- The bytes before `i` are those of the spelling: what is left of the field is what is left of it, just where all of it is.
 use mathlib.Core.Path.{_≡_, refl, sym, _∙_}
-use Prim.Native.Nat.{_+_, _-_}
+use Prim.Native.Nat.{_-_}
 use native.Mathlib.Omega.{arith}
 use lib.ListN.{length}
 use Rattle.meaning.specs.Line.{spelling}

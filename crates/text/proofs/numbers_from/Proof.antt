@@ -1,6 +1,6 @@
 -- The numbers of the fields before the one at `at` stand: with the fields that are left they say what all fields say.
-use mathlib.Core.Path.{_≡_, refl, sym, _∙_}
-use Prim.Native.Nat.{_≤_, _<_, _+_, _-_}
+use mathlib.Core.Path.{_≡_}
+use Prim.Native.Nat.{_≤_, _+_, _-_}
 use mir.Syntax.{w64}
 use mir.Val.{toZ, ofZ}
 use lib.ListN.{length, set}

@@ -1,6 +1,5 @@
 -- One test, as in the contract.
-use mathlib.Core.Path.{sym, ap, _∙_}
-use mathlib.Core.Bool.{Bool}
+use mathlib.Core.Path.{sym, _∙_}
 use Rattle.text.specs.Parsed.{wordedBy}
 use borrow.Author.Needs.{needs}
 use Rattle.text.proofs.worded.Statement.{statement}

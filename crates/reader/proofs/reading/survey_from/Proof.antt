@@ -8,9 +8,8 @@ use denote.Ref.{now}
 use borrow.Author.Needs.{needs}
 use Rattle.text.specs.Place.{endOf, lineAt}
 use Rattle.text.proofs.Answers.{no-line-seen, line-seen, line-most, line-counted, line-small, line-next}
-use Rattle.text.proofs.Ends.{in-line}
 use Rattle.reader.specs.Read.{surveySeen, PrimeFound}
-use Rattle.reader.specs.Step.{stepSeen, stepBytes}
+use Rattle.reader.specs.Step.{stepSeen}
 use Rattle.reader.specs.State.{stateOf}
 use Rattle.reader.specs.declared.state.Stepped.the-variants.{Refused}
 use Rattle.reader.proofs.Steps.{no-line-step, line-step}

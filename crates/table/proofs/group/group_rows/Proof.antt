@@ -1,7 +1,7 @@
 -- `table::group::group_rows`: the digits before `i` pass, `value` is theirs, and what is left to test says what the whole test says.
 use mathlib.Core.Path.{_≡_, sym, _∙_}
 use mathlib.Core.Logic.{⊎-elim}
-use Prim.Native.Nat.{ℕ, _+_, _-_, _*_, _≤_, _<_}
+use Prim.Native.Nat.{ℕ, _+_, _-_, _*_, _≤_}
 use native.Mathlib.Omega.{arith}
 use native.Mathlib.Nat.{le-mul-of-pos-right}
 use lib.ListN.{getD}
