@@ -5,7 +5,7 @@ use mathlib.Core.Bool.{Bool, true, false, _||_}
 use mathlib.Core.List.{List, _∷_}
 use mathlib.Core.Logic.{_⊎_, inl, inr, ⊎-elim}
 use Prim.Native.Nat.{ℕ, zero, suc, _+_, _-_, _≤_, _<_}
-use native.Mathlib.Decide.{ℕ-discrete}
+use native.Mathlib.Decide.{ℕ-discrete, decLt}
 use native.Mathlib.Omega.{arith}
 use borrow.Author.Tests.{eqb-true, eqb-false}
 use lib.Dec.{eqb}
@@ -93,9 +93,12 @@ module _ {text : List ℕ} {i end : ℕ} (l : InLine text i end) where
       (λ q. let h = before-end l (λ e. omega arith) in index-here 9 (take end text) i (omega (arith, cut-length l, h)) (cut-byte l h ∙ q))
       (λ q. index-end 9 (take end text) i (omega (arith, cut-length l, end-here l q)))
 
--- a field that was found to end before the line does ends at a tab
-pub stops-at : {text : List ℕ} {at i end : ℕ} → InLine text i end → Found 9 (take end text) at i → i < end → getD text i 0 ≡ 9
-stops-at l found h = sym (cut-byte l h) ∙ found-byte found (omega (arith, cut-length l))
+-- a field that was found to end elsewhere than at a tab ends with the line
+pub ends-line : {text : List ℕ} {at i end : ℕ} → InLine text i end → Found 9 (take end text) at i → (getD text i 0 ≡ 9 → ⊥) → end ≤ i
+ends-line {text} {at} {i} {end} l found no-tab = elim (decLt i end) [
+  | yes h ↦ absurd (no-tab (sym (cut-byte l h) ∙ found-byte found (omega (arith, cut-length l))))
+  | no h ↦ omega arith
+]
 
 -- ---- the line at a place
 

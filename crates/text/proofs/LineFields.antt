@@ -5,7 +5,6 @@ use mathlib.Core.Bool.{Bool, true, false}
 use mathlib.Core.List.{List, [], _∷_}
 use mathlib.Core.Option.{none, some}
 use Prim.Native.Nat.{ℕ, _+_, _≤_, _<_}
-use native.Mathlib.Decide.{decLt}
 use native.Mathlib.Omega.{arith}
 use lib.IntN.{ℤ, pos}
 use lib.ListN.{length, getD, take, drop}
@@ -31,7 +30,7 @@ use Rattle.text.specs.Place.{indexOf, Found, endOf, upTo, lineAt, fieldA
 use Rattle.text.specs.Parsed.{parsedSeen, countSeen, NumbersTold, wordedBy, FieldsTold, LineRead, NextAfter, Stored, leadingNumbers, leading, mostNumbers}
 use Rattle.text.proofs.Places.{partsAfter, parts-none, parts-more, fields-from, fields-found}
 use Rattle.text.proofs.Numbers.{number-small, small-fits}
-use Rattle.text.proofs.Ends.{InLine, cut-length, before-end, place-next, place-later, same-line, stops-at, line-cut}
+use Rattle.text.proofs.Ends.{InLine, cut-length, before-end, place-next, place-later, same-line, ends-line, line-cut}
 use Rattle.text.proofs.Lines.{line-word, line-no-word, leading-word, leading-no-word, onlyOne, number-alone, none-alone, many-alone, word-no-number}
 
 take-one : (ns : List ℤ) → 0 < length ns → take 1 ns ≡ getD ns 0 (pos 0) ∷ []
@@ -81,7 +80,7 @@ module _ {text : List ℕ} {at : ℕ} (l : InLine text at (endOf text at)) where
 
     module _ (no-tab : getD text end 0 ≡ 9 → ⊥) where
       last : endOf text at ≤ end
-      last = elim (decLt end (endOf text at)) [ yes h ↦ absurd (no-tab (stops-at word-place ends h)) | no h ↦ omega arith ]
+      last = ends-line word-place ends no-tab
 
       nothing : partsAfter 9 line end ≡ []
       nothing = parts-none 9 line end (omega (arith, cut-length l, last))

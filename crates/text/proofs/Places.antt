@@ -12,7 +12,7 @@ use native.Mathlib.Omega.{arith}
 use borrow.Author.Tests.{eqb-true, ltb-true, ltb-false, lt-ltb, le-ltb, eq-eqb, ne-eqb}
 use lib.Dec.{ltb, eqb, leb·suc-suc}
 use lib.ListN.{length, getD, take, drop, length-drop, drop-of-length-le}
-use lib.Seq.{drop-drop, getD-drop, length-take-le, take-all}
+use lib.Seq.{drop-drop, getD-drop, take-all}
 use Rattle.meaning.specs.Text.{onFirst, split, withoutLast, linesOf, isEnded}
 use Rattle.text.specs.Place.{indexOf, Found, fieldAt, linesFrom}
 use Rattle.text.proofs.Bytes.{drop-more}
@@ -61,10 +61,6 @@ module _ (line : List ℕ) (at : ℕ) where
   unfolding fieldAt
   field-found {place} found = let n : indexOf 9 (drop at line) ≡ place - at = omega (arith, found .is) in rw n
 
-  pub field-length : {place : ℕ} → Found 9 line at place → length (fieldAt line at) ≡ place - at
-  field-length {place} found =
-      rw (field-found found) (length-take-le (place - at) (drop at line) (omega (arith, found .low, found .high, length-drop at line)))
-
 -- bytes without a tab are one field
 pub field-whole : (line : List ℕ) (at : ℕ) → length (drop at line) ≤ indexOf 9 (drop at line) → fieldAt line at ≡ drop at line
 unfolding fieldAt
@@ -100,19 +96,15 @@ module _ {separator : ℕ} {xs : List ℕ} {at i : ℕ} (searched : Searched sep
     same = omega (arith, searched .same, index-past separator xs i h q);
   })
 
+  -- where a search from i on would find i itself
+  pub search-stop : indexOf separator (drop i xs) ≡ 0 → Found separator xs at i
+  search-stop here = record { low = searched .low; high = searched .high; is = omega (arith, searched .same, here) }
+
   pub search-here : i < length xs → getD xs i 0 ≡ separator → Found separator xs at i
-  search-here h q = record {
-    low = searched .low;
-    high = searched .high;
-    is = omega (arith, searched .same, index-here separator xs i h q);
-  }
+  search-here h q = search-stop (index-here separator xs i h q)
 
   pub search-end : length xs ≤ i → Found separator xs at i
-  search-end h = record {
-    low = searched .low;
-    high = searched .high;
-    is = omega (arith, searched .same, index-end separator xs i h);
-  }
+  search-end h = search-stop (index-end separator xs i h)
 
   pub search-on : {place : ℕ} → Found separator xs i place → Found separator xs at place
   search-on found = record {
@@ -180,14 +172,6 @@ fields-two xs h =
 
 pub fields-one : (xs : List ℕ) → length xs ≤ indexOf 9 xs → split 9 xs ≡ xs ∷ []
 fields-one xs h = fields-from xs 0 ∙ rw (parts-none 9 xs (indexOf 9 xs) h, field-whole xs 0 h)
-
--- the fields after one that ends at a tab: the next, and those after it
-module _ (line : List ℕ) (place : ℕ) (h : place < length line) where
-  pub fields-some : let left = drop (place + 1) line in partsAfter 9 line place ≡ fieldAt line (place + 1) ∷ partsAfter 9 left (indexOf 9 left)
-  fields-some = parts-more 9 line place h ∙ fields-from line (place + 1)
-
-  pub fields-next : {next : ℕ} → Found 9 line (place + 1) next → partsAfter 9 line place ≡ fieldAt line (place + 1) ∷ partsAfter 9 line next
-  fields-next found = parts-more 9 line place h ∙ fields-found line found
 
 -- ---- an ended text
 

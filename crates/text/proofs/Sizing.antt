@@ -15,7 +15,7 @@ use Rattle.meaning.proofs.Results.{none-refused}
 use Rattle.text.specs.declared.Size.the-variants.{Small, NoSize}
 use Rattle.text.specs.Number.{plainSize, SizeRead}
 use Rattle.text.specs.Place.{fieldAt}
-use Rattle.text.proofs.Places.{Searched, search-past}
+use Rattle.text.proofs.Places.{Searched, search-past, search-stop}
 use Rattle.text.proofs.Ends.{InLine, cut-length, cut-byte, before-end, place-next, field-ends}
 use Rattle.text.proofs.Numbers.{digit-bounds, digit-is, digit-above, digitsAfter, digits-end, digits-not, digits-next, digits-over, size-empty, size-low, size-digits}
 
@@ -134,10 +134,9 @@ module _ {text : List ℕ} {at end n i : ℕ} (s : Sizing text at end n i) where
   pub sizing-end : n ≤ largest → (getD text i 0 ≡ 9) ⊎ (getD text i 0 ≡ 10) → SizeRead (take end text) at (Small n i)
   unfolding SizeRead
   sizing-end small stop =
-      let here = field-ends (s .place) stop in
-      let found = s .searched in (
+      let here = field-ends (s .place) stop in (
         s .left ∙ digits-end (take end text) i n here small,
-        record { low = found .low; high = found .high; is = omega (arith, found .same, here) },
+        search-stop (s .searched) here,
       )
 
   pub sizing-stop : isDigit (getD text i 0) ≡ false → (getD text i 0 ≡ 9 → ⊥) → (getD text i 0 ≡ 10 → ⊥) → SizeRead (take end text) at NoSize

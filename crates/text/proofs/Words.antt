@@ -19,7 +19,7 @@ use Rattle.text.specs.declared.Spelled.the-variants.{Known, NoWord}
 use Rattle.text.specs.Word.{wordOf, WordRead, OnlyWord, Spells}
 use Rattle.text.specs.Place.{indexOf, Found, fieldAt}
 use Rattle.text.proofs.Bytes.{drop-more}
-use Rattle.text.proofs.Places.{Searched, search-past, field-empty, field-more}
+use Rattle.text.proofs.Places.{Searched, search-past, search-stop, field-empty, field-more}
 use Rattle.text.proofs.Ends.{InLine, cut-length, cut-byte, before-end, place-next, field-ends}
 
 -- ---- the word that two bytes tell
@@ -165,10 +165,9 @@ module _ {text : List ℕ} {at end : ℕ} (w : Word) {i : ℕ} (s : Spelling tex
 
     pub spelling-end : (getD text (at + i) 0 ≡ 9) ⊎ (getD text (at + i) 0 ≡ 10) → (fieldAt (take end text) at ≡ spelling w) × Found 9 (take end text) at (at + i)
     spelling-end stop =
-        let here = field-ends (s .place) stop in
-        let found = s .searched in (
+        let here = field-ends (s .place) stop in (
           s .back (field-empty (take end text) (at + i) here ∙ sym none-spelled),
-          record { low = found .low; high = found .high; is = omega (arith, found .same, here) },
+          search-stop (s .searched) here,
         )
 
     pub spelling-more : (getD text (at + i) 0 ≡ 9 → ⊥) → (getD text (at + i) 0 ≡ 10 → ⊥) → fieldAt (take end text) at ≢ spelling w

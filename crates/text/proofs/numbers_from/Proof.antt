@@ -9,11 +9,10 @@ use Rattle.text.specs.Parsed.{NumbersTold, mostNumbers}
 use Rattle.text.specs.Place.{Found, endOf, upTo, fieldsFrom}
 use Rattle.meaning.specs.Text.{fieldsOf}
 use Rattle.text.proofs.Places.{partsAfter, fields-from, fields-found, parts-more, parts-none}
-use Rattle.text.proofs.Ends.{InLine, in-line, place-inside, cut-length, before-end, place-next, place-later, same-line, stops-at}
+use Rattle.text.proofs.Ends.{InLine, in-line, place-inside, cut-length, before-end, place-next, place-later, same-line, ends-line}
 use Rattle.text.proofs.Numbers.{number-is-none, number-is, number-ends}
 use Rattle.text.proofs.Lines.{Reading, reading-start, reading-end, reading-none, reading-full, reading-turn}
 use borrow.Author.Needs.{needs}
-use native.Mathlib.Decide.{decLt}
 use native.Mathlib.Omega.{arith}
 use Rattle.text.proofs.numbers_from.Statement.{statement}
 use Rattle.text.proofs.numbers_from.Tie as tie
@@ -109,10 +108,7 @@ returns-2 c =
     let line = upTo (s .text .now) (s .from) in
     let l = place at-told in
     let end = at-told .before .n .given .0 .1 .0 in
-    let last : endOf (s .text .now) (s .from) ≤ end = elim (decLt end (endOf (s .text .now) (s .from))) [
-      | yes h ↦ absurd (c .if1 .taken (stops-at l (ends at-told) h))
-      | no h ↦ omega arith
-    ] in
+    let last = ends-line l (ends at-told) (c .if1 .taken) in
     let all = reading-end (turn at-told) (omega arith) (parts-none 9 line end (omega (arith, cut-length l, last))) in
     rw (kept at-told) ((all .0, omega arith, omega (arith, cut-length l, last, l .found .low)), all .1)
 
