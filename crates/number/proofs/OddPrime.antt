@@ -1,12 +1,10 @@
 -- The test `oddPrime` of meaning, from what is known of a number: a prime from 3 on passes, and a divisor makes it fail.
-use mathlib.Core.Path.{_≡_, sym, _∙_}
+use mathlib.Core.Path.{_≡_, sym}
 use mathlib.Core.Bool.{true, false, not}
 use mathlib.Core.Logic.{_≢_}
 use Prim.Native.Nat.{ℕ, zero, suc, _-_, _%_, _≤_, _<_}
 use native.Mathlib.Omega.{arith}
-use native.Mathlib.Decide.{ℕ-discrete}
-use native.Mathlib.Nat.{le-of-dvd, dvd-of-mod-eq-zero}
-use lib.Dec.{T, eqb, leb, eqb-refl}
+use lib.Dec.{T, eqb, leb}
 use Rattle.meaning.specs.Number.{noDivisor, oddPrime}
 use Rattle.meaning.proofs.Number.{odd-prime}
 use Rattle.algebra.specs.Prime.{Prime}
@@ -30,12 +28,3 @@ odd-prime-fails n d l u e = sym (not-false (oddPrime n) (λ t. prime-no-remainde
 
 pub odd-prime-low : (n : ℕ) → n < 3 → false ≡ oddPrime n
 odd-prime-low n h = sym (not-false (oddPrime n) (λ t. let l = odd-prime n t .three in omega arith))
-
--- a number with a prime divisor is prime exactly where it is that divisor
-pub prime-divisor-decides : (n q : ℕ) → 3 ≤ n → Prime q → n % q ≡ 0 → eqb q n ≡ oddPrime n
-prime-divisor-decides n q h P e = elim (ℕ-discrete q n) [
-  | yes s ↦ rw s (test-≡ (eqb n n) (eqb-refl n) ∙ odd-prime-passes n h (rw s at P))
-  | no s ↦
-      let l : q ≤ n = le-of-dvd (omega arith) (dvd-of-mod-eq-zero q e) in
-      false-eqb q n s ∙ odd-prime-fails n q (P .above-one) (omega arith) e
-]

@@ -85,10 +85,9 @@ pub fn is_odd_prime(n: u32) -> bool
     if n < 256 {
         return is_listed(n, &primes);
     }
-    let at = first_divisor(n, 0, &primes);
-    if at < 54 {
-        // A prime of the table that divides n: n is prime only where it is that prime itself.
-        return primes[at] == n;
+    // A prime of the table that divides n is not n itself.
+    if first_divisor(n, 0, &primes) < 54 {
+        return false;
     }
     passes_odd_trial(n)
 }

@@ -4,7 +4,7 @@ use mathlib.Core.Path.{_≡_}
 use native.Mathlib.Omega.{arith}
 use native.Mathlib.Nat.{zero-add}
 use borrow.Author.Needs.{needs}
-use Rattle.number.proofs.OddPrime.{odd-prime-passes, odd-prime-low, prime-divisor-decides}
+use Rattle.number.proofs.OddPrime.{odd-prime-passes, odd-prime-low, odd-prime-fails}
 use Rattle.number.proofs.PrimeTable.{entry-prime, entry-below, listed-decides, known-prime}
 use Rattle.number.proofs.prime.is_odd_prime.Statement.{statement}
 use Rattle.number.proofs.prime.is_odd_prime.Tie as tie
@@ -31,16 +31,11 @@ slice-aggregate-first-divisor c = search needs
 first-divisor-requires : tie.Need-first-divisor-requires
 first-divisor-requires c κs k h = (omega (arith, entry-prime k h .above-one), omega (arith, entry-below k h))
 
-mul-result : tie.Need-mul-result
-mul-result c = search needs
-
-array-read-result : tie.Need-array-read-result
-array-read-result c = search needs
-
 returns-4 : tie.Need-returns-4
 returns-4 c =
     let d = c .before .first-divisor in
-    prime-divisor-decides _ _ (omega arith) (entry-prime (d .result) (c .if3 .taken)) (rw zero-add at (d .ensures .divides (c .if3 .taken)))
+    let small = c .if3 .taken in
+    odd-prime-fails _ _ (entry-prime (d .result) small .above-one) (omega (arith, entry-below (d .result) small)) (rw zero-add at (d .ensures .divides small))
 
 passes-odd-trial-requires : tie.Need-passes-odd-trial-requires
 passes-odd-trial-requires c κs =
@@ -62,8 +57,6 @@ is-odd-prime-spec =
     returns-3
     slice-aggregate-first-divisor
     first-divisor-requires
-    mul-result
-    array-read-result
     returns-4
     passes-odd-trial-requires
     returns-5)
