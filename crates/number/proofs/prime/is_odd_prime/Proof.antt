@@ -1,6 +1,7 @@
 -- `number::prime::is_odd_prime`: a prime that is known passes. Below 256 the table decides. Else a divisor from the table does, and
 -- where there is none the trial by odd numbers.
 use mathlib.Core.Path.{_≡_}
+use Prim.Native.Nat.{_<_}
 use native.Mathlib.Omega.{arith}
 use native.Mathlib.Nat.{zero-add}
 use borrow.Author.Needs.{needs}
@@ -34,7 +35,7 @@ first-divisor-requires c κs k h = (omega (arith, entry-prime k h .above-one), o
 returns-4 : tie.Need-returns-4
 returns-4 c =
     let d = c .before .first-divisor in
-    let small = c .if3 .taken in
+    let small : d .result < 54 = omega (arith, c .if3 .taken) in
     odd-prime-fails _ _ (entry-prime (d .result) small .above-one) (omega (arith, entry-below (d .result) small)) (rw zero-add at (d .ensures .divides small))
 
 passes-odd-trial-requires : tie.Need-passes-odd-trial-requires
