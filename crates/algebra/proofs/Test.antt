@@ -1,10 +1,14 @@
 -- Boolean tests as propositions: `T b` of lib.Dec says that the test b passed, `b ≡ false` that it failed.
--- First what holds of every test, then what the tests of order and equality on ℕ and ℤ say when they pass and when they fail.
+-- First what holds of every test, then what the tests of order and equality on ℕ and ℤ say when they pass and when they fail, then a test
+-- of many numbers.
 use mathlib.Core.Path.{_≡_, refl, subst}
-use mathlib.Core.Bool.{Bool, true, false, not, cond, _&&_}
+use mathlib.Core.Bool.{Bool, true, false, not, cond, _&&_, _||_}
+use mathlib.Core.List.{List, [], _∷_}
 use mathlib.Core.Logic.{_⊎_, inl, inr, _≢_, _↔_}
-use Prim.Native.Nat.{ℕ, _≤_, _<_}
+use Prim.Native.Nat.{ℕ, zero, suc, _≤_, _<_}
 use native.Mathlib.Omega.{arith}
+use native.Mathlib.Decide.{ℕ-discrete}
+use lib.ListN.{length, getD}
 use lib.IntN.{ℤ, pos, negsuc}
 use lib.Signed.{_≤ℤ_, _<ℤ_, leZ, ltZ, clashℤ}
 use lib.Dec.{T, T-not, eqb, leb, ltb, eqb→eq, eqb-refl, leb→le, le→leb, nleb→lt, ltb→lt, lt→ltb, nltb→le}
@@ -46,6 +50,10 @@ test-false b t = not-false b (T-not b t)
 pub decide : (b : Bool) → (T b) ⊎ (b ≡ false)
 decide true = inl tt
 decide false = inr refl
+
+pub either : (a b : Bool) → T (a || b) → (T a) ⊎ (T b)
+either true b t = inl tt
+either false b t = inr t
 
 -- what holds of x where the test passed and of y where it failed holds of the choice between them
 pub cond-cases {ℓ κ} : {A : Type ℓ} (P : A → Type κ) (b : Bool) (x y : A) → (T b → P x) → (b ≡ false → P y) → P (cond b x y)
@@ -108,3 +116,25 @@ false-leZ a b h = not-false (leZ a b) (λ t. clashℤ h (leZ-iff a b .0 t))
 
 pub order : (a b : ℤ) → (a ≤ℤ b) ⊎ (b <ℤ a)
 order a b = elim (decide (leZ a b)) [ inl t ↦ inl (leZ-iff a b .0 t) | inr f ↦ inr (leZ-false a b f) ]
+
+-- ---- tests over a list, and over the numbers below a bound
+
+abbrev pub every : (ℕ → Bool) → List ℕ → Bool
+every f [] = true
+every f (x ∷ xs) = f x && every f xs
+
+pub every-at : (f : ℕ → Bool) (xs : List ℕ) → T (every f xs) → (k : ℕ) → k < length xs → T (f (getD xs k 0))
+every-at f [] t k h = absurd (omega arith)
+every-at f (x ∷ xs) t zero h = left (f x) (every f xs) t
+every-at f (x ∷ xs) t (suc k) h = every-at f xs (right (f x) (every f xs) t) k (omega arith)
+
+abbrev pub everyBelow : (ℕ → Bool) → ℕ → Bool
+everyBelow f zero = true
+everyBelow f (suc n) = f n && everyBelow f n
+
+pub everyBelow-at : (f : ℕ → Bool) (n : ℕ) → T (everyBelow f n) → (k : ℕ) → k < n → T (f k)
+everyBelow-at f zero t k h = absurd (omega arith)
+everyBelow-at f (suc n) t k h = elim (ℕ-discrete k n) [
+  | yes e ↦ rw e (left (f n) (everyBelow f n) t)
+  | no e ↦ everyBelow-at f n (right (f n) (everyBelow f n) t) k (omega arith)
+]

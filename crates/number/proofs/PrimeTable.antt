@@ -1,54 +1,29 @@
 -- The table holds exactly the primes below 256. The checker computes two tests, each once: every entry is 2 or an odd prime, and
--- below 256, and every number below 256 that is 2 or an odd prime is an entry. A third test is that of the great primes that are
--- known: no number up to their roots divides them.
+-- below 256, and every number below 256 that is 2 or an odd prime is an entry.
 use mathlib.Core.Path.{_≡_, refl, sym}
 use mathlib.Core.Bool.{Bool, true, false, not, _&&_, _||_}
 use mathlib.Core.List.{List, [], _∷_}
-use mathlib.Core.Logic.{_⊎_, inl, inr, ⊎-elim, _≢_}
-use Prim.Native.Nat.{ℕ, zero, suc, _+_, _-_, _*_, _%_, _^_, _≤_, _<_}
+use mathlib.Core.Logic.{⊎-elim, _≢_}
+use Prim.Native.Nat.{ℕ, suc, _+_, _-_, _*_, _%_, _≤_, _<_}
 use native.Mathlib.Omega.{arith}
 use native.Mathlib.Decide.{ℕ-discrete, decLt}
-use native.Mathlib.Nat.{zero-add, mul-le-mul}
+use native.Mathlib.Nat.{zero-add}
 use lib.Dec.{T, eqb, ltb, eqb→eq, ltb→lt}
 use lib.ListN.{length, getD}
 use Rattle.meaning.specs.Number.{noDivisor, oddPrime}
-use Rattle.meaning.proofs.Number.{noDivisor-all, odd-prime}
+use Rattle.meaning.proofs.Number.{odd-prime}
 use Rattle.algebra.specs.Prime.{Prime}
-use Rattle.algebra.proofs.Test.{left, right, not-false}
-use Rattle.algebra.proofs.Prime.{prime-by-trial, prime-by-roots, prime-no-remainder}
+use Rattle.algebra.proofs.Test.{left, right, not-false, either, every, every-at, everyBelow, everyBelow-at}
+use Rattle.algebra.proofs.Prime.{prime-by-trial, prime-no-remainder}
 use Rattle.number.specs.Table.{primes, wheel, Listed, FirstDivisor}
 use Rattle.algebra.proofs.PrimeDivisor.{prime-by-prime-roots}
 use Rattle.number.proofs.OddPrime.{odd-prime-passes}
 
--- ---- tests over a list, and over the numbers below a bound
-
-abbrev every : (ℕ → Bool) → List ℕ → Bool
-every f [] = true
-every f (x ∷ xs) = f x && every f xs
-
-every-at : (f : ℕ → Bool) (xs : List ℕ) → T (every f xs) → (k : ℕ) → k < length xs → T (f (getD xs k 0))
-every-at f [] t k h = absurd (omega arith)
-every-at f (x ∷ xs) t zero h = left (f x) (every f xs) t
-every-at f (x ∷ xs) t (suc k) h = every-at f xs (right (f x) (every f xs) t) k (omega arith)
-
-abbrev everyBelow : (ℕ → Bool) → ℕ → Bool
-everyBelow f zero = true
-everyBelow f (suc n) = f n && everyBelow f n
-
-everyBelow-at : (f : ℕ → Bool) (n : ℕ) → T (everyBelow f n) → (k : ℕ) → k < n → T (f k)
-everyBelow-at f zero t k h = absurd (omega arith)
-everyBelow-at f (suc n) t k h = elim (ℕ-discrete k n) [
-  | yes e ↦ rw e (left (f n) (everyBelow f n) t)
-  | no e ↦ everyBelow-at f n (right (f n) (everyBelow f n) t) k (omega arith)
-]
+-- ---- a number in a list
 
 abbrev listed : ℕ → List ℕ → Bool
 listed q [] = false
 listed q (x ∷ xs) = eqb x q || listed q xs
-
-either : (a b : Bool) → T (a || b) → (T a) ⊎ (T b)
-either true b t = inl tt
-either false b t = inr t
 
 listed-place : (q : ℕ) (xs : List ℕ) → T (listed q xs) → (i : ℕ) × (i < length xs) × (getD xs i 0 ≡ q)
 listed-place q [] t = absurd t
@@ -170,40 +145,3 @@ on-wheel m k e h l free =
     (either (eqb (r % 5) 0) (listed r wheel) t₃))
     (either (eqb (r % 3) 0) (eqb (r % 5) 0 || listed r wheel) t₂))
     (either (eqb (r % 2) 0) (eqb (r % 3) 0 || (eqb (r % 5) 0 || listed r wheel)) t)
-
--- ---- the great primes that are known
-
-abbrev pub OneOf : ℕ → List ℕ → Type 0
-OneOf n [] = ⊥
-OneOf n (x ∷ []) = n ≡ x
-OneOf n (x ∷ y ∷ ys) = (n ≡ x) ⊎ OneOf n (y ∷ ys)
-
-every-one : (f : ℕ → Bool) (n : ℕ) (xs : List ℕ) → T (every f xs) → OneOf n xs → T (f n)
-every-one f n [] t o = absurd o
-every-one f n (x ∷ []) t o = rw o (left (f x) true t)
-every-one f n (x ∷ y ∷ ys) t o =
-    ⊎-elim (λ e. rw e (left (f x) (every f (y ∷ ys)) t)) (every-one f n (y ∷ ys) (right (f x) (every f (y ∷ ys)) t)) o
-
-abbrev pub knownPrimes : List ℕ
-knownPrimes = 998244353 ∷ 2013265921 ∷ 2130706433 ∷ 2147483647 ∷ 4294967291 ∷ []
-
--- no number up to 2^16 divides n, and the root of n is not above that
-root-test : ℕ → Bool
-root-test n = ltb 1 n && (ltb n (2 ^ 32) && noDivisor n 65535)
-
-known-right : T (every root-test knownPrimes)
-unfolding root-test noDivisor
-known-right = tt
-
-root-prime : (n : ℕ) → T (root-test n) → Prime n
-unfolding root-test
-root-prime n t =
-    let u = right (ltb 1 n) (ltb n (2 ^ 32) && noDivisor n 65535) t in
-    let h : n < 2 ^ 32 = ltb→lt n (2 ^ 32) (left (ltb n (2 ^ 32)) (noDivisor n 65535) u) in
-    prime-by-roots n (ltb→lt 1 n (left (ltb 1 n) (ltb n (2 ^ 32) && noDivisor n 65535) t)) (λ d l s. elim (decLt d 65537) [
-      | yes k ↦ noDivisor-all n 65535 (right (ltb n (2 ^ 32)) (noDivisor n 65535) u) d l (omega arith)
-      | no k ↦ let m : 65537 ≤ d = omega arith in absurd (omega (arith, mul-le-mul m m))
-    ])
-
-pub known-prime : (n : ℕ) → OneOf n knownPrimes → Prime n
-known-prime n o = root-prime n (every-one root-test n knownPrimes known-right o)

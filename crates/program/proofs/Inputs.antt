@@ -21,7 +21,7 @@ use Rattle.text.specs.Place.{endOf, linesFrom}
 use Rattle.text.proofs.Lines.{afterNumbers, after-next, before-all}
 use Rattle.text.proofs.Places.{lines-none}
 use Rattle.text.proofs.Ends.{in-line, lines-at}
-use Rattle.text.proofs.Signed.{whole-is-none, whole-is, whole-ends}
+use Rattle.text.proofs.Numbers.{number-is-none, number-is, number-ends}
 use Rattle.program.specs.Input.{NumbersRead}
 
 -- before the line that starts at `at`, each was a number
@@ -85,13 +85,13 @@ module _ {input : List ℕ} {start : ℕ} {stored : List ℤ} {at count : ℕ} (
   module _ (ended : isEnded input ≡ true) (h : at < length input) {x : Number} (read : WholeRead input at x) where
     pub reading-stops : x ≡ NoNumber → refusalAt 3 (firstFail (λ l. isSome (number l)) 0 (linesFrom input start)) ≡ some (reply 3 count)
     unfolding firstFail isSome refusalAt
-    reading-stops q = ap (refusalAt 3) (r .fails-left) ∙ rw (lines-at input at ended h, whole-is-none input at read q)
+    reading-stops q = ap (refusalAt 3) (r .fails-left) ∙ rw (lines-at input at ended h, number-is-none _ _ read q)
 
     pub reading-turn : {n : ℤ} {end : ℕ} → x ≡ Of n end → Reading input start (set stored count n) (end + 1) (count + 1)
     unfolding firstFail isSome numbersOf
     reading-turn {n} {end} q =
-        let is = whole-is input at read q in
-        let e : end ≡ endOf input at = whole-ends input at read q .is in
+        let is = number-is _ _ read q in
+        let e : end ≡ endOf input at = number-ends _ _ read q .is in
         rw e (record {
           numbers = r .numbers ++ n ∷ [];
           inside = omega (arith, in-line input ended at h .inside);

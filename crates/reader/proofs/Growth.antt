@@ -18,7 +18,7 @@ use Rattle.meaning.specs.Kept.{Keeps}
 use Rattle.meaning.proofs.Kept.{keeps-all}
 use Rattle.reader.specs.State.{endsFrom, stateOf}
 use Rattle.reader.specs.Told.{Told, refuses, makes, toldOf, madeSeen}
-use Rattle.reader.specs.Step.{stops, goes, stepOf, stepSeen, answered, entered, untouched, Left, WithinLimits, Grows}
+use Rattle.reader.specs.Step.{stops, goes, stepOf, stepSeen, placedAt, answered, entered, untouched, Left, WithinLimits, Grows}
 use Rattle.reader.specs.declared.rule.Made.{Made}
 use Rattle.reader.specs.declared.rule.Made.the-variants.{EndsOf, Breaks}
 use Rattle.reader.specs.declared.state.Counts.{Counts}
@@ -93,7 +93,7 @@ same-state e f g h k m = λ i. record { p = e i; known = f i; places = g i; inpu
 
 -- as many values are known as the code counts
 pub values-are : {s : Known} {c : Counts} (p : ℕ) (lows highs : List ℤ) (places : List ℕ) → s ≡ stateOf p c lows highs places
-    → WithinLimits c (length lows) (length highs) (length places) → length (s .known) ≡ c .values
+    → WithinLimits c (length lows) (length highs) → length (s .known) ≡ c .values
 unfolding stateOf
 values-are {s} {c} p lows highs places is sized =
     known-long s (c .values) lows highs (ap (λ (q : Known). q .known) is) (omega (arith, sized .values-most, sized .lows-long))
@@ -115,7 +115,7 @@ left-by-entry made at c entry before h e f = rw (e, f) (left-entered made at c e
 -- ---- the ways out of taking in a line
 
 module _ (p : ℕ) (s : Known) (l : Line) (c : Counts) (lows highs : List ℤ) (places : List ℕ) (is : s ≡ stateOf p c lows highs places)
-    (sized : WithinLimits c (length lows) (length highs) (length places)) (made : Made) (e : madeSeen made ≡ toldOf s l) where
+    (sized : WithinLimits c (length lows) (length highs)) (made : Made) (e : madeSeen made ≡ toldOf s l) where
   -- a line that is refused
   pub grown-refused : (n : ℕ) (ls hs : List ℤ) (ps : List ℕ) → made ≡ Breaks n → stepSeen p (Refused n) ls hs ps ≡ stepOf s l
   unfolding stepSeen madeSeen
@@ -143,11 +143,11 @@ module _ (p : ℕ) (s : Known) (l : Line) (c : Counts) (lows highs : List ℤ) (
     pub entry-counted : (size : Counts) → (Keeps 1 s l → Grows s l size) → c .values < c .values + size .values
     entry-counted size grows-if = omega (arith, values-one size grows-if)
 
-    pub grown : (size : Counts) → (Keeps 1 s l → Grows s l size)
+    pub grown : length places ≡ valueLimit → (size : Counts) → (Keeps 1 s l → Grows s l size)
         → stepSeen p (Next (record { values = c .values + size .values; inputs = c .inputs + size .inputs; cells = c .cells + size .cells; rows = c .rows + size .rows }))
-        (set lows (c .values) low) (set highs (c .values) high) (set places (c .values) (c .cells)) ≡ stepOf s l
-    unfolding stepSeen stateOf after placesFrom
-    grown size grows-if =
+        (set lows (c .values) low) (set highs (c .values) high) (placedAt c places) ≡ stepOf s l
+    unfolding stepSeen stateOf placedAt after placesFrom
+    grown long size grows-if =
         let grows = grows-if kept in
         let made-is = ends-made s l (ends low high ∷ []) told in
         let there = kept-step s l (no-rule-broken s l (ends low high ∷ []) told) in
@@ -155,7 +155,7 @@ module _ (p : ℕ) (s : Known) (l : Line) (c : Counts) (lows highs : List ℤ) (
         (ap (λ (z : Known). z .p) (sym is) ∙ sym (grows .prime-is))
         (ends-grown (c .values) lows highs low high (omega (arith, room, sized .lows-long)) (omega (arith, room, sized .highs-long))
         ∙ ap₂ (λ (xs ys : List Ends). xs ++ ys) (sym (grows .narrowed-is ∙ ap (λ (z : Known). z .known) is)) (sym made-is))
-        (rw (add-one (c .values), take-suc-set places (c .values) (c .cells) (omega (arith, room, sized .places-long)))
+        (rw (add-one (c .values), take-suc-set places (c .values) (c .cells) (omega (arith, room, long)))
         (ap₂ (λ (xs ys : List ℕ). xs ++ ys) (ap (λ (z : Known). z .places) (sym is))
         (ap (λ (i : ℕ). i ∷ []) (ap (λ (z : Known). z .cells) (sym is)) ∙ ap (placesFrom (s .cells)) (sym made-is))))
         (ap₂ (λ (x y : ℕ). x + y) (ap (λ (z : Known). z .inputs) (sym is)) (sym (grows .adds .inputs-are)))

@@ -6,7 +6,7 @@ use Prim.Native.Nat.{ℕ, zero, suc, _+_, _≤_, _<_}
 use native.Mathlib.Omega.{arith}
 use native.Mathlib.Nat.{add-zero}
 use lib.ListN.{length, getD, take, set}
-use lib.Seq.{take-set-lt, length-take-le}
+use lib.Seq.{take-set-le, take-set-lt, length-take-le}
 use lib.IntN.{ℤ}
 use Rattle.meaning.specs.Line.{Line, span, sizeAt, numberAt, namesOf}
 use Rattle.meaning.specs.Known.{Ends, ends, Known, endsOf}
@@ -19,7 +19,7 @@ use Rattle.meaning.proofs.Lines.{first-named}
 use Rattle.reader.specs.State.{endsFrom, stateOf}
 use Rattle.reader.specs.Told.{spanTold, madeSeen, lineWith}
 use Rattle.reader.specs.Size.{Adds}
-use Rattle.reader.specs.Step.{goes, stepOf, stepSeen, WithinLimits}
+use Rattle.reader.specs.Step.{goes, stepOf, stepSeen, placedAt, WithinLimits}
 use Rattle.reader.specs.declared.rule.Made.{Made}
 use Rattle.reader.specs.declared.rule.Made.the-variants.{EndsOf, Breaks}
 use Rattle.reader.specs.declared.state.Counts.{Counts}
@@ -35,14 +35,14 @@ ends-set (x ∷ xs) (y ∷ ys) zero a b h = refl
 ends-set (x ∷ xs) (y ∷ ys) (suc i) a b h = ap (λ (es : List Ends). ends x y ∷ es) (ends-set xs ys i a b (omega arith))
 
 module _ (p : ℕ) (s : Known) (ns : List ℤ) (c : Counts) (lows highs : List ℤ) (places : List ℕ) (is : s ≡ stateOf p c lows highs places)
-    (sized : WithinLimits c (length lows) (length highs) (length places)) (made : Made) (e : madeSeen made ≡ spanTold s (lineWith span ns)) where
+    (sized : WithinLimits c (length lows) (length highs)) (made : Made) (e : madeSeen made ≡ spanTold s (lineWith span ns)) where
   abbrev line : Line
   line = lineWith span ns
 
   abbrev new : Ends
   new = shared (sizeAt ns 1) (sizeAt ns 2) (numberAt ns 3) (endsOf s (sizeAt ns 0))
 
-  pub narrowed-refused : (n : ℕ) (ls hs : List ℤ) → made ≡ Breaks n → stepSeen p (Refused n) ls hs places ≡ stepOf s line
+  pub narrowed-refused : (n : ℕ) (ls hs : List ℤ) → made ≡ Breaks n → stepSeen p (Refused n) ls hs (placedAt c places) ≡ stepOf s line
   unfolding stepSeen madeSeen spanTold stepOf
   narrowed-refused n ls hs q = told-refused (firstBroken rules 1 s line) (new ∷ []) (after s line) n (sym (ap madeSeen q) ∙ e)
 
@@ -78,14 +78,14 @@ module _ (p : ℕ) (s : Known) (ns : List ℤ) (c : Counts) (lows highs : List �
 
       pub narrowed : (size : Counts) → (Keeps 1 s line → Adds s line size)
           → stepSeen p (Next (record { values = c .values; inputs = c .inputs; cells = c .cells + size .cells; rows = c .rows + size .rows }))
-          (set lows at low) (set highs at high) places ≡ stepOf s line
-      unfolding stepSeen stateOf after gadget byWord spanLine primeAfter placesFrom
+          (set lows at low) (set highs at high) (placedAt c places) ≡ stepOf s line
+      unfolding stepSeen stateOf placedAt after gadget byWord spanLine primeAfter placesFrom
       narrowed size adds-if =
           let adds = adds-if kept in
           ap goes (same-state
           (ap (λ (z : Known). z .p) (sym is))
           (known-narrowed ∙ sym (append-nil (set (s .known) (sizeAt ns 0) new)))
-          (ap (λ (z : Known). z .places) (sym is) ∙ sym (append-nil (s .places)))
+          (take-set-le (c .values) places (c .values) (c .cells) (omega arith) ∙ ap (λ (z : Known). z .places) (sym is) ∙ sym (append-nil (s .places)))
           (ap (λ (z : Known). z .inputs) (sym is) ∙ sym (add-zero (s .inputs)))
           (ap₂ (λ (x y : ℕ). x + y) (ap (λ (z : Known). z .cells) (sym is)) (sym (adds .cells-are)))
           (ap₂ (λ (x y : ℕ). x + y) (ap (λ (z : Known). z .rows) (sym is)) (sym (adds .rows-are)))) ∙ kept-step s line (parts .0)

@@ -8,7 +8,7 @@ use Prim.Native.Nat.{ℕ, zero, suc, _+_, _-_, _≤_, _<_}
 use native.Mathlib.Omega.{arith}
 use native.Mathlib.Numerals.{add-one}
 use lib.Dec.{leb→le}
-use lib.ListN.{length, getD, take, length-append}
+use lib.ListN.{length, getD, take, length-append, length-set}
 use lib.Seq.{length-take-le, getD-take}
 use lib.IntN.{ℤ, pos, natAbs}
 use Rattle.number.proofs.Bounded.{bounded-range}
@@ -26,7 +26,7 @@ use Rattle.text.specs.Place.{endOf, lineAt, linesFrom}
 use Rattle.text.proofs.Places.{lines-none}
 use Rattle.text.proofs.Ends.{in-line, lines-at}
 use Rattle.reader.specs.State.{greatest, endsFrom, stateOf, Ready}
-use Rattle.reader.specs.Step.{stepBytes, stepSeen, valuesIn, WithinLimits}
+use Rattle.reader.specs.Step.{stepBytes, stepSeen, placedAt, valuesIn, WithinLimits}
 use Rattle.reader.specs.Read.{only, counted, refusedAt, surveyOf}
 use Rattle.reader.specs.declared.state.Counts.{Counts}
 use Rattle.reader.specs.declared.state.Stepped.{Stepped}
@@ -43,7 +43,8 @@ pub record Walked (list : List ℕ) (start p : ℕ) (numbers lows highs : List �
   pub later : 1 ≤ n
   pub counted : n ≤ at
   pub numbers-long : length numbers ≡ mostNumbers
-  pub sized : WithinLimits c (length lows) (length highs) (length places)
+  pub sized : WithinLimits c (length lows) (length highs)
+  pub places-long : length places ≡ valueLimit
   pub sound : Sound n (stateOf p c lows highs places)
   pub ordered : Ordered (stateOf p c lows highs places .known)
   pub survey-left : surveyOf (readFrom rules 1 (only p) (linesFrom list start)) ≡ surveyOf (readFrom rules n (stateOf p c lows highs places) (linesFrom list at))
@@ -62,7 +63,7 @@ small-ends p (x ∷ xs) (y ∷ ys) h e r o zero l =
     (bounded-range {bound = greatest} x (omega linear) (omega linear) .size, bounded-range {bound = greatest} y (omega linear) (omega linear) .size)
 small-ends p (x ∷ xs) (y ∷ ys) h e r o (suc i) l = small-ends p xs ys h (omega arith) (r .2) (o .1) i (omega arith)
 
-module _ (p : ℕ) (c : Counts) (lows highs : List ℤ) (places : List ℕ) (sized : WithinLimits c (length lows) (length highs) (length places)) where
+module _ (p : ℕ) (c : Counts) (lows highs : List ℤ) (places : List ℕ) (sized : WithinLimits c (length lows) (length highs)) where
   abbrev state : Known
   state = stateOf p c lows highs places
 
@@ -102,6 +103,10 @@ count-of p c lows highs l m places h = known-long (stateOf p c lows highs places
 
 -- ---- the walk
 
+pub placed-long : (c : Counts) (places : List ℕ) → length (placedAt c places) ≡ length places
+unfolding placedAt
+placed-long c places = length-set places (c .values) (c .cells)
+
 pub walk-start : (list : List ℕ) (start p : ℕ) (numbers lows highs : List ℤ) (places : List ℕ) → 1 ≤ start → start ≤ length list → OddPrime p
     → length numbers ≡ mostNumbers → length lows ≡ valueLimit → length highs ≡ valueLimit → length places ≡ valueLimit
     → Walked list start p numbers lows highs places (record { values = 0; inputs = 0; cells = 0; rows = 0 }) start 1
@@ -114,12 +119,12 @@ walk-start list start p numbers lows highs places h k odd n l m o = record {
   sized = record {
     lows-long = l;
     highs-long = m;
-    places-long = o;
     values-most = omega arith;
     inputs-most = omega arith;
     cells-most = omega arith;
     rows-most = omega arith;
   };
+  places-long = o;
   sound = record { start = λ e. absurd (omega arith); prime = λ _. odd; ranged = tt };
   ordered = tt;
   survey-left = refl;
@@ -172,7 +177,7 @@ module _ {list : List ℕ} {start p : ℕ} {numbers lows highs : List ℤ} {plac
       keeps : Keeps n s (gone .0)
       keeps = keeps-all n s (gone .0) (gone .1)
 
-      room : WithinLimits next (length ls) (length hs) (length ps)
+      room : WithinLimits next (length ls) (length hs)
       unfolding stateOf after
       room =
           let g = gadget s (gone .0) in
@@ -186,7 +191,6 @@ module _ {list : List ℕ} {start p : ℕ} {numbers lows highs : List ℤ} {plac
           record {
             lows-long = lows-long ∙ w .sized .lows-long;
             highs-long = highs-long ∙ w .sized .highs-long;
-            places-long = places-long ∙ w .sized .places-long;
             values-most = few-values;
             inputs-most = omega (arith, inputs-are, count, known-are, length-append (g .narrowed) (g .made), f .0, f .2, before, w .sized .inputs-most);
             cells-most = omega (arith, cells-are, leb→le (c .cells + g .width) cellLimit (keeps .cells-fit));
@@ -200,6 +204,7 @@ module _ {list : List ℕ} {start p : ℕ} {numbers lows highs : List ℤ} {plac
         counted = omega (arith, w .counted);
         numbers-long = numbers-long;
         sized = room;
+        places-long = places-long ∙ w .places-long;
         sound = rw (add-one n) (subst (λ (z : Known). Sound (suc n) z) (sym (gone .2)) (sound-after n s (gone .0) (w .sound) keeps));
         ordered = subst (λ (z : Known). Ordered (z .known)) (sym (gone .2)) (ordered-after n s (gone .0) keeps (w .ordered));
         survey-left = survey-here ∙ gone .3 ∙ ap (λ (i : ℕ). surveyOf (readFrom rules i t (linesFrom list (endOf list at + 1)))) (sym (add-one n));

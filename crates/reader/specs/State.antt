@@ -1,5 +1,6 @@
--- What is known before a line, as the code holds it: the counts in a struct, the ends and the cells of the values in lent arrays with room
--- for 256, of which the first ones count.
+-- What is known before a line, as the code holds it: the counts in a struct, the ends of the values in lent arrays with room for 256, of
+-- which the first ones count. The cells of the values are asked for by no rule, and reading does not keep them: in what is said of the code
+-- they are any list of that length (`places`).
 use mathlib.Core.Path.{_≡_}
 use mathlib.Core.List.{List, [], _∷_}
 use Prim.Native.Nat.{ℕ, _*_, _≤_, _<_}

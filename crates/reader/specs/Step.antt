@@ -37,6 +37,10 @@ unfoldable pub stepSeen : ℕ → Stepped → (lows highs : List ℤ) (places : 
 stepSeen p (Next c) lows highs places = goes (stateOf p c lows highs places)
 stepSeen p (Refused n) lows highs places = stops n
 
+-- the cells of the values after a line: its own first cell stands behind them, and counts where the line makes a value
+unfoldable pub placedAt : Counts → List ℕ → List ℕ
+placedAt c places = set places (c .values) (c .cells)
+
 -- what taking in a line answers: the counts after it, or its refusal
 unfoldable pub answered : Made → Counts → Stepped
 answered (EndsOf low high) c = Next c
@@ -62,10 +66,9 @@ valuesIn (Next c) = c .values
 valuesIn (Refused n) = 0
 
 -- arrays of 256, and counts that no sum overflows
-pub record WithinLimits (c : Counts) (lows highs places : ℕ) : Type 0 where
+pub record WithinLimits (c : Counts) (lows highs : ℕ) : Type 0 where
   pub lows-long : lows ≡ valueLimit
   pub highs-long : highs ≡ valueLimit
-  pub places-long : places ≡ valueLimit
   pub values-most : c .values ≤ valueLimit
   pub inputs-most : c .inputs ≤ c .values
   pub cells-most : c .cells ≤ cellLimit

@@ -106,20 +106,19 @@ pub fn survey(list: &[u8]) -> Surveyed
     let first = first_line(list, &mut numbers);
     match first {
         First::NotFirst(n) => Surveyed::NotRead(n, 0),
-        First::Prime(p, next) => survey_from(list, next, p),
+        First::Prime(p, next) => survey_from(list, next, p, &mut numbers),
     }
 }
 
 // The lines after line 0, from the place where line 1 starts.
-fn survey_from(list: &[u8], start: usize, p: u32) -> Surveyed
-    requires { ⌜ (isEnded (now list) ≡ true) × (1 ≤ start) × (start ≤ length (now list)) × OddPrime p × (p ≤ greatest) ⌝ }
+fn survey_from(list: &[u8], start: usize, p: u32, numbers: &mut [i64]) -> Surveyed
+    requires { ⌜ (isEnded (now list) ≡ true) × (1 ≤ start) × (start ≤ length (now list)) × OddPrime p × (p ≤ greatest)
+        × (length (now numbers) ≡ mostNumbers) ⌝ }
     ensures told { λ r. ⌜ surveySeen r ≡ surveyOf (readFrom rules 1 (only p) (linesFrom (now (list .entry)) start)) ⌝ }
     ensures prime { λ r. ⌜ PrimeFound r ⌝ }
 {
-    let mut numbers: [i64; 33] = [0; 33];
     let mut lows: [i64; 256] = [0; 256];
     let mut highs: [i64; 256] = [0; 256];
-    let mut places: [usize; 256] = [0; 256];
     let mut counts = Counts {
         values: 0,
         inputs: 0,
@@ -129,19 +128,10 @@ fn survey_from(list: &[u8], start: usize, p: u32) -> Surveyed
     let mut at = start;
     let mut n: usize = 1;
     while at < list.len() {
-        let Parsed::Line(word, count, next) = line_of(list, at, &mut numbers) else {
+        let Parsed::Line(word, count, next) = line_of(list, at, numbers) else {
             return Surveyed::NotRead(3, n);
         };
-        let stepped = step(
-            word,
-            &numbers,
-            count,
-            p,
-            counts,
-            &mut lows,
-            &mut highs,
-            &mut places,
-        );
+        let stepped = step(word, numbers, count, p, counts, &mut lows, &mut highs);
         match stepped {
             Stepped::Refused(number) => {
                 return Surveyed::NotRead(number, n);

@@ -1,5 +1,5 @@
-// What is known before a line: how many values, inputs, cells and rows the lines so far have. The ends and the cells of the values
-// are in arrays beside it, which the outermost call lends: the first ones, as many as there are values.
+// What is known before a line: how many values, inputs, cells and rows the lines so far have. The ends of the values are in arrays
+// beside it, which the outermost call lends: the first ones, as many as there are values.
 use super::rule::Made;
 ghost use mathlib.Core.Path.{_≡_};
 ghost use Prim.Native.Nat.{ℕ, _+_, _≤_};
@@ -12,7 +12,7 @@ ghost use Rattle.meaning.specs.Kept.{Keeps};
 ghost use Rattle.reader.specs.State.{stateOf};
 ghost use Rattle.reader.specs.Told.{toldOf, spanTold, madeSeen, lineWith};
 ghost use Rattle.reader.specs.Size.{counted, Adds, FewCounts};
-ghost use Rattle.reader.specs.Step.{Grows, Placed, WithinLimits, answered, entered, valuesIn, stepSeen, stepOf};
+ghost use Rattle.reader.specs.Step.{Grows, Placed, WithinLimits, placedAt, answered, entered, valuesIn, stepSeen, stepOf};
 ghost use Rattle.meaning.specs.Refusal.{valueLimit};
 
 pub struct Counts {
@@ -28,24 +28,22 @@ pub enum Stepped {
     Refused(u32),
 }
 
-// Takes in a line that makes a value with these ends: the value's cell is the line's first.
+// Takes in a line that makes a value with these ends.
 pub fn grow(
     made: Made,
     size: Counts,
     counts: Counts,
     lows: &mut [i64],
     highs: &mut [i64],
-    places: &mut [usize],
 ) -> Stepped
-    requires { ⌜ WithinLimits counts (length (now lows)) (length (now highs)) (length (now places)) × FewCounts size × Placed made (counts .values) ⌝ }
-    ensures told { λ r. ⌜ ((p : ℕ) (s : Known) (l : Line) → s ≡ stateOf p counts (now (lows .entry)) (now (highs .entry)) (now (places .entry))
+    requires { ⌜ WithinLimits counts (length (now lows)) (length (now highs)) × FewCounts size × Placed made (counts .values) ⌝ }
+    ensures told { λ r. ⌜ ((p : ℕ) (s : Known) (l : Line) (places : List ℕ) → length places ≡ valueLimit → s ≡ stateOf p counts (now (lows .entry)) (now (highs .entry)) places
         → (Keeps 1 s l → Grows s l size) → madeSeen made ≡ toldOf s l
-        → stepSeen p r (now (lows .exit)) (now (highs .exit)) (now (places .exit)) ≡ stepOf s l) ⌝ }
+        → stepSeen p r (now (lows .exit)) (now (highs .exit)) (placedAt counts places) ≡ stepOf s l) ⌝ }
     ensures held { λ r. ⌜ (valuesIn r ≤ valueLimit)
         × (r ≡ answered made (counted (counts .values + size .values) (counts .inputs + size .inputs) (counts .cells + size .cells) (counts .rows + size .rows)))
         × (now (lows .exit) ≡ entered made (counts .values) (λ low high. low) (now (lows .entry)))
-        × (now (highs .exit) ≡ entered made (counts .values) (λ low high. high) (now (highs .entry)))
-        × (now (places .exit) ≡ entered made (counts .values) (λ low high. counts .cells) (now (places .entry))) ⌝ }
+        × (now (highs .exit) ≡ entered made (counts .values) (λ low high. high) (now (highs .entry))) ⌝ }
 {
     match made {
         Made::Breaks(n) => Stepped::Refused(n),
@@ -53,7 +51,6 @@ pub fn grow(
             let at = counts.values;
             lows[at] = low;
             highs[at] = high;
-            places[at] = counts.cells;
             Stepped::Next(Counts {
                 values: at + size.values,
                 inputs: counts.inputs + size.inputs,
@@ -72,13 +69,12 @@ pub fn narrow(
     counts: Counts,
     lows: &mut [i64],
     highs: &mut [i64],
-    places: &[usize],
 ) -> Stepped
-    requires { ⌜ WithinLimits counts (length (now lows)) (length (now highs)) (length (now places)) × FewCounts size × Placed made at ⌝ }
-    ensures told { λ r. ⌜ ((p : ℕ) (s : Known) (ns : List ℤ) → s ≡ stateOf p counts (now (lows .entry)) (now (highs .entry)) (now (places .entry))
+    requires { ⌜ WithinLimits counts (length (now lows)) (length (now highs)) × FewCounts size × Placed made at ⌝ }
+    ensures told { λ r. ⌜ ((p : ℕ) (s : Known) (ns : List ℤ) (places : List ℕ) → s ≡ stateOf p counts (now (lows .entry)) (now (highs .entry)) places
         → (Keeps 1 s (lineWith span ns) → (sizeAt ns 0 ≡ at) × Adds s (lineWith span ns) size)
         → madeSeen made ≡ spanTold s (lineWith span ns)
-        → stepSeen p r (now (lows .exit)) (now (highs .exit)) (now (places .entry)) ≡ stepOf s (lineWith span ns)) ⌝ }
+        → stepSeen p r (now (lows .exit)) (now (highs .exit)) (placedAt counts places) ≡ stepOf s (lineWith span ns)) ⌝ }
     ensures held { λ r. ⌜ (valuesIn r ≤ valueLimit)
         × (r ≡ answered made (counted (counts .values) (counts .inputs) (counts .cells + size .cells) (counts .rows + size .rows)))
         × (now (lows .exit) ≡ entered made at (λ low high. low) (now (lows .entry)))

@@ -17,14 +17,15 @@ use super::which::read_which;
 use text::Word;
 ghost use mathlib.Core.Path.{_≡_};
 ghost use mathlib.Core.Bool.{true};
-ghost use Prim.Native.Nat.{_≤_};
+ghost use Prim.Native.Nat.{ℕ, _≤_};
+ghost use mathlib.Core.List.{List};
 ghost use lib.ListN.{length, take};
 ghost use Rattle.meaning.specs.Line.{isCount};
 ghost use Rattle.meaning.specs.Known.{Known};
 ghost use Rattle.text.specs.Word.{wordOf};
 ghost use Rattle.reader.specs.State.{Small, Ready, Seen, stateOf};
 ghost use Rattle.reader.specs.Told.{lineTold, madeSeen, lineWith};
-ghost use Rattle.reader.specs.Step.{WithinLimits, Left, valuesIn, stepSeen, stepOf};
+ghost use Rattle.reader.specs.Step.{WithinLimits, Left, placedAt, valuesIn, stepSeen, stepOf};
 ghost use Rattle.text.specs.Parsed.{mostNumbers};
 ghost use Rattle.meaning.specs.Refusal.{valueLimit};
 
@@ -65,14 +66,12 @@ pub fn step(
     counts: Counts,
     lows: &mut [i64],
     highs: &mut [i64],
-    places: &mut [usize],
 ) -> Stepped
-    requires { ⌜ Ready p (counts .values) (counts .cells) (now lows) (now highs) × WithinLimits counts (length (now lows)) (length (now highs)) (length (now places))
+    requires { ⌜ Ready p (counts .values) (counts .cells) (now lows) (now highs) × WithinLimits counts (length (now lows)) (length (now highs))
         × (length (now numbers) ≡ mostNumbers) × (isCount (wordOf word) count ≡ true) × (count ≤ mostNumbers) × Small count (now numbers) ⌝ }
-    ensures told { λ r. ⌜ ((s : Known) → s ≡ stateOf p counts (now (lows .entry)) (now (highs .entry)) (now (places .entry))
-        → stepSeen p r (now (lows .exit)) (now (highs .exit)) (now (places .exit)) ≡ stepOf s (lineWith (wordOf word) (take count (now (numbers .entry))))) ⌝ }
-    ensures held { λ r. ⌜ (valuesIn r ≤ valueLimit) × Left r (now (lows .entry)) (now (lows .exit)) × Left r (now (highs .entry)) (now (highs .exit))
-        × Left r (now (places .entry)) (now (places .exit)) ⌝ }
+    ensures told { λ r. ⌜ ((s : Known) (places : List ℕ) → length places ≡ valueLimit → s ≡ stateOf p counts (now (lows .entry)) (now (highs .entry)) places
+        → stepSeen p r (now (lows .exit)) (now (highs .exit)) (placedAt counts places) ≡ stepOf s (lineWith (wordOf word) (take count (now (numbers .entry))))) ⌝ }
+    ensures held { λ r. ⌜ (valuesIn r ≤ valueLimit) × Left r (now (lows .entry)) (now (lows .exit)) × Left r (now (highs .entry)) (now (highs .exit)) ⌝ }
 {
     let made = read_ends(
         word,
@@ -86,8 +85,8 @@ pub fn step(
     );
     let size = line_size(word, numbers);
     let Word::Span = word else {
-        return grow(made, size, counts, lows, highs, places);
+        return grow(made, size, counts, lows, highs);
     };
     let at = natural(numbers[0]);
-    narrow(made, at, size, counts, lows, highs, places)
+    narrow(made, at, size, counts, lows, highs)
 }

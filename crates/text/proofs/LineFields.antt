@@ -24,7 +24,7 @@ use Rattle.text.specs.declared.Fields.{Fields}
 use Rattle.text.specs.declared.Fields.the-variants.{Worded, Alone, NoFields}
 use Rattle.text.specs.declared.Parsed.the-variants.{Line, NoLine}
 use Rattle.text.specs.declared.Number.the-variants.{Of, NoNumber}
-use Rattle.text.specs.Number.{WholeRead}
+use Rattle.text.specs.Number.{NumberSpelled, WholeRead}
 use Rattle.text.specs.Word.{wordOf, WordRead}
 use Rattle.text.specs.Place.{indexOf, Found, endOf, upTo, lineAt, fieldAt, fieldsFrom}
 use Rattle.text.specs.Parsed.{parsedSeen, countSeen, NumbersTold, wordedBy, FieldsTold, LineRead, NextAfter, Stored, leadingNumbers, leading, mostNumbers}
@@ -165,7 +165,7 @@ module _ (text : List ℕ) (at : ℕ) {before after : List ℤ} (left : Stored (
 
 module _ (text : List ℕ) (at : ℕ) where
   pub reads-no-number : number (lineAt text at) ≡ none → WholeRead text at NoNumber
-  unfolding WholeRead
+  unfolding NumberSpelled
   reads-no-number q = none-refused 3 q
 
   module _ (after : List ℤ) (count end : ℕ) (told : FieldsTold text at after (Alone count end)) (long : length after ≡ mostNumbers) where
@@ -176,7 +176,7 @@ module _ (text : List ℕ) (at : ℕ) where
 
     -- the number is stored as it is: it fits a machine word
     pub reads-one : count ≡ 1 → InLine text at (endOf text at) → WholeRead text at (Of (toZ w64 (ofZ w64 (getD after 0 (pos 0)))) end)
-    unfolding FieldsTold WholeRead onlyOne
+    unfolding FieldsTold NumberSpelled onlyOne
     reads-one q l =
         let one : take count after ≡ getD after 0 (pos 0) ∷ [] = rw q (take-one after (omega arith)) in
         let is : number (lineAt text at) ≡ some (getD after 0 (pos 0)) = number-alone (lineAt text at) ∙ rw (told .1, one) in

@@ -20,7 +20,7 @@ use Rattle.text.specs.declared.Number.{Number}
 use Rattle.text.specs.declared.Number.the-variants.{Of, NoNumber}
 use Rattle.text.specs.declared.Size.{Size}
 use Rattle.text.specs.declared.Size.the-variants.{Small, NoSize}
-use Rattle.text.specs.Number.{plainSize, SizeRead, NumberRead}
+use Rattle.text.specs.Number.{plainSize, SizeRead, NumberSpelled, NumberRead}
 use Rattle.text.specs.Place.{indexOf, Found, fieldAt}
 use Rattle.text.proofs.Bytes.{and-false, none-some}
 use Rattle.text.proofs.Places.{index-past, index-end, found-next, field-empty, field-byte, field-more}
@@ -192,14 +192,14 @@ module _ (line : List ℕ) (at : ℕ) where
       zero-more = field-more line at h (λ e. omega arith) ∙ rw zero-byte
 
       pub zero-number : indexOf 9 (drop (at + 1) line) ≡ 0 → NumberRead line at (Of (pos 0) (at + 1))
-      unfolding NumberRead number sameBytes
+      unfolding NumberSpelled number sameBytes
       zero-number q = (
         rw (zero-more, field-empty line (at + 1) q),
         record { low = omega arith; high = omega arith; is = omega (arith, q, index-past 9 line at h (λ e. omega arith)) },
       )
 
       pub zero-none : (length (fieldAt line (at + 1)) ≡ 0 → ⊥) → NumberRead line at NoNumber
-      unfolding NumberRead
+      unfolding NumberSpelled
       zero-none more = none-refused 3 (rw zero-more (number-zero-more (fieldAt line (at + 1)) more))
 
     module _ (minus : getD line at 0 ≡ 45) where
@@ -208,11 +208,11 @@ module _ (line : List ℕ) (at : ℕ) where
 
       module _ {r : Size} (read : SizeRead line (at + 1) r) where
         pub minus-none : r ≡ NoSize → NumberRead line at NoNumber
-        unfolding NumberRead
+        unfolding NumberSpelled
         minus-none q = none-refused 3 (minus-sized ∙ sized-none line (at + 1) read _ q)
 
         pub minus-number : {n place : ℕ} → r ≡ Small n place → NumberRead line at (Of (toZ w64 (ofZ w64 (pos 0 -ℤ toZ w64 n))) place)
-        unfolding NumberRead
+        unfolding NumberSpelled
         minus-number {n} q =
             let small = size-small line (at + 1) read q in (
               rw (minus-is n small, toZ-ofZ w64 (negℤ (pos n)) (sfits-neg n small)) (minus-sized ∙ sized-is line (at + 1) read q _),
@@ -230,27 +230,27 @@ module _ (line : List ℕ) (at : ℕ) where
 
     module _ {r : Size} (read : SizeRead line at r) where
       pub plain-none : r ≡ NoSize → NumberRead line at NoNumber
-      unfolding NumberRead
+      unfolding NumberSpelled
       plain-none q = none-refused 3 (plain-sized ∙ sized-none line at read _ q)
 
       pub plain-number : {n place : ℕ} → r ≡ Small n place → NumberRead line at (Of (toZ w64 (ofZ w64 (pos n))) place)
-      unfolding NumberRead
+      unfolding NumberSpelled
       plain-number {n} q =
           (rw (toZ-ofZ w64 (pos n) (size-fits line at read q)) (plain-sized ∙ sized-is line at read q _), size-ends line at read q)
 
--- what `number_at` answered
-module _ (line : List ℕ) (at : ℕ) {r : Number} (read : NumberRead line at r) where
-  pub number-is-none : r ≡ NoNumber → number (fieldAt line at) ≡ none
-  unfolding NumberRead
+-- what `number_at` and `number_of` answered
+module _ (bytes : List ℕ) (Ends : ℕ → Type 0) {r : Number} (read : NumberSpelled bytes Ends r) where
+  pub number-is-none : r ≡ NoNumber → number bytes ≡ none
+  unfolding NumberSpelled
   number-is-none q = refused-none 3 _ (rw q at read)
 
   module _ {z : ℤ} {place : ℕ} (q : r ≡ Of z place) where
-    pub number-is : number (fieldAt line at) ≡ some z
-    unfolding NumberRead
+    pub number-is : number bytes ≡ some z
+    unfolding NumberSpelled
     number-is = (rw q at read) .0
 
-    pub number-ends : Found 9 line at place
-    unfolding NumberRead
+    pub number-ends : Ends place
+    unfolding NumberSpelled
     number-ends = (rw q at read) .1
 
 -- ---- bytes with a tab among them are no number

@@ -1,23 +1,18 @@
--- Laws of a number at a place in a text, one for each way out of `number_at`: the bytes are the text's, the number that of the field. Then what
--- an answer of `number_of` tells.
+-- Laws of a number at a place in a text, one for each way out of `number_at`: the bytes are the text's, the number that of the field.
 use mathlib.Core.Path.{_≡_, sym, _∙_}
 use mathlib.Core.List.{List}
 use mathlib.Core.Logic.{_⊎_}
-use mathlib.Core.Option.{none, some}
 use Prim.Native.Nat.{ℕ, _+_, _<_}
 use native.Mathlib.Omega.{arith}
-use lib.IntN.{ℤ, pos, _-ℤ_}
+use lib.IntN.{pos, _-ℤ_}
 use lib.ListN.{length, getD, take}
 use mir.Syntax.{w64}
 use mir.Val.{toZ, ofZ}
-use Rattle.meaning.specs.Text.{number}
-use Rattle.meaning.proofs.Results.{refused-none}
-use Rattle.text.specs.declared.Number.{Number}
 use Rattle.text.specs.declared.Number.the-variants.{Of, NoNumber}
 use Rattle.text.specs.declared.Size.{Size}
 use Rattle.text.specs.declared.Size.the-variants.{Small, NoSize}
-use Rattle.text.specs.Number.{SizeRead, NumberRead, WholeRead}
-use Rattle.text.specs.Place.{endOf, upTo, lineAt, Found}
+use Rattle.text.specs.Number.{SizeRead, NumberRead}
+use Rattle.text.specs.Place.{endOf, upTo}
 use Rattle.text.proofs.Places.{field-more}
 use Rattle.text.proofs.Ends.{InLine, cut-length, cut-byte, before-end, place-next, same-line, field-ends}
 use Rattle.text.proofs.Numbers.{zero-number, zero-none, minus-none, minus-number, plain-none, plain-number}
@@ -73,18 +68,3 @@ module _ {text : List ℕ} {at end : ℕ} (l : InLine text at end) where
 
     pub reads-plain : {n place : ℕ} → r ≡ Small n place → NumberRead (take end text) at (Of (toZ w64 (ofZ w64 (pos n))) place)
     reads-plain = plain-number (take end text) at (other 48 no-zero) (other 45 no-minus) read
-
--- what `number_of` answered
-module _ (text : List ℕ) (at : ℕ) {r : Number} (read : WholeRead text at r) where
-  pub whole-is-none : r ≡ NoNumber → number (lineAt text at) ≡ none
-  unfolding WholeRead
-  whole-is-none q = refused-none 3 _ (rw q at read)
-
-  module _ {z : ℤ} {place : ℕ} (q : r ≡ Of z place) where
-    pub whole-is : number (lineAt text at) ≡ some z
-    unfolding WholeRead
-    whole-is = (rw q at read) .0
-
-    pub whole-ends : Found 10 text at place
-    unfolding WholeRead
-    whole-ends = (rw q at read) .1

@@ -13,15 +13,18 @@ use Rattle.text.specs.declared.Size.{Size}
 use Rattle.text.specs.declared.Size.the-variants.{Small, NoSize}
 use Rattle.text.specs.Place.{Found, lineAt, fieldAt}
 
--- the answer is the number of the field at a place, and the place where that field ends
-unfoldable pub NumberRead : List ℕ → ℕ → Number → Type 0
-NumberRead line at (Of z place) = (number (fieldAt line at) ≡ some z) × Found 9 line at place
-NumberRead line at NoNumber = orRefused 3 (number (fieldAt line at)) ≡ refusedBy 3
+-- the answer is the number that bytes spell, and the place where they end
+unfoldable pub NumberSpelled : (bytes : List ℕ) → (Ends : ℕ → Type 0) → Number → Type 0
+NumberSpelled bytes Ends (Of z place) = (number bytes ≡ some z) × Ends place
+NumberSpelled bytes Ends NoNumber = orRefused 3 (number bytes) ≡ refusedBy 3
 
--- the answer is the number of the line at a place, and the place where that line ends
-unfoldable pub WholeRead : List ℕ → ℕ → Number → Type 0
-WholeRead text at (Of z place) = (number (lineAt text at) ≡ some z) × Found 10 text at place
-WholeRead text at NoNumber = orRefused 3 (number (lineAt text at)) ≡ refusedBy 3
+-- of the field at a place
+abbrev pub NumberRead : List ℕ → ℕ → Number → Type 0
+NumberRead line at r = NumberSpelled (fieldAt line at) (Found 9 line at) r
+
+-- of the line at a place
+abbrev pub WholeRead : List ℕ → ℕ → Number → Type 0
+WholeRead text at r = NumberSpelled (lineAt text at) (Found 10 text at) r
 
 -- the size of the number above 0 that these bytes spell: what the definition of a number asks of the bytes after its sign
 unfoldable pub plainSize : List ℕ → Option ℕ

@@ -57,7 +57,7 @@ returns c =
     let now = at-number .before .before .loop in
     let s = at-number .before .before .before .before .args in
     let line = upTo (s .text .now) (s .from) in
-    reading-none (now .inv .2) (now .inv .1) (fields-from line (now .at)) (number-is-none line (now .at) (number at-number) (c .enum-told .given .1))
+    reading-none (now .inv .2) (now .inv .1) (fields-from line (now .at)) (number-is-none _ _ (number at-number) (c .enum-told .given .1))
 
 mul-n : tie.Need-mul-n Inv-loop μ-loop
 mul-n c = search needs
@@ -87,7 +87,7 @@ turn c =
     let s = c .before .before .before .before .before .before .before .args in
     let now = c .before .before .before .before .before .loop in
     let line = upTo (s .text .now) (s .from) in
-    reading-turn (now .inv .2) (now .inv .1) (fields-found line (ends c)) (number-is line (now .at) (number (c .before .before .before)) (c .before .n .given .1))
+    reading-turn (now .inv .2) (now .inv .1) (fields-found line (ends c)) (number-is _ _ (number (c .before .before .before)) (c .before .n .given .1))
     (c .before .before .before .before .loop-test .taken)
 
 -- the number that was read is what its bits say

@@ -6,7 +6,8 @@ use native.Mathlib.Omega.{arith}
 use native.Mathlib.Nat.{zero-add}
 use borrow.Author.Needs.{needs}
 use Rattle.number.proofs.OddPrime.{odd-prime-passes, odd-prime-low, odd-prime-fails}
-use Rattle.number.proofs.PrimeTable.{entry-prime, entry-below, listed-decides, known-prime}
+use Rattle.number.proofs.PrimeTable.{entry-prime, entry-below, listed-decides}
+use Rattle.known_primes.proofs.Known.{known-prime}
 use Rattle.number.proofs.prime.is_odd_prime.Statement.{statement}
 use Rattle.number.proofs.prime.is_odd_prime.Tie as tie
 

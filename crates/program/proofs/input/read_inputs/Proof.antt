@@ -6,7 +6,7 @@ use mir.Val.{toZ, ofZ}
 use native.Mathlib.Omega.{arith}
 use lib.ListN.{length}
 use Rattle.text.specs.Place.{Found}
-use Rattle.text.proofs.Signed.{whole-ends}
+use Rattle.text.proofs.Numbers.{number-ends}
 use Rattle.program.specs.Input.{InputsRead}
 use Rattle.program.proofs.Inputs.{Reading, reading-start, reading-turn, reading-stops, reading-end}
 use borrow.Author.Needs.{needs}
@@ -51,7 +51,7 @@ end : (c : tie.After-known-told Inv-loop μ-loop) → let at-loop = c .before .b
 end c =
     let at-number = c .before .before .before in
     let at-loop = at-number .before .before in
-    whole-ends (at-loop .before .before .args .input .now) (at-loop .loop .at) (at-number .number-of .ensures) (c .before .n .given .1)
+    number-ends _ _ (at-number .number-of .ensures) (c .before .n .given .1)
 
 add-at : tie.Need-add-at Inv-loop μ-loop
 add-at c = omega (arith, end (c .before .before .before) .high)

@@ -49,17 +49,20 @@ second : (c : tie.After-known-told2) → c .before .first2 .given .0 .1 .0 ≡ e
 unfolding SecondLine
 second c = rw (c .before .first2 .given .1) at (c .before .before .before .before .first-line .ensures .1 .1 .0)
 
+slice-aggregate-survey-from : tie.Need-slice-aggregate-survey-from
+slice-aggregate-survey-from c = search needs
+
 survey-from-requires : tie.Need-survey-from-requires
 unfolding primeIn
 survey-from-requires c κs =
-    let at-first = c .before .before .before .before in
+    let at-first = c .before .before .before .before .before in
     let at-if2 = at-first .before .before in
     let text = now (at-if2 .before .before .before .before .args .list) in
     let short = at-if2 .before .before .if1 .left in
     let told = at-first .first-line .ensures in
-    let prime = c .before .first2 .given in
+    let prime = c .before .before .first2 .given in
     let within = first-within text short (ended at-if2) in
-    (ended at-if2, omega (arith, second c), omega (arith, within, second c), first-is-prime text short (ended at-if2) _ (told .0) _ (prime .1), rw (prime .1) at (told .1 .0))
+    (ended at-if2, omega (arith, second (c .before)), omega (arith, within, second (c .before)), first-is-prime text short (ended at-if2) _ (told .0) _ (prime .1), rw (prime .1) at (told .1 .0), search needs)
 
 returns-3 : tie.Need-returns-3
 unfolding surveySeen PrimeFound
@@ -71,12 +74,12 @@ returns-3 c =
 
 returns-4 : tie.Need-returns-4
 returns-4 c =
-    let at-first = c .before .before .before .before .before in
+    let at-first = c .before .before .before .before .before .before .before in
     let at-if2 = at-first .before .before in
     let text = now (at-if2 .before .before .before .before .args .list) in (
-      rw (second (c .before)) at (c .survey-from .ensures .0)
-          ∙ survey-after text (at-if2 .before .before .if1 .left) (ended at-if2) _ (at-first .first-line .ensures .0) _ (c .before .before .first2 .given .1),
-      c .survey-from .ensures .1,
+      rw (second (c .before .before .before)) at (c .before .survey-from .ensures .0)
+          ∙ survey-after text (at-if2 .before .before .if1 .left) (ended at-if2) _ (at-first .first-line .ensures .0) _ (c .before .before .before .before .first2 .given .1),
+      c .before .survey-from .ensures .1,
     )
 
 pub survey-spec : {M : Type 1} → statement M
@@ -90,6 +93,7 @@ survey-spec =
     first-line-requires
     enum-known-first
     enum-known-first-2
+    slice-aggregate-survey-from
     survey-from-requires
     returns-3
     returns-4)

@@ -1,42 +1,41 @@
 -- `reader::reading::survey_from`: the walk over the lines, with what holds before each of them as the invariant. Bytes that spell no line are
 -- refused 3, and a line that they spell is stepped over.
-use mathlib.Core.Path.{_≡_, refl, _∙_}
+use mathlib.Core.Path.{_≡_, refl, sym, _∙_}
 use native.Mathlib.Omega.{arith}
-use Prim.Native.Nat.{_+_, _-_}
-use lib.ListN.{length}
+use mathlib.Core.List.{List}
+use Prim.Native.Nat.{ℕ, _+_, _-_}
+use lib.ListN.{length, replicate}
 use denote.Ref.{now}
 use borrow.Author.Needs.{needs}
+use Rattle.meaning.specs.Refusal.{valueLimit}
 use Rattle.text.specs.Place.{endOf, lineAt}
 use Rattle.text.proofs.Answers.{no-line-seen, line-seen, line-most, line-counted, line-small, line-next}
 use Rattle.reader.specs.Read.{surveySeen, PrimeFound}
-use Rattle.reader.specs.Step.{stepSeen}
+use Rattle.reader.specs.Step.{stepSeen, placedAt}
 use Rattle.reader.specs.State.{stateOf}
 use Rattle.reader.specs.declared.state.Stepped.the-variants.{Refused}
 use Rattle.reader.proofs.Steps.{no-line-step, line-step}
-use Rattle.reader.proofs.Walk.{Walked, walk-ready, walk-start, walk-end, walk-stopped, walk-next}
+use Rattle.reader.proofs.Walk.{Walked, placed-long, walk-ready, walk-start, walk-end, walk-stopped, walk-next}
 use Rattle.reader.proofs.reading.survey_from.Statement.{statement}
 use Rattle.reader.proofs.reading.survey_from.Tie as tie
 
 abbrev Inv-loop : tie.InvT-loop
-Inv-loop list start p numbers₀ lows₀ highs₀ places₀ counts₀ at₀ n₀ numbers lows highs places counts at n =
-    Walked list start p numbers lows highs places counts at n
+Inv-loop list start p numbers₀ lows₀ highs₀ counts₀ at₀ n₀ numbers lows highs counts at n =
+    (places : List ℕ) × Walked list start p numbers lows highs places counts at n
 
 abbrev μ-loop : tie.MeasureT-loop
-μ-loop list start p numbers₀ lows₀ highs₀ places₀ counts₀ at₀ n₀ numbers lows highs places counts at n =
+μ-loop list start p numbers₀ lows₀ highs₀ counts₀ at₀ n₀ numbers lows highs counts at n =
     length list - at
 
 loop-holds : tie.Need-loop-holds Inv-loop μ-loop
 loop-holds c =
     let S = c .before in
-    walk-start (now (S .args .list)) (S .args .start) (S .args .p) _ _ _ _ (S .pre .1) (S .pre .2) (S .pre .3) refl refl refl refl
-
-slice-aggregate-line-of : tie.Need-slice-aggregate-line-of Inv-loop μ-loop
-slice-aggregate-line-of c = search needs
+    (replicate valueLimit 0, walk-start (now (S .args .list)) (S .args .start) (S .args .p) _ _ _ _ (S .pre .1) (S .pre .2) (S .pre .3) (S .pre .5) refl refl refl)
 
 line-of-requires : tie.Need-line-of-requires Inv-loop μ-loop
 line-of-requires c κs =
     let at-test = c .before in
-    (at-test .before .before .before .pre .0, at-test .loop-test .taken, at-test .before .loop .inv .numbers-long)
+    (at-test .before .before .before .pre .0, at-test .loop-test .taken, at-test .before .loop .inv .1 .numbers-long)
 
 enum-known-word : tie.Need-enum-known-word Inv-loop μ-loop
 enum-known-word c = search needs
@@ -44,15 +43,19 @@ enum-known-word c = search needs
 enum-told : tie.Need-enum-told Inv-loop μ-loop
 enum-told c = search needs
 
+same-length : tie.Need-same-length Inv-loop μ-loop
+same-length c = c .before .before .before .line-of .ensures .0 .left .kept ∙ c .before .before .before .before .before .before .loop .inv .1 .numbers-long ∙ sym (c .before .before .before .before .before .before .before .before .pre .5)
+
 returns : tie.Need-returns Inv-loop μ-loop
 unfolding surveySeen PrimeFound stepSeen
 returns c =
     let at-line = c .before .before .before in
     let at-test = at-line .before .before in
     let now-at = at-test .before .loop in
+    let places = now-at .inv .0 in
     let S = at-test .before .before .before in
-    let s = stateOf (S .args .p) (now-at .counts) (now-at .lows) (now-at .highs) (now-at .places) in (
-      walk-stopped (now-at .inv) (S .pre .0) (at-test .loop-test .taken) (Refused 3) 3 (now-at .lows) (now-at .highs) (now-at .places) refl
+    let s = stateOf (S .args .p) (now-at .counts) (now-at .lows) (now-at .highs) places in (
+      walk-stopped (now-at .inv .1) (S .pre .0) (at-test .loop-test .taken) (Refused 3) 3 (now-at .lows) (now-at .highs) places refl
           (no-line-step s (lineAt (now (S .args .list)) (now-at .at)) (no-line-seen (at-line .line-of .ensures .0) (c .enum-told .given .1))),
       tt,
     )
@@ -63,18 +66,12 @@ slice-aggregate-step c = search needs
 slice-aggregate-step-2 : tie.Need-slice-aggregate-step-2 Inv-loop μ-loop
 slice-aggregate-step-2 c = search needs
 
-slice-aggregate-step-3 : tie.Need-slice-aggregate-step-3 Inv-loop μ-loop
-slice-aggregate-step-3 c = search needs
-
-slice-aggregate-step-4 : tie.Need-slice-aggregate-step-4 Inv-loop μ-loop
-slice-aggregate-step-4 c = search needs
-
 step-requires : tie.Need-step-requires Inv-loop μ-loop
 step-requires c κs =
-    let at-word = c .before .before .before .before .before in
+    let at-word = c .before .before .before .before in
     let at-line = at-word .before .before .before in
     let at-loop = at-line .before .before .before in
-    let w = at-loop .loop .inv in
+    let w = at-loop .loop .inv .1 in
     let S = at-loop .before .before in
     let read = at-line .line-of .ensures .0 in
     let q = at-word .word .given .1 in (
@@ -89,18 +86,22 @@ step-requires c κs =
 enum-known-stepped : tie.Need-enum-known-stepped Inv-loop μ-loop
 enum-known-stepped c = search needs
 
+same-length-2 : tie.Need-same-length-2 Inv-loop μ-loop
+same-length-2 c = c .before .before .before .before .before .before .before .before .before .before .before .before .before .line-of .ensures .0 .left .kept ∙ c .before .before .before .before .before .before .before .before .before .before .before .before .before .before .before .before .loop .inv .1 .numbers-long ∙ sym (c .before .before .before .before .before .before .before .before .before .before .before .before .before .before .before .before .before .before .pre .5)
+
 returns-2 : tie.Need-returns-2 Inv-loop μ-loop
 unfolding surveySeen PrimeFound
 returns-2 c =
-    let at-step = c .before .before .before .before .before .before in
-    let at-word = at-step .before .before .before .before .before .before in
+    let at-step = c .before .before .before .before .before in
+    let at-word = at-step .before .before .before .before .before in
     let at-line = at-word .before .before .before in
     let at-test = at-line .before .before in
     let now-at = at-test .before .loop in
+    let places = now-at .inv .0 in
     let S = at-test .before .before .before in
     let line = line-seen (at-line .line-of .ensures .0) (at-word .word .given .1) in (
-      walk-stopped (now-at .inv) (S .pre .0) (at-test .loop-test .taken) _ (c .before .stepped .given .0 .0) _ _ _ (c .before .stepped .given .1)
-          (line-step _ (lineAt (now (S .args .list)) (now-at .at)) line (at-step .step .ensures .0 _ refl)),
+      walk-stopped (now-at .inv .1) (S .pre .0) (at-test .loop-test .taken) _ (c .before .stepped .given .0 .0) _ _ (placedAt (now-at .counts) places) (c .before .stepped .given .1)
+          (line-step _ (lineAt (now (S .args .list)) (now-at .at)) line (at-step .step .ensures .0 _ places (now-at .inv .1 .places-long) refl)),
       tt,
     )
 
@@ -108,11 +109,11 @@ enum-known-stepped-2 : tie.Need-enum-known-stepped-2 Inv-loop μ-loop
 enum-known-stepped-2 c = search needs
 
 -- where the next line starts
-next-at : (c : tie.After-known-told3 Inv-loop μ-loop) → let at-word = c .before .before .before .before .before .before .before .before .before .before .before .before in
+next-at : (c : tie.After-known-told3 Inv-loop μ-loop) → let at-word = c .before .before .before .before .before .before .before .before .before .before in
     let at-loop = at-word .before .before .before .before .before .before in
     at-word .word .given .0 .1 .1 .0 ≡ endOf (now (at-loop .before .before .args .list)) (at-loop .loop .at) + 1
 next-at c =
-    let at-word = c .before .before .before .before .before .before .before .before .before .before .before .before in
+    let at-word = c .before .before .before .before .before .before .before .before .before .before in
     let at-loop = at-word .before .before .before .before .before .before in
     line-next (now (at-loop .before .before .args .list)) (at-loop .loop .at) (at-word .before .before .before .line-of .ensures .1) (at-word .word .given .1)
 
@@ -120,27 +121,33 @@ add-n : tie.Need-add-n Inv-loop μ-loop
 add-n c = search needs
 
 loop-less : tie.Need-loop-less Inv-loop μ-loop
-loop-less c = omega (arith, next-at c, c .before .before .before .before .before .before .before .before .before .before .before .before .before .before .before .before .before .loop-test .taken)
+loop-less c = omega (arith, next-at c, c .before .before .before .before .before .before .before .before .before .before .before .before .before .before .before .loop-test .taken)
 
 loop-again : tie.Need-loop-again Inv-loop μ-loop
 loop-again c =
-    let at-step = c .before .before .before .before .before .before in
-    let at-word = at-step .before .before .before .before .before .before in
+    let at-step = c .before .before .before .before .before in
+    let at-word = at-step .before .before .before .before .before in
     let at-line = at-word .before .before .before in
     let at-test = at-line .before .before in
     let now-at = at-test .before .loop in
+    let places = now-at .inv .0 in
     let S = at-test .before .before .before in
     let read = at-line .line-of .ensures .0 in
     let line = line-seen read (at-word .word .given .1) in
     let stepped = at-step .step .ensures in
-    rw (next-at c)
-    (walk-next (now-at .inv) (S .pre .0) (at-test .loop-test .taken) _ (c .before .stepped2 .given .0 .0) _ _ _ _ (c .before .stepped2 .given .1)
-    (line-step _ (lineAt (now (S .args .list)) (now-at .at)) line (stepped .0 _ refl)) (stepped .1 .0) (read .left .kept ∙ now-at .inv .numbers-long) (stepped .1 .1 .long)
-    (stepped .1 .2 .long) (stepped .1 .3 .long))
+    rw (next-at c) (
+      placedAt (now-at .counts) places,
+      walk-next (now-at .inv .1) (S .pre .0) (at-test .loop-test .taken) _ (c .before .stepped2 .given .0 .0) _ _ _ (placedAt (now-at .counts) places) (c .before .stepped2 .given .1)
+          (line-step _ (lineAt (now (S .args .list)) (now-at .at)) line (stepped .0 _ places (now-at .inv .1 .places-long) refl)) (stepped .1 .0) (read .left .kept ∙ now-at .inv .1 .numbers-long) (stepped .1 .1 .long)
+          (stepped .1 .2 .long) (placed-long (now-at .counts) places),
+    )
+
+same-length-3 : tie.Need-same-length-3 Inv-loop μ-loop
+same-length-3 c = c .before .loop .inv .1 .numbers-long ∙ sym (c .before .before .before .pre .5)
 
 returns-3 : tie.Need-returns-3 Inv-loop μ-loop
 unfolding surveySeen PrimeFound
-returns-3 c = (walk-end (c .before .loop .inv) (c .loop-test .left), (c .before .before .before .pre .3, c .before .before .before .pre .4))
+returns-3 c = (walk-end (c .before .loop .inv .1) (c .loop-test .left), (c .before .before .before .pre .3, c .before .before .before .pre .4))
 
 pub survey-from-spec : {M : Type 1} → statement M
 survey-from-spec =
@@ -149,20 +156,20 @@ survey-from-spec =
     Inv-loop
     μ-loop
     loop-holds
-    slice-aggregate-line-of
     line-of-requires
     enum-known-word
     enum-told
+    same-length
     returns
     slice-aggregate-step
     slice-aggregate-step-2
-    slice-aggregate-step-3
-    slice-aggregate-step-4
     step-requires
     enum-known-stepped
+    same-length-2
     returns-2
     enum-known-stepped-2
     add-n
     loop-less
     loop-again
+    same-length-3
     returns-3)

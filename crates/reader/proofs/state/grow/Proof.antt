@@ -1,4 +1,4 @@
--- `reader::state::grow`: a refusal is handed on, and else the line's ends and its first cell come behind those before it.
+-- `reader::state::grow`: a refusal is handed on, and else the line's ends come behind those before it.
 use native.Mathlib.Omega.{arith}
 use denote.Ref.{now}
 use mir.Syntax.{w64}
@@ -37,32 +37,26 @@ mul-high c = search needs
 slice-set-from-high : tie.Need-slice-set-from-high
 slice-set-from-high c = let S = c .before .before .before in omega (arith, S .pre .2 _ _ (c .before .made2 .given .1), S .pre .0 .highs-long)
 
-mul-places : tie.Need-mul-places
-mul-places c = search needs
+add-t11 : tie.Need-add-t11
+add-t11 c = search needs
 
-slice-write-places : tie.Need-slice-write-places
-slice-write-places c = let S = c .before .before .before in omega (arith, S .pre .2 _ _ (c .before .made2 .given .1), S .pre .0 .places-long)
+add-t14 : tie.Need-add-t14
+add-t14 c = search needs
 
-add-t12 : tie.Need-add-t12
-add-t12 c = search needs
+add-t15 : tie.Need-add-t15
+add-t15 c = search needs
 
 add-t16 : tie.Need-add-t16
 add-t16 c = search needs
-
-add-t17 : tie.Need-add-t17
-add-t17 c = search needs
-
-add-t18 : tie.Need-add-t18
-add-t18 c = search needs
 
 returns : tie.Need-returns
 unfolding valuesIn answered entered counted
 returns c =
     let S = c .before .before .before in
     let a = S .args in (
-      λ p s l is g e. grown-refused p s l (a .counts) (now (a .lows)) (now (a .highs)) (now (a .places)) is (S .pre .0) (a .made) e (c .before .made .given .0 .0) _ _ _
+      λ p s l places long is g e. grown-refused p s l (a .counts) (now (a .lows)) (now (a .highs)) places is (S .pre .0) (a .made) e (c .before .made .given .0 .0) _ _ _
           (c .before .made .given .1),
-      (omega arith, rw (c .before .made .given .1), rw (c .before .made .given .1), rw (c .before .made .given .1), rw (c .before .made .given .1)),
+      (omega arith, rw (c .before .made .given .1), rw (c .before .made .given .1), rw (c .before .made .given .1)),
     )
 
 same-length : tie.Need-same-length
@@ -70,9 +64,6 @@ same-length c = search needs
 
 same-length-2 : tie.Need-same-length-2
 same-length-2 c = search needs
-
-same-length-3 : tie.Need-same-length-3
-same-length-3 c = search needs
 
 returns-2 : tie.Need-returns-2
 unfolding valuesIn answered entered counted
@@ -82,14 +73,13 @@ returns-2 c =
     let low = c .before .before .before .before .before .before .before .before .made2 .given .0 .0 in
     let high = c .before .before .before .before .before .before .before .before .made2 .given .0 .1 .0 in
     let made-is = c .before .before .before .before .before .before .before .before .made2 .given .1 in (
-      λ p s l is g e. rw (toZ-ofZ w64 low (low-fits (c .before .before .before .before .before .before .before)), toZ-ofZ w64 high (high-fits (c .before .before .before .before .before .before .before)))
-          (grown p s l (a .counts) (now (a .lows)) (now (a .highs)) (now (a .places)) is (S .pre .0) (a .made) e low high made-is (a .size) g),
+      λ p s l places long is g e. rw (toZ-ofZ w64 low (low-fits (c .before .before .before .before .before .before .before)), toZ-ofZ w64 high (high-fits (c .before .before .before .before .before .before .before)))
+          (grown p s l (a .counts) (now (a .lows)) (now (a .highs)) places is (S .pre .0) (a .made) e low high made-is long (a .size) g),
       (
         omega (arith, S .pre .2 low high made-is, S .pre .1 .0),
         rw made-is,
         rw (toZ-ofZ w64 low (low-fits (c .before .before .before .before .before .before .before)), made-is),
         rw (toZ-ofZ w64 high (high-fits (c .before .before .before .before .before .before .before)), made-is),
-        rw made-is,
       ),
     )
 
@@ -103,14 +93,11 @@ grow-spec =
     slice-set-from-low
     mul-high
     slice-set-from-high
-    mul-places
-    slice-write-places
-    add-t12
+    add-t11
+    add-t14
+    add-t15
     add-t16
-    add-t17
-    add-t18
     returns
     same-length
     same-length-2
-    same-length-3
     returns-2)

@@ -37,18 +37,18 @@ mul-high c = let S = c .before .before .before in record { fits = omega (arith, 
 slice-set-from-high : tie.Need-slice-set-from-high
 slice-set-from-high c = let S = c .before .before .before in omega (arith, S .pre .2 _ _ (c .before .made2 .given .1), S .pre .0 .highs-long)
 
-add-t12 : tie.Need-add-t12
-add-t12 c = search needs
+add-t11 : tie.Need-add-t11
+add-t11 c = search needs
 
-add-t15 : tie.Need-add-t15
-add-t15 c = search needs
+add-t14 : tie.Need-add-t14
+add-t14 c = search needs
 
 returns : tie.Need-returns
 unfolding valuesIn answered entered counted
 returns c =
     let S = c .before .before .before in
     let a = S .args in (
-      λ p s ns is g e. narrowed-refused p s ns (a .counts) (now (a .lows)) (now (a .highs)) (now (a .places)) is (S .pre .0) (a .made) e
+      λ p s ns places is g e. narrowed-refused p s ns (a .counts) (now (a .lows)) (now (a .highs)) places is (S .pre .0) (a .made) e
           (c .before .made .given .0 .0) _ _ (c .before .made .given .1),
       (omega arith, rw (c .before .made .given .1), rw (c .before .made .given .1), rw (c .before .made .given .1)),
     )
@@ -67,8 +67,8 @@ returns-2 c =
     let low = c .before .before .before .before .before .made2 .given .0 .0 in
     let high = c .before .before .before .before .before .made2 .given .0 .1 .0 in
     let made-is = c .before .before .before .before .before .made2 .given .1 in (
-      λ p s ns is g e. rw (toZ-ofZ w64 low (low-fits (c .before .before .before .before)), toZ-ofZ w64 high (high-fits (c .before .before .before .before)))
-          (narrowed p s ns (a .counts) (now (a .lows)) (now (a .highs)) (now (a .places)) is (S .pre .0) (a .made) e low high made-is (a .at) (λ k. g k .0)
+      λ p s ns places is g e. rw (toZ-ofZ w64 low (low-fits (c .before .before .before .before)), toZ-ofZ w64 high (high-fits (c .before .before .before .before)))
+          (narrowed p s ns (a .counts) (now (a .lows)) (now (a .highs)) places is (S .pre .0) (a .made) e low high made-is (a .at) (λ k. g k .0)
           (a .size) (λ k. g k .1)),
       (
         S .pre .0 .values-most,
@@ -88,8 +88,8 @@ narrow-spec =
     slice-set-from-low
     mul-high
     slice-set-from-high
-    add-t12
-    add-t15
+    add-t11
+    add-t14
     returns
     same-length
     same-length-2

@@ -1,6 +1,7 @@
 -- `reader::step::step`: what reading tells of the line, taken in by `grow`, or by `narrow` where it is a span line.
 use mathlib.Core.Path.{_≡_, refl, _∙_}
-use Prim.Native.Nat.{_+_, _<_}
+use mathlib.Core.List.{List, []}
+use Prim.Native.Nat.{ℕ, _+_, _<_}
 use native.Mathlib.Omega.{arith}
 use denote.Ref.{now}
 use lib.ListN.{take, getD}
@@ -36,13 +37,13 @@ enum-told c = search needs
 
 grow-requires : tie.Need-grow-requires
 grow-requires c κs =
-    let S = c .before .before .before .before .before .before .before .before .before in
+    let S = c .before .before .before .before .before .before .before in
     let a = S .args in
-    let s = stateOf (a .p) (a .counts) (now (a .lows)) (now (a .highs)) (now (a .places)) in
+    let s = stateOf (a .p) (a .counts) (now (a .lows)) (now (a .highs)) [] in
     let ns = take (a .count) (now (a .numbers)) in
-    let told = c .before .before .before .before .before .read-ends .ensures s (seen-state (a .p) (a .counts) (now (a .lows)) (now (a .highs)) (now (a .places)) refl)
-    ∙ told-by-word s (wordOf (a .word)) ns (not-span (a .word) (c .before .before .before .match .keys2)) in
-    (S .pre .1, c .before .before .before .before .line-size .ensures .1, room (a .p) s (lineWith (wordOf (a .word)) ns) (a .counts) (now (a .lows)) (now (a .highs)) (now (a .places)) refl (S .pre .1) _ told)
+    let told = c .before .before .before .before .read-ends .ensures s (seen-state (a .p) (a .counts) (now (a .lows)) (now (a .highs)) [] refl)
+    ∙ told-by-word s (wordOf (a .word)) ns (not-span (a .word) (c .before .before .match .keys2)) in
+    (S .pre .1, c .before .before .before .line-size .ensures .1, room (a .p) s (lineWith (wordOf (a .word)) ns) (a .counts) (now (a .lows)) (now (a .highs)) [] refl (S .pre .1) _ told)
 
 same-length : tie.Need-same-length
 same-length c = search needs
@@ -50,33 +51,29 @@ same-length c = search needs
 same-length-2 : tie.Need-same-length-2
 same-length-2 c = search needs
 
-same-length-3 : tie.Need-same-length-3
-same-length-3 c = search needs
-
 returns : tie.Need-returns
 unfolding counted
 returns c =
-    let S = c .before .before .before .before .before .before .before .before .before .before .before .before .before .before in
+    let S = c .before .before .before .before .before .before .before .before .before .before in
     let a = S .args in
     let w = wordOf (a .word) in
     let ns = take (a .count) (now (a .numbers)) in
-    let other = not-span (a .word) (c .before .before .before .before .before .before .before .before .match .keys2) in
-    let made = c .before .before .before .before .before .before .before .before .before .before .read-ends .result in
-    let size = c .before .before .before .before .before .before .before .before .before .line-size .result in
+    let other = not-span (a .word) (c .before .before .before .before .before .match .keys2) in
+    let made = c .before .before .before .before .before .before .before .read-ends .result in
+    let size = c .before .before .before .before .before .before .line-size .result in
     let grows : (s : Known) → Keeps 1 s (lineWith w ns) → Grows s (lineWith w ns) size =
-    λ s kept. grows-by-word s size w ns other kept (c .before .before .before .before .before .before .before .before .before .line-size .ensures .0 1 (a .count) s (S .pre .3) kept) in
-    let told : (s : Known) → s ≡ stateOf (a .p) (a .counts) (now (a .lows)) (now (a .highs)) (now (a .places)) → madeSeen made ≡ toldOf s (lineWith w ns) =
-    λ s is. c .before .before .before .before .before .before .before .before .before .before .read-ends .ensures s (seen-state (a .p) (a .counts) (now (a .lows)) (now (a .highs)) (now (a .places)) is) ∙ told-by-word s w ns other in
-    let s = stateOf (a .p) (a .counts) (now (a .lows)) (now (a .highs)) (now (a .places)) in
+    λ s kept. grows-by-word s size w ns other kept (c .before .before .before .before .before .before .line-size .ensures .0 1 (a .count) s (S .pre .3) kept) in
+    let told : (s : Known) (places : List ℕ) → s ≡ stateOf (a .p) (a .counts) (now (a .lows)) (now (a .highs)) places → madeSeen made ≡ toldOf s (lineWith w ns) =
+    λ s places is. c .before .before .before .before .before .before .before .read-ends .ensures s (seen-state (a .p) (a .counts) (now (a .lows)) (now (a .highs)) places is) ∙ told-by-word s w ns other in
+    let s = stateOf (a .p) (a .counts) (now (a .lows)) (now (a .highs)) [] in
     let counted-in : (low high : ℤ) → made ≡ EndsOf low high → a .counts .values < a .counts .values + size .values =
-    λ low high q. entry-counted (a .p) s (lineWith w ns) (a .counts) (now (a .lows)) (now (a .highs)) (now (a .places)) refl (S .pre .1) made (told s refl) low high q size (grows s) in
-    let grown = c .before .before .before .before .grow .ensures in (
-      λ s is. grown .0 (a .p) s (lineWith w ns) is (grows s) (told s is),
+    λ low high q. entry-counted (a .p) s (lineWith w ns) (a .counts) (now (a .lows)) (now (a .highs)) [] refl (S .pre .1) made (told s [] refl) low high q size (grows s) in
+    let grown = c .before .before .grow .ensures in (
+      λ s places long is. grown .0 (a .p) s (lineWith w ns) places long is (grows s) (told s places is),
       (
         grown .1 .0,
         left-by-entry made (a .counts .values) _ _ _ counted-in (grown .1 .1) (grown .1 .2),
         left-by-entry made (a .counts .values) _ _ _ counted-in (grown .1 .1) (grown .1 .3),
-        left-by-entry made (a .counts .values) _ _ _ counted-in (grown .1 .1) (grown .1 .4),
       ),
     )
 
@@ -89,56 +86,52 @@ natural-requires c κs = search needs
 narrow-requires : tie.Need-narrow-requires
 unfolding isCount wordOf toldBy lineTold
 narrow-requires c κs =
-    let S = c .before .before .before .before .before .before .before .before .before .before .before .before in
+    let S = c .before .before .before .before .before .before .before .before .before .before in
     let a = S .args in
-    let s = stateOf (a .p) (a .counts) (now (a .lows)) (now (a .highs)) (now (a .places)) in
+    let s = stateOf (a .p) (a .counts) (now (a .lows)) (now (a .highs)) [] in
     let ns = take (a .count) (now (a .numbers)) in
-    let word-is = c .before .before .before .before .before .enum-told .given .1 in
+    let word-is = c .before .before .before .before .enum-told .given .1 in
     let four = count-is 4 (a .count) word-is refl (S .pre .3) in
     let at-fits : SFits w64 (getD (now (a .numbers)) 0 (pos 0)) = search needs in
-    let told = rw (span-word word-is) at (c .before .before .before .before .before .before .before .before .read-ends .ensures s (seen-state (a .p) (a .counts) (now (a .lows)) (now (a .highs)) (now (a .places)) refl)) in (
+    let told = rw (span-word word-is) at (c .before .before .before .before .before .before .before .read-ends .ensures s (seen-state (a .p) (a .counts) (now (a .lows)) (now (a .highs)) [] refl)) in (
       S .pre .1,
-      c .before .before .before .before .before .before .before .line-size .ensures .1,
-      λ low high q. named-within (a .p) s ns (a .counts) (now (a .lows)) (now (a .highs)) (now (a .places)) refl (S .pre .1) _ told low high q (c .before .before .before .natural .result)
-          (name-counted s (now (a .numbers)) (a .count) _ (omega (arith, four)) (rw (back at-fits) at (c .before .before .before .natural .ensures))),
+      c .before .before .before .before .before .before .line-size .ensures .1,
+      λ low high q. named-within (a .p) s ns (a .counts) (now (a .lows)) (now (a .highs)) [] refl (S .pre .1) _ told low high q (c .before .before .natural .result)
+          (name-counted s (now (a .numbers)) (a .count) _ (omega (arith, four)) (rw (back at-fits) at (c .before .before .natural .ensures))),
     )
+
+same-length-3 : tie.Need-same-length-3
+same-length-3 c = search needs
 
 same-length-4 : tie.Need-same-length-4
 same-length-4 c = search needs
 
-same-length-5 : tie.Need-same-length-5
-same-length-5 c = search needs
-
-same-length-6 : tie.Need-same-length-6
-same-length-6 c = search needs
-
 returns-2 : tie.Need-returns-2
 unfolding counted isCount wordOf toldBy lineTold
 returns-2 c =
-    let S = c .before .before .before .before .before .before .before .before .before .before .before .before .before .before .before in
+    let S = c .before .before .before .before .before .before .before .before .before .before .before .before .before in
     let a = S .args in
     let ns = take (a .count) (now (a .numbers)) in
-    let word-is = c .before .before .before .before .before .before .before .before .enum-told .given .1 in
+    let word-is = c .before .before .before .before .before .before .before .enum-told .given .1 in
     let four = count-is 4 (a .count) word-is refl (S .pre .3) in
     let at-fits : SFits w64 (getD (now (a .numbers)) 0 (pos 0)) = search needs in
-    let made = c .before .before .before .before .before .before .before .before .before .before .before .read-ends .result in
-    let at = c .before .before .before .before .before .before .natural .result in
+    let made = c .before .before .before .before .before .before .before .before .before .before .read-ends .result in
+    let at = c .before .before .before .before .before .natural .result in
     let at-is : (s : Known) → Keeps 1 s (lineWith span ns) → sizeAt ns 0 ≡ at =
-    λ s kept. name-counted s (now (a .numbers)) (a .count) _ (omega (arith, four)) (rw (back at-fits) at (c .before .before .before .before .before .before .natural .ensures)) kept in
-    let told : (s : Known) → s ≡ stateOf (a .p) (a .counts) (now (a .lows)) (now (a .highs)) (now (a .places)) → madeSeen made ≡ spanTold s (lineWith span ns) =
-    λ s is. rw (span-word word-is) at (c .before .before .before .before .before .before .before .before .before .before .before .read-ends .ensures s (seen-state (a .p) (a .counts) (now (a .lows)) (now (a .highs)) (now (a .places)) is)) in
-    let s = stateOf (a .p) (a .counts) (now (a .lows)) (now (a .highs)) (now (a .places)) in
+    λ s kept. name-counted s (now (a .numbers)) (a .count) _ (omega (arith, four)) (rw (back at-fits) at (c .before .before .before .before .before .natural .ensures)) kept in
+    let told : (s : Known) (places : List ℕ) → s ≡ stateOf (a .p) (a .counts) (now (a .lows)) (now (a .highs)) places → madeSeen made ≡ spanTold s (lineWith span ns) =
+    λ s places is. rw (span-word word-is) at (c .before .before .before .before .before .before .before .before .before .before .read-ends .ensures s (seen-state (a .p) (a .counts) (now (a .lows)) (now (a .highs)) places is)) in
+    let s = stateOf (a .p) (a .counts) (now (a .lows)) (now (a .highs)) [] in
     let counted-in : (low high : ℤ) → made ≡ EndsOf low high → at < a .counts .values =
-    λ low high q. named (a .p) s ns (a .counts) (now (a .lows)) (now (a .highs)) (now (a .places)) refl (S .pre .1) made (told s refl) low high q at (at-is s) in
+    λ low high q. named (a .p) s ns (a .counts) (now (a .lows)) (now (a .highs)) [] refl (S .pre .1) made (told s [] refl) low high q at (at-is s) in
     let narrowed = c .before .before .narrow .ensures in (
-      λ s is. rw (span-word word-is) (narrowed .0 (a .p) s ns is
-          (λ kept. (at-is s kept, (rw (span-word word-is) at (c .before .before .before .before .before .before .before .before .before .before .line-size .ensures .0 1 (a .count) s (S .pre .3))) kept))
-          (told s is)),
+      λ s places long is. rw (span-word word-is) (narrowed .0 (a .p) s ns places is
+          (λ kept. (at-is s kept, (rw (span-word word-is) at (c .before .before .before .before .before .before .before .before .before .line-size .ensures .0 1 (a .count) s (S .pre .3))) kept))
+          (told s places is)),
       (
         narrowed .1 .0,
         left-by-entry made at _ _ _ counted-in (narrowed .1 .1) (narrowed .1 .2),
         left-by-entry made at _ _ _ counted-in (narrowed .1 .1) (narrowed .1 .3),
-        record { long = refl; same = refl },
       ),
     )
 
@@ -152,12 +145,10 @@ step-spec =
     grow-requires
     same-length
     same-length-2
-    same-length-3
     returns
     shared-slice-copy-out-natural
     natural-requires
     narrow-requires
+    same-length-3
     same-length-4
-    same-length-5
-    same-length-6
     returns-2)
