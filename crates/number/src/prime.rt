@@ -80,11 +80,13 @@ pub fn is_odd_prime(n: u32) -> bool
         998244353 | 2013265921 | 2130706433 | 2147483647 | 4294967291 => return true,
         _ => {}
     }
-    let primes = PRIMES;
-    // Below 256 the table holds every prime, and no division is needed.
+    // Below 256 the table holds every prime, and no division is needed. Each search names the table for itself: the compiler makes a jump of
+    // this one, and a table that both shared would be copied for it all the same.
     if n < 256 {
+        let primes = PRIMES;
         return is_listed(n, &primes);
     }
+    let primes = PRIMES;
     // A prime of the table that divides n is not n itself.
     if first_divisor(n, 0, &primes) < 54 {
         return false;

@@ -89,7 +89,7 @@ fn check_rows(list: &[u8], table: &[u32], p: u32) -> Reply
     ensures { λ r. ⌜ ((l : ListRead (now (list .entry))) → replySeen r ≡ rowsReply (l .last) (l .lines) (now (table .entry))) ⌝ }
 {
     let mut numbers: [i64; 33] = [0; 33];
-    let mut places: [usize; 256] = [0; 256];
+    let mut places: [u16; 256] = [0; 256];
     let mut counts = Counts {
         values: 0,
         inputs: 0,

@@ -67,12 +67,12 @@ fn counts_after(counts: Counts, word: Word, numbers: &[i64]) -> Counts
 }
 
 // Takes in the cell of the value that a line makes, where it makes one: it is the first cell of the line.
-pub fn take_place(places: &mut [usize], counts: Counts, next: Counts)
-    requires { ⌜ (length (now places) ≡ valueLimit) × (counts .values ≤ valueLimit) × (next .values ≤ valueLimit) ⌝ }
+pub fn take_place(places: &mut [u16], counts: Counts, next: Counts)
+    requires { ⌜ (length (now places) ≡ valueLimit) × Few counts × (next .values ≤ valueLimit) ⌝ }
     ensures { λ _. ⌜ now (places .exit) ≡ withPlace (now (places .entry)) counts next ⌝ }
 {
     let at = counts.values;
     if at < next.values {
-        places[at] = counts.cells;
+        places[at] = counts.cells as u16;
     }
 }

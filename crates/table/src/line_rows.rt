@@ -19,7 +19,7 @@ pub fn line_rows(
     table: &[u32],
     p: u32,
     at: Cell,
-    places: &[usize],
+    places: &[u16],
 ) -> Rows
     requires { ⌜ RowsAsked p (wordOf word) (now numbers) count (now table) (at .0) (now places) ⌝ }
     ensures { λ r. ⌜ RowsTold p (wordOf word) (now (numbers .entry)) count (now (table .entry)) (at .0) (now (places .entry)) r ⌝ }

@@ -110,7 +110,7 @@ fn max_rows(table: &[u32], p: u32, place_u: Cell, place_v: Cell, at: Cell, b: u3
     row_before(either.0 == 0, 0, rows_before(group_u, group_v))
 }
 
-pub fn max_line_rows(numbers: &[i64], table: &[u32], p: u32, at: Cell, places: &[usize]) -> Rows
+pub fn max_line_rows(numbers: &[i64], table: &[u32], p: u32, at: Cell, places: &[u16]) -> Rows
     requires { ⌜ RowsAsked p max (now numbers) 4 (now table) (at .0) (now places) ⌝ }
     ensures { λ r. ⌜ RowsTold p max (now (numbers .entry)) 4 (now (table .entry)) (at .0) (now (places .entry)) r ⌝ }
 {

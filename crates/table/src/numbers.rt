@@ -26,11 +26,18 @@ pub fn base_at(numbers: &[i64], at: usize) -> u32
     number as u32
 }
 
+// A place as it is kept, in 16 bits, which hold the number of every cell.
+fn cell_of(place: u16) -> Cell
+    ensures { λ r. ⌜ r .0 ≡ place ⌝ }
+{
+    Cell(place as usize)
+}
+
 // The cell of the value that the number at a place names.
-pub fn place_at(numbers: &[i64], at: usize, places: &[usize]) -> Cell
+pub fn place_at(numbers: &[i64], at: usize, places: &[u16]) -> Cell
     requires { ⌜ (at < length (now numbers)) × (pos 0 ≤ℤ getD (now numbers) at (pos 0)) × (natAbs (getD (now numbers) at (pos 0)) < length (now places)) ⌝ }
     ensures { λ r. ⌜ r .0 ≡ getD (now (places .entry)) (natAbs (getD (now (numbers .entry)) at (pos 0))) 0 ⌝ }
 {
     let value = size_at(numbers, at);
-    Cell(places[value])
+    cell_of(places[value])
 }

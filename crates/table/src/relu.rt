@@ -106,7 +106,7 @@ fn relu_rows(table: &[u32], p: u32, place: Cell, at: Cell, b: u32, k: usize) -> 
     sign_rows(table, p, number, kept.0 == made.0, Cell(at.0 + 1), b, k)
 }
 
-pub fn relu_line_rows(numbers: &[i64], table: &[u32], p: u32, at: Cell, places: &[usize]) -> Rows
+pub fn relu_line_rows(numbers: &[i64], table: &[u32], p: u32, at: Cell, places: &[u16]) -> Rows
     requires { ⌜ RowsAsked p relu (now numbers) 3 (now table) (at .0) (now places) ⌝ }
     ensures { λ r. ⌜ RowsTold p relu (now (numbers .entry)) 3 (now (table .entry)) (at .0) (now (places .entry)) r ⌝ }
 {

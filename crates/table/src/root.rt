@@ -160,7 +160,7 @@ fn four_groups(
     rows_before(first, rows_before(second, last_two))
 }
 
-pub fn root_line_rows(numbers: &[i64], table: &[u32], p: u32, at: Cell, places: &[usize]) -> Rows
+pub fn root_line_rows(numbers: &[i64], table: &[u32], p: u32, at: Cell, places: &[u16]) -> Rows
     requires { ⌜ RowsAsked p root (now numbers) 3 (now table) (at .0) (now places) ⌝ }
     ensures { λ r. ⌜ RowsTold p root (now (numbers .entry)) 3 (now (table .entry)) (at .0) (now (places .entry)) r ⌝ }
 {

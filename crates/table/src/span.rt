@@ -86,7 +86,7 @@ fn span_rows(table: &[u32], p: u32, place: Cell, at: Cell, b: u32, k: usize, shi
     group_rows(table, number, 0, at, b, k)
 }
 
-pub fn span_line_rows(numbers: &[i64], table: &[u32], p: u32, at: Cell, places: &[usize]) -> Rows
+pub fn span_line_rows(numbers: &[i64], table: &[u32], p: u32, at: Cell, places: &[u16]) -> Rows
     requires { ⌜ RowsAsked p span (now numbers) 4 (now table) (at .0) (now places) ⌝ }
     ensures { λ r. ⌜ RowsTold p span (now (numbers .entry)) 4 (now (table .entry)) (at .0) (now (places .entry)) r ⌝ }
 {

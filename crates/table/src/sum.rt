@@ -67,14 +67,7 @@ pub fn sum_line_cells(p: u32, values: &[i64], known: usize, part: &mut [u32])
 // ---- rows
 
 // The first count numbers are the line's, and places has the cell of each value that they can name.
-fn sum_rows(
-    table: &[u32],
-    p: u32,
-    at: Cell,
-    numbers: &[i64],
-    count: usize,
-    places: &[usize],
-) -> Rows
+fn sum_rows(table: &[u32], p: u32, at: Cell, numbers: &[i64], count: usize, places: &[u16]) -> Rows
     requires { ⌜ (0 < p) × Below p (now table) × (at .0 < length (now table)) × (count % 2 ≡ 1) × (count ≤ length (now numbers))
         × PlacesInside (now numbers) count (now places) (length (now table)) ⌝ }
     ensures { λ r. ⌜ ((s : Known) (n : ℕ) → s .p ≡ p → s .cells ≡ at .0 → s .places ≡ take n (now (places .entry))
@@ -100,7 +93,7 @@ pub fn sum_line_rows(
     table: &[u32],
     p: u32,
     at: Cell,
-    places: &[usize],
+    places: &[u16],
 ) -> Rows
     requires { ⌜ RowsAsked p sum (now numbers) count (now table) (at .0) (now places) ⌝ }
     ensures { λ r. ⌜ RowsTold p sum (now (numbers .entry)) count (now (table .entry)) (at .0) (now (places .entry)) r ⌝ }

@@ -115,7 +115,7 @@ fn which_rows(
     sign_rows(table, p, number, made.0 == other.0, Cell(at.0 + 1), b, k)
 }
 
-pub fn which_line_rows(numbers: &[i64], table: &[u32], p: u32, at: Cell, places: &[usize]) -> Rows
+pub fn which_line_rows(numbers: &[i64], table: &[u32], p: u32, at: Cell, places: &[u16]) -> Rows
     requires { ⌜ RowsAsked p which (now numbers) 4 (now table) (at .0) (now places) ⌝ }
     ensures { λ r. ⌜ RowsTold p which (now (numbers .entry)) 4 (now (table .entry)) (at .0) (now (places .entry)) r ⌝ }
 {

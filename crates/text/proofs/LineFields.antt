@@ -4,8 +4,10 @@ use mathlib.Core.Path.{_≡_, refl, sym, ap, _∙_}
 use mathlib.Core.Bool.{Bool, true, false}
 use mathlib.Core.List.{List, [], _∷_}
 use mathlib.Core.Option.{none, some}
-use Prim.Native.Nat.{ℕ, _+_, _≤_, _<_}
+use Prim.Native.Nat.{ℕ, _+_, _-_, _≤_, _<_}
 use native.Mathlib.Omega.{arith}
+use native.Mathlib.Decide.{ℕ-discrete}
+use borrow.Author.Tests.{ne-eqb}
 use lib.IntN.{ℤ, pos}
 use lib.ListN.{length, getD, take, drop}
 use lib.Seq.{length-take-le}
@@ -27,7 +29,7 @@ use Rattle.text.specs.declared.Number.the-variants.{Of, NoNumber}
 use Rattle.text.specs.Number.{NumberSpelled, WholeRead}
 use Rattle.text.specs.Word.{wordOf, WordRead}
 use Rattle.text.specs.Place.{indexOf, Found, endOf, upTo, lineAt, fieldAt, fieldsFrom}
-use Rattle.text.specs.Parsed.{parsedSeen, countSeen, NumbersTold, wordedBy, FieldsTold, LineRead, NextAfter, Stored, leadingNumbers, leading, mostNumbers}
+use Rattle.text.specs.Parsed.{parsedSeen, countSeen, NumbersTold, wordedBy, aloneAmong, FieldsTold, LineRead, NextAfter, Stored, leadingNumbers, leading, mostNumbers}
 use Rattle.text.proofs.Places.{partsAfter, parts-none, parts-more, fields-from, fields-found}
 use Rattle.text.proofs.Numbers.{number-small, small-fits}
 use Rattle.text.proofs.Ends.{InLine, cut-length, before-end, place-next, place-later, same-line, ends-line, line-cut}
@@ -36,6 +38,14 @@ use Rattle.text.proofs.Lines.{line-word, line-no-word, leading-word, le
 take-one : (ns : List ℤ) → 0 < length ns → take 1 ns ≡ getD ns 0 (pos 0) ∷ []
 take-one [] h = absurd (omega arith)
 take-one (z ∷ ns) h = refl
+
+-- of the first numbers, so many, one stands alone where they are one
+alone-among : (count : ℕ) (ns : List ℤ) → count ≤ length ns → onlyOne (some (take count ns)) ≡ aloneAmong count ns
+unfolding aloneAmong onlyOne
+alone-among count ns h = elim (ℕ-discrete count 1) [
+  | yes q ↦ rw (q, take-one ns (omega arith))
+  | no q ↦ many-alone (take count ns) (λ e. q (sym (length-take-le count ns h) ∙ e)) ∙ rw (ne-eqb count 1 q)
+]
 
 -- where nothing was written and nothing is to write
 stored-none : (ns : List ℤ) (numbers : List ℤ) → ns ≡ [] → Stored ns numbers numbers
@@ -67,11 +77,11 @@ module _ {text : List ℕ} {at : ℕ} (l : InLine text at (endOf text at)) where
     told-by : (right : Bool) (after : List ℤ) (count : ℕ) {place : ℕ} → isCount (wordOf w) count ≡ right
         → lineOf (lineAt text at) ≡ assemble (some (wordOf w)) (some (take count after)) → count ≤ mostNumbers → length after ≡ mostNumbers
         → place ≡ endOf text at + 1 → (f : Fields) → f ≡ wordedBy right w count place → FieldsTold text at after f
-    unfolding wordedBy FieldsTold assemble
+    unfolding wordedBy FieldsTold assemble aloneAmong
     told-by true after count t is most long last f e =
         rw e (is ∙ rw (length-take-le count after (omega arith), t), word-no-number (lineAt text at) fields is-word, most, last)
     told-by false after count t is most long last f e =
-        rw e (is ∙ rw (length-take-le count after (omega arith), t), word-no-number (lineAt text at) fields is-word)
+        rw e (is ∙ rw (length-take-le count after (omega arith), t), word-no-number (lineAt text at) fields is-word, last)
 
     told-at : (after : List ℤ) (count : ℕ) {place : ℕ} → lineOf (lineAt text at) ≡ assemble (some (wordOf w)) (some (take count after)) → count ≤ mostNumbers
         → length after ≡ mostNumbers → place ≡ endOf text at + 1 → (f : Fields) → f ≡ wordedBy (isCount (wordOf w) count) w count place
@@ -141,9 +151,11 @@ module _ {text : List ℕ} {at : ℕ} (l : InLine text at (endOf text at)) where
     bare-stored s = rw (leading-no-word (lineAt text at) (first .1) no-word, all) s
 
     module _ (after : List ℤ) {c : Counted} (told : NumbersTold line at after c) where
-      pub bare-numbers : {count place : ℕ} → c ≡ Numbers count place → FieldsTold text at after (Alone count place)
+      pub bare-numbers : length after ≡ mostNumbers → {count place : ℕ} → c ≡ Numbers count place → FieldsTold text at after (Alone count (place + 1))
       unfolding FieldsTold NumbersTold
-      bare-numbers is = let t = rw is at told in (no-line, rw all (t .0), t .1, t .2 ∙ cut-length l)
+      bare-numbers long {count} is =
+          let t = rw is at told in
+          (no-line, number-alone (lineAt text at) ∙ rw (all, t .0) (alone-among count after (omega (arith, t .1))), ap (λ (n : ℕ). n + 1) (t .2 ∙ cut-length l))
 
       pub bare-no-numbers : c ≡ NoNumbers → FieldsTold text at after NoFields
       unfolding FieldsTold NumbersTold
@@ -168,16 +180,19 @@ module _ (text : List ℕ) (at : ℕ) where
   unfolding NumberSpelled
   reads-no-number q = none-refused 3 q
 
-  module _ (after : List ℤ) (count end : ℕ) (told : FieldsTold text at after (Alone count end)) (long : length after ≡ mostNumbers) where
-    pub reads-many : (count ≡ 1 → ⊥) → WholeRead text at NoNumber
+  module _ (after : List ℤ) (count next : ℕ) (told : FieldsTold text at after (Alone count next)) where
+    pub alone-next : 1 ≤ next
     unfolding FieldsTold
-    reads-many q =
-        reads-no-number (number-alone (lineAt text at) ∙ rw (told .1) (many-alone (take count after) (λ e. q (sym (length-take-le count after (omega (arith, told .2))) ∙ e))))
+    alone-next = omega (arith, told .2)
+
+    pub reads-many : (count ≡ 1 → ⊥) → WholeRead text at NoNumber
+    unfolding FieldsTold aloneAmong
+    reads-many q = reads-no-number (told .1 ∙ rw (ne-eqb count 1 q))
 
     -- the number is stored as it is: it fits a machine word
-    pub reads-one : count ≡ 1 → InLine text at (endOf text at) → WholeRead text at (Of (toZ w64 (ofZ w64 (getD after 0 (pos 0)))) end)
-    unfolding FieldsTold NumberSpelled onlyOne
+    pub reads-one : count ≡ 1 → InLine text at (endOf text at) → WholeRead text at (Of (toZ w64 (ofZ w64 (getD after 0 (pos 0)))) (next - 1))
+    unfolding FieldsTold NumberSpelled aloneAmong
     reads-one q l =
-        let one : take count after ≡ getD after 0 (pos 0) ∷ [] = rw q (take-one after (omega arith)) in
-        let is : number (lineAt text at) ≡ some (getD after 0 (pos 0)) = number-alone (lineAt text at) ∙ rw (told .1, one) in
-        rw (toZ-ofZ w64 (getD after 0 (pos 0)) (small-fits (getD after 0 (pos 0)) (number-small (lineAt text at) is))) (is, rw (told .3) (l .found))
+        let is : number (lineAt text at) ≡ some (getD after 0 (pos 0)) = told .1 ∙ rw q in
+        let end : next - 1 ≡ endOf text at = omega (arith, told .2) in
+        rw (toZ-ofZ w64 (getD after 0 (pos 0)) (small-fits (getD after 0 (pos 0)) (number-small (lineAt text at) is))) (is, rw end (l .found))

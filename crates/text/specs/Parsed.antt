@@ -2,11 +2,12 @@
 -- that were lent to it. Bytes that spell no line are refusal 3.
 use mathlib.Core.Path.{_≡_}
 use Prim.Native.Nat.{ℕ, _+_, _≤_}
-use mathlib.Core.Bool.{Bool, true, false}
+use mathlib.Core.Bool.{Bool, true, false, cond}
 use mathlib.Core.List.{List, [], _∷_, _++_}
 use mathlib.Core.Option.{Option, none, some}
-use lib.IntN.{ℤ}
-use lib.ListN.{length, take, drop}
+use lib.Dec.{eqb}
+use lib.IntN.{ℤ, pos}
+use lib.ListN.{length, getD, take, drop}
 use Rattle.meaning.specs.Text.{fieldsOf, number}
 use Rattle.meaning.specs.Line.{words, wordAmong, numbersOf, assemble, lineOf}
 use Rattle.meaning.specs.Line.{Word as MeantWord, Line as Meant}
@@ -74,15 +75,18 @@ NumbersTold line from after NoNumbers = (w : MeantWord) → assemble (some w) (n
 -- the answer for a word with so many numbers, by whether as many belong to it
 unfoldable pub wordedBy : Bool → Word → ℕ → ℕ → Fields
 wordedBy true w count next = Worded w count next
-wordedBy false w count next = NoFields
+wordedBy false w count next = Alone 0 next
 
--- the word and the numbers of the line at `at` and where the next line starts, or its numbers alone and where it ends; or it is no line and no
--- number
+-- the number that stands alone, where so many do: the first that was written
+unfoldable pub aloneAmong : ℕ → List ℤ → Option ℤ
+aloneAmong count ns = cond (eqb count 1) (some (getD ns 0 (pos 0))) none
+
+-- the word and the numbers of the line at `at`, or the number that it is where one stands alone, and where the next line starts; or it is no
+-- line and no number
 unfoldable pub FieldsTold : List ℕ → ℕ → List ℤ → Fields → Type 0
 FieldsTold text at after (Worded w count next) = (lineOf (lineAt text at) ≡ some (record { word = wordOf w; numbers = take count after }))
     × (number (lineAt text at) ≡ none) × (count ≤ mostNumbers) × (next ≡ endOf text at + 1)
-FieldsTold text at after (Alone count end) = (lineOf (lineAt text at) ≡ none) × (numbersOf (fieldsOf (lineAt text at)) ≡ some (take count after))
-    × (count ≤ mostNumbers) × (end ≡ endOf text at)
+FieldsTold text at after (Alone count next) = (lineOf (lineAt text at) ≡ none) × (number (lineAt text at) ≡ aloneAmong count after) × (next ≡ endOf text at + 1)
 FieldsTold text at after NoFields = (lineOf (lineAt text at) ≡ none) × (number (lineAt text at) ≡ none)
 
 -- the answer, with the numbers as they were left, is the line that the bytes spell

@@ -313,8 +313,8 @@ enum Counted {
     NoNumbers,
 }
 
-// The fields of a line: a word, how many numbers it has and where the next line starts; or how many numbers there are alone, and where the
-// line ends.
+// The fields of a line, and where the next line starts: a word and how many numbers it has; or how many numbers there are alone, which is none
+// where they follow a word that they do not belong to. Both have the same parts, so that the compiler keeps them in registers.
 enum Fields {
     Worded(Word, usize, usize),
     Alone(usize, usize),
@@ -355,10 +355,11 @@ fn worded(word: Word, count: usize, end: usize) -> Fields
     requires { ⌜ end + 1 < 2 ^ 64 ⌝ }
     ensures { λ r. ⌜ r ≡ wordedBy (isCount (wordOf word) count) word count (end + 1) ⌝ }
 {
+    let next = end + 1;
     if is_count(word, count) {
-        return Fields::Worded(word, count, end + 1);
+        return Fields::Worded(word, count, next);
     }
-    Fields::NoFields
+    Fields::Alone(0, next)
 }
 
 // The fields of the line at `at`, whose numbers are then the first in `numbers`. Lines and inputs are both read here: as `number_at` and
@@ -381,7 +382,7 @@ fn fields_of(text: &[u8], at: usize, numbers: &mut [i64]) -> Fields
     };
     match spelled {
         Spelled::Known(word, _) => worded(word, count, end),
-        Spelled::NoWord => Fields::Alone(count, end),
+        Spelled::NoWord => Fields::Alone(count, end + 1),
     }
 }
 
@@ -407,9 +408,9 @@ pub fn number_of(text: &[u8], at: usize) -> Number
     let mut numbers: [i64; 33] = [0; 33];
     let fields = fields_of(text, at, &mut numbers);
     match fields {
-        Fields::Alone(count, end) => {
+        Fields::Alone(count, next) => {
             if count == 1 {
-                return Number::Of(numbers[0], end);
+                return Number::Of(numbers[0], next - 1);
             }
             Number::NoNumber
         }

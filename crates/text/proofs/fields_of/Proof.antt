@@ -119,17 +119,18 @@ enum-told-3 c = search needs
 same-length-2 : tie.Need-same-length-2
 same-length-2 c = search needs
 
-worded-requires-2 : tie.Need-worded-requires-2
+-- the line of the numbers ends before the text does
+end-inside : (c : tie.After-count) → c .count .given .0 .1 .0 < length (c .before .before .before .before .before .before .before .before .args .text .now)
 unfolding NumbersTold
-worded-requires-2 c κs =
-    let at-count = c .before .before .before .before in
-    let at-numbers = at-count .before .before .before in
+end-inside c =
+    let at-numbers = c .before .before .before in
     let asked = numbers-from-requires (at-numbers .before) (at-numbers .numbers-from .lifetimes) in
-    let text = at-numbers .before .before .before .before .before .args .text .now in
-    let l = in-line text (asked .0) (at-numbers .before .before .match .from) (asked .1) in
-    let told = rw (at-count .count .given .1) at (at-numbers .numbers-from .ensures .0) in
-    let inside : at-count .count .given .0 .1 .0 < length text = omega (arith, told .2, cut-length l, l .inside) in
-    search (needs, inside)
+    let l = in-line _ (asked .0) (at-numbers .before .before .match .from) (asked .1) in
+    let told = rw (c .count .given .1) at (at-numbers .numbers-from .ensures .0) in
+    omega (arith, told .2, cut-length l, l .inside)
+
+worded-requires-2 : tie.Need-worded-requires-2
+worded-requires-2 c κs = let inside = end-inside (c .before .before .before .before) in search (needs, inside)
 
 returns-3 : tie.Need-returns-3
 unfolding Started
@@ -152,6 +153,9 @@ returns-3 c =
 same-length-3 : tie.Need-same-length-3
 same-length-3 c = search needs
 
+add-t18 : tie.Need-add-t18
+add-t18 c = let inside = end-inside (c .before .before .before) in search (needs, inside)
+
 returns-4 : tie.Need-returns-4
 unfolding Started
 returns-4 c =
@@ -164,7 +168,8 @@ returns-4 c =
     ⊎-elim
     (λ w. absurd (no-word-known (sym is ∙ w .4)))
     (λ w. (
-      bare-numbers (line start) (at-word .word-at .ensures) (w .0) _ (rw (w .2) at (at-numbers .numbers-from .ensures .0)) (at-count .count .given .1),
+      bare-numbers (line start) (at-word .word-at .ensures) (w .0) _ (rw (w .2) at (at-numbers .numbers-from .ensures .0))
+          (at-numbers .numbers-from .ensures .1 .kept ∙ start .pre .2) (at-count .count .given .1),
       bare-stored (line start) (at-word .word-at .ensures) (w .0) (rw (w .2) at (at-numbers .numbers-from .ensures .1)),
     ))
     (started at-match)
@@ -188,6 +193,7 @@ fields-of-spec =
     enum-known-spelled-2
     worded-requires-2
     enum-told-3
+    add-t18
     same-length-2
     returns-3
     same-length-3

@@ -1,7 +1,7 @@
 -- A line that is one number: each way out is one law of `LineFields`.
 use Rattle.text.specs.Parsed.{FieldsTold}
 use Rattle.text.proofs.Ends.{in-line}
-use Rattle.text.proofs.LineFields.{reads-no-number, reads-many, reads-one}
+use Rattle.text.proofs.LineFields.{reads-no-number, alone-next, reads-many, reads-one}
 use borrow.Author.Needs.{needs}
 use Rattle.text.proofs.number_of.Statement.{statement}
 use Rattle.text.proofs.number_of.Tie as tie
@@ -18,13 +18,20 @@ enum-known-fields c = search needs
 array-copy-out-t13 : tie.Need-array-copy-out-t13
 array-copy-out-t13 c = search needs
 
+sub-t14 : tie.Need-sub-t14
+sub-t14 c =
+    let at-told = c .before .before in
+    let at-fields = at-told .before .before .before .before in
+    let start = at-fields .before .before .before in
+    alone-next (start .args .text .now) (start .args .at) _ _ _ (rw (at-told .before .fields .given .1) at (at-fields .fields-of .ensures .0))
+
 returns : tie.Need-returns
 returns c =
     let at-told = c .before .before in
     let at-fields = at-told .before .before .before .before in
     let start = at-fields .before .before .before in
     let told = rw (at-told .before .fields .given .1) at (at-fields .fields-of .ensures .0) in
-    reads-one (start .args .text .now) (start .args .at) _ _ _ told (at-fields .fields-of .ensures .1 .kept) (c .before .if1 .taken)
+    reads-one (start .args .text .now) (start .args .at) _ _ _ told (c .before .if1 .taken)
     (in-line (start .args .text .now) (start .pre .0) (start .args .at) (start .pre .1))
 
 enum-told : tie.Need-enum-told
@@ -39,7 +46,7 @@ returns-2 c =
     let at-fields = at-told .before .before .before .before in
     let start = at-fields .before .before .before in
     let told = rw (at-told .before .fields .given .1) at (at-fields .fields-of .ensures .0) in
-    reads-many (start .args .text .now) (start .args .at) _ _ _ told (at-fields .fields-of .ensures .1 .kept) (c .if1 .left)
+    reads-many (start .args .text .now) (start .args .at) _ _ _ told (c .if1 .left)
 
 returns-3 : tie.Need-returns-3
 unfolding FieldsTold
@@ -65,6 +72,7 @@ number-of-spec =
     fields-of-requires
     enum-known-fields
     array-copy-out-t13
+    sub-t14
     returns
     enum-told
     enum-told-2

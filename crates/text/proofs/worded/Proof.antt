@@ -5,11 +5,11 @@ use borrow.Author.Needs.{needs}
 use Rattle.text.proofs.worded.Statement.{statement}
 use Rattle.text.proofs.worded.Tie as tie
 
+add-next : tie.Need-add-next
+add-next c = search needs
+
 is-count-requires : tie.Need-is-count-requires
 is-count-requires c κs = search needs
-
-add-t5 : tie.Need-add-t5
-add-t5 c = search needs
 
 returns : tie.Need-returns
 unfolding wordedBy
@@ -20,4 +20,4 @@ unfolding wordedBy
 returns-2 c = sym (rw (sym (c .before .is-count .ensures) ∙ c .if1 .left))
 
 pub worded-spec : {M : Type 1} → statement M
-worded-spec = tie.close (tie.spec is-count-requires add-t5 returns returns-2)
+worded-spec = tie.close (tie.spec add-next is-count-requires returns returns-2)

@@ -76,7 +76,7 @@ take-place-requires c κs =
     let w = c .before .before .before .before .before .before .before .before .before .before .before .loop .inv in
     let inside = c .before .before .before .before .before .before .before .before .before .before .loop-test .taken in
     let took = c .before .before .before .before .before .before .before .before .take-line .ensures (at-line w inside) in
-    (w .placed .long, w .stands .few .values-most, took .next .few .values-most)
+    (w .placed .long, w .stands .few, took .next .few .values-most)
 
 loop-less : tie.Need-loop-less Inv-loop μ-loop
 loop-less c =
