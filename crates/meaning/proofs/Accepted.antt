@@ -1,6 +1,6 @@
 -- A check is accepted, and a table made, exactly where the number of the reply is 0: no refusal has that number, so the number that the desk
 -- counts by and the reply 0, 0 of demand 3 are one.
-use Prim.Native.Nat.{ℕ, _<_}
+use Prim.Native.Nat.{ℕ, zero, suc, _<_}
 use native.Mathlib.Omega.{arith}
 use mathlib.Core.Path.{_≡_, refl}
 use mathlib.Core.List.{List}
@@ -14,24 +14,23 @@ use Rattle.meaning.specs.Number.{inRange}
 use Rattle.meaning.specs.Line.{Line}
 use Rattle.meaning.specs.Known.{Known}
 use Rattle.meaning.specs.Row.{holds}
-use Rattle.meaning.specs.Refusal.{onSome, Reading, refused, read, onReading, reading}
+use Rattle.meaning.specs.Refusal.{rules, testOrder, placeAmong, rank, onSome, Reading, refused, read, onReading, reading}
 use Rattle.meaning.specs.Work.{Worked, false-at, true-table, work}
 use Rattle.meaning.specs.Reply.{Reply, reply, firstFail, rowsOf, isCell, checked, checkReply, Making, filled, made, makeReply}
 use Rattle.meaning.specs.Desk.{isAccepted}
-use Rattle.meaning.specs.Claims.{Fits, too-long, not-ended, no-line, breaks, AcceptedByNumber}
-use Rattle.meaning.proofs.Kept.{rule-number}
-use Rattle.meaning.proofs.Reading.{reads-exactly}
+use Rattle.meaning.specs.Claims.{AcceptedByNumber}
+use Rattle.meaning.proofs.Reading.{rules-in-order, fits-ranked, reads-exactly}
 
 -- ---- a refusal of a list is never 0
 
-fits-not-zero : (text : List ℕ) (n i : ℕ) → Fits text n i → 0 < n
-fits-not-zero text n i (too-long e f g) = omega arith
-fits-not-zero text n i (not-ended e f g) = omega arith
-fits-not-zero text n i (no-line e f g) = omega arith
-fits-not-zero text n i (breaks k l h e f g b) = omega (arith, rule-number k h)
+-- 0 has no place in the order of the tests
+ranked-not-zero : (n : ℕ) → rank n < length testOrder → 0 < n
+unfolding rank placeAmong testOrder
+ranked-not-zero zero h = absurd (omega arith)
+ranked-not-zero (suc n) h = omega arith
 
 pub refused-not-zero : (text : List ℕ) (n i : ℕ) → reading text ≡ refused n i → 0 < n
-refused-not-zero text n i e = fits-not-zero text n i (reads-exactly text .1 n i .0 e .0)
+refused-not-zero text n i e = ranked-not-zero n (fits-ranked rules rules-in-order text n i (reads-exactly text .1 n i .0 e .0))
 
 -- a list is read or refused
 module _ (text : List ℕ) {A : Type 0} (if-refused : (n i : ℕ) → reading text ≡ refused n i → A) (if-read : (ls : List Line) (s : Known) → reading text ≡ read ls s → A) where
@@ -92,7 +91,7 @@ zero-makes text xs t = by-reading text
 
 by-number : (r : Reply) → ZeroAccepts r → T (isAccepted r) ↔ (r ≡ reply 0 0)
 unfolding isAccepted
-by-number r zero = (λ t. zero (eqb→eq (r .number) 0 t), λ e. rw e tt)
+by-number r at-zero = (λ t. at-zero (eqb→eq (r .number) 0 t), λ e. rw e tt)
 
 pub accepted-by-number : AcceptedByNumber
 accepted-by-number = (

@@ -1,80 +1,77 @@
--- The rules that the lines of a list keep, as later proofs go through the lines: no rule of the table is broken exactly when each is kept,
--- and a line that breaks none keeps what each asks.
-use Prim.Native.Nat.{ℕ, zero, suc, _+_, _<_}
+-- The rules that the lines of a list keep, as later proofs go through the lines: what is found by any rules of one line (none is broken, or the
+-- first that is), and a line that breaks none of document 01's keeps what each asks.
+use Prim.Native.Nat.{ℕ, suc, _<_}
 use native.Mathlib.Omega.{arith}
 use mathlib.Core.Path.{_≡_, refl, sym, _∙_}
-use mathlib.Core.Bool.{Bool, true, _&&_}
-use mathlib.Core.Logic.{_↔_}
+use mathlib.Core.Bool.{Bool}
+use mathlib.Core.Logic.{_⊎_, inl, inr}
 use mathlib.Core.List.{List, [], _∷_}
-use mathlib.Core.Option.{none, some}
-use lib.Dec.{T, eqb, eqb→eq, lit<}
-use lib.ListN.{length, getD}
-use Rattle.algebra.proofs.Test.{left, right}
+use mathlib.Core.Option.{Option, none, some, Option·none-ne-some, Option·some-injective}
+use lib.Dec.{T, lit<}
+use lib.ListN.{length}
+use Rattle.algebra.proofs.Test.{cond-cases}
 use Rattle.meaning.specs.Line.{Line}
 use Rattle.meaning.specs.Known.{Known}
 use Rattle.meaning.specs.Meaning.{after}
-use Rattle.meaning.specs.Refusal.{Rule, rule, rulesWithin, rules, firstBroken}
-use Rattle.meaning.specs.Kept.{Kept, Keeps}
-use Rattle.meaning.specs.Reply.{firstFail}
-use Rattle.meaning.specs.Claims.{ruleAt, knownAfter}
-use Rattle.meaning.proofs.Lists.{all-pass, first-fails}
+use Rattle.meaning.specs.Refusal.{Rule, rulesWith, rulesWithin, rules, firstBroken}
+use Rattle.meaning.specs.Kept.{KeptBy, Keeps}
+use Rattle.meaning.specs.Claims.{noRule, ruleAt, knownAfter}
+use Rattle.meaning.proofs.Lists.{FirstFails, all-pass-cons, first-fails-here, first-fails-later}
 
-pub kept-known : (n : ℕ) (s : Known) (ls : List Line) (s′ : Known) → Kept n s ls s′ → s′ ≡ knownAfter s ls
+pub kept-known : (rs : List Rule) (n : ℕ) (s : Known) (ls : List Line) (s′ : Known) → KeptBy rs n s ls s′ → s′ ≡ knownAfter s ls
 unfolding knownAfter
-kept-known n s [] s′ h = sym h
-kept-known n s (l ∷ ls) s′ h = kept-known (suc n) (after s l) ls s′ (h .1)
+kept-known rs n s [] s′ h = sym h
+kept-known rs n s (l ∷ ls) s′ h = kept-known rs (suc n) (after s l) ls s′ (h .1)
 
--- ---- the table of rules
+-- ---- a table of rules
 
--- the numbers of these rules are n, n + 1 and so on
-numbered : ℕ → List Rule → Bool
-numbered n [] = true
-numbered n (r ∷ rs) = eqb (r .refusal) n && numbered (suc n) rs
+-- line n in state s, by any rules
+module _ (n : ℕ) (s : Known) (l : Line) where
+  abbrev keptBy : Rule → Bool
+  keptBy r = r .keeps n s l
 
-number-at : (n : ℕ) (rs : List Rule) (d : Rule) → T (numbered n rs) → (k : ℕ) → k < length rs → getD rs k d .refusal ≡ n + k
-unfolding numbered
-number-at n [] d t k h = absurd (omega arith)
-number-at n (r ∷ rs) d t zero h =
-    let e : r .refusal ≡ n = eqb→eq (r .refusal) n (left (eqb (r .refusal) n) (numbered (suc n) rs) t) in
-    omega arith
-number-at n (r ∷ rs) d t (suc k) h =
-    let later : T (numbered (suc n) rs) = right (eqb (r .refusal) n) (numbered (suc n) rs) t in
-    let e : getD rs k d .refusal ≡ suc n + k = number-at (suc n) rs d later k (omega arith) in
-    omega arith
+  abbrev AllKept : List Rule → Type 0
+  AllKept rs = (k : ℕ) → k < length rs → T (ruleAt rs k .keeps n s l)
 
--- the rules ascend by number, from 4 on
-pub rule-number : (k : ℕ) → k < length rules → ruleAt k .refusal ≡ 4 + k
-unfolding ruleAt rules rulesWithin numbered
-rule-number k h = number-at 4 rules _ tt k h
+  -- r is the number of the first rule that is broken
+  abbrev FirstBroken : List Rule → (r : ℕ) → Type 0
+  FirstBroken rs r = (k : ℕ) × (r ≡ ruleAt rs k .refusal) × FirstFails keptBy noRule rs k
 
-abbrev keptBy : ℕ → Known → Line → Rule → Bool
-keptBy n s l r = r .keeps n s l
+  abbrev Found : List Rule → Option ℕ → Type 0
+  Found rs o = ((o ≡ none) × AllKept rs) ⊎ ((r : ℕ) × (o ≡ some r) × FirstBroken rs r)
 
--- as the numbers ascend, the first broken rule is the first that fails when the rules are counted from 4
-first-broken : (n : ℕ) (s : Known) (l : Line) → firstBroken rules n s l ≡ firstFail (keptBy n s l) 4 rules
-unfolding firstBroken firstFail rules rulesWithin
-first-broken n s l = refl
+  found-later : (r : Rule) (rs : List Rule) (o : Option ℕ) → T (keptBy r) → Found rs o → Found (r ∷ rs) o
+  found-later r rs o t (inl h) = inl (h .0, all-pass-cons keptBy noRule r rs t (h .1))
+  found-later r rs o t (inr (q, e, (k, p, first))) = inr (q, e, (suc k, p, first-fails-later keptBy noRule r rs k t first))
 
--- no rule is broken exactly when each is kept
-pub none-broken : (n : ℕ) (s : Known) (l : Line) →
-    (firstBroken rules n s l ≡ none) ↔ ((k : ℕ) → k < length rules → T (ruleAt k .keeps n s l))
-unfolding ruleAt
-none-broken n s l = rw (first-broken n s l) (all-pass (keptBy n s l) _ 4 rules)
+  found : (rs : List Rule) → Found rs (firstBroken rs n s l)
+  unfolding firstBroken
+  found [] = inl (refl, λ k h. absurd (omega arith))
+  found (r ∷ rs) =
+      cond-cases (Found (r ∷ rs)) (keptBy r) (firstBroken rs n s l) (some (r .refusal))
+      (λ t. found-later r rs (firstBroken rs n s l) t (found rs))
+      (λ e. inr (r .refusal, refl, (0, refl, first-fails-here keptBy noRule r rs e)))
 
--- the number of a broken rule is that of the first
-pub one-broken : (n : ℕ) (s : Known) (l : Line) (r : ℕ) → firstBroken rules n s l ≡ some r →
-    (k : ℕ) × (k < length rules) × (r ≡ ruleAt k .refusal) × (¬ T (ruleAt k .keeps n s l)) × ((j : ℕ) → j < k → T (ruleAt j .keeps n s l))
-unfolding ruleAt
-one-broken n s l r e =
-    let h = first-fails (keptBy n s l) (rule 0 (λ n s l. true)) 4 r rules .0 (sym (first-broken n s l) ∙ e) in
-    (h .0, h .2 .inside, h .1 ∙ sym (rule-number (h .0) (h .2 .inside)), h .2 .fails, h .2 .earlier)
+  pub none-broken : (rs : List Rule) → firstBroken rs n s l ≡ none → AllKept rs
+  none-broken rs e = by (found rs)
+    where
+      by : Found rs (firstBroken rs n s l) → AllKept rs
+      by (inl h) = h .1
+      by (inr h) = absurd (Option·none-ne-some _ (sym e ∙ h .1))
+
+  pub one-broken : (rs : List Rule) (r : ℕ) → firstBroken rs n s l ≡ some r → FirstBroken rs r
+  one-broken rs r e = by (found rs)
+    where
+      by : Found rs (firstBroken rs n s l) → FirstBroken rs r
+      by (inl h) = absurd (Option·none-ne-some _ (sym (h .0) ∙ e))
+      by (inr h) = rw (Option·some-injective _ _ (sym e ∙ h .1)) (h .2)
 
 -- ---- one line
 
 pub keeps-all : (n : ℕ) (s : Known) (l : Line) → firstBroken rules n s l ≡ none → Keeps n s l
-unfolding ruleAt rules rulesWithin
+unfolding rules rulesWithin rulesWith
 keeps-all n s l e =
-    let kept : (k : ℕ) → k < length rules → T (ruleAt k .keeps n s l) = none-broken n s l .0 e in
+    let kept : (k : ℕ) → k < length rules → T (ruleAt rules k .keeps n s l) = none-broken n s l rules e in
     record {
       placed = kept 0 (lit< tt);
       over-prime = kept 1 (lit< tt);

@@ -7,6 +7,7 @@ pub mod Hold
 pub mod Group
 pub mod Law
 pub mod Gadget
+pub mod Ranks
 pub mod Kept
 pub mod Lines
 pub mod Induction

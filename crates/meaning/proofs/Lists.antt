@@ -25,14 +25,14 @@ module _ {A : Type 0} (f : A → Bool) (d : A) where
 
   -- ---- an element in front
 
-  all-pass-cons : (x : A) (xs : List A) → T (f x) → AllPass xs → AllPass (x ∷ xs)
+  pub all-pass-cons : (x : A) (xs : List A) → T (f x) → AllPass xs → AllPass (x ∷ xs)
   all-pass-cons x xs t h zero k = t
   all-pass-cons x xs t h (suc i) k = h i (omega arith)
 
-  first-fails-here : (x : A) (xs : List A) → f x ≡ false → FirstFails (x ∷ xs) 0
+  pub first-fails-here : (x : A) (xs : List A) → f x ≡ false → FirstFails (x ∷ xs) 0
   first-fails-here x xs e = record { inside = omega arith; fails = false-not (f x) e; earlier = λ j h. absurd (omega arith) }
 
-  first-fails-later : (x : A) (xs : List A) (i : ℕ) → T (f x) → FirstFails xs i → FirstFails (x ∷ xs) (suc i)
+  pub first-fails-later : (x : A) (xs : List A) (i : ℕ) → T (f x) → FirstFails xs i → FirstFails (x ∷ xs) (suc i)
   first-fails-later x xs i t h = record { inside = omega arith; fails = h .fails; earlier = before }
     where
       before : (j : ℕ) → j < suc i → T (f (getD (x ∷ xs) j d))

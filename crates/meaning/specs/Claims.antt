@@ -17,7 +17,7 @@ use Rattle.meaning.specs.Known.{Ends, Known, fresh, digitRule}
 use Rattle.meaning.specs.Row.{Form, eval, among, holds, group}
 use Rattle.meaning.specs.Gadget.Digits.{groupCells}
 use Rattle.meaning.specs.Meaning.{gadget, after}
-use Rattle.meaning.specs.Refusal.{textLimit, Rule, rule, rules, refused, read, reading}
+use Rattle.meaning.specs.Refusal.{textLimit, Rule, rule, rules, rank, refused, read, readingBy, reading}
 use Rattle.meaning.specs.Work.{false-at, true-table, work}
 use Rattle.meaning.specs.Reply.{Reply, reply, rowsOf, checkReply, makeReply}
 use Rattle.meaning.specs.Desk.{Desk, called, freshDesk, fullCount, isAccepted, deskCall, Call, deskAfter, deskReplies}
@@ -37,22 +37,33 @@ knownBefore s bs ℕ.zero = s
 knownBefore s [] (ℕ.suc n) = s
 knownBefore s (b ∷ bs) (ℕ.suc n) = knownBefore (afterBytes s (lineOf b)) bs n
 
--- the rule at a place of the ordered table
-unfoldable pub ruleAt : ℕ → Rule
-ruleAt k = getD rules k (rule 0 (λ n s l. true))
+-- the rule at a place of a table, and one that stands for none of them
+abbrev pub noRule : Rule
+noRule = rule 0 (λ n s l. true)
 
--- a row of the table of refusals, 1 to 12, fits the text at a place
-pub data Fits (text : List ℕ) (number place : ℕ) : Type 0 where
-  too-long : number ≡ 1 → place ≡ 0 → textLimit < length text → Fits text number place
-  not-ended : number ≡ 2 → place ≡ 0 → ¬ T (isEnded text) → Fits text number place
-  no-line : number ≡ 3 → place < length (linesOf text) → lineOf (lineAt text place) ≡ none → Fits text number place
-  breaks : (k : ℕ) (l : Line) → k < length rules → number ≡ ruleAt k .refusal → place < length (linesOf text)
-      → lineOf (lineAt text place) ≡ some l → ¬ T (ruleAt k .keeps place (knownBefore fresh (linesOf text) place) l)
-      → Fits text number place
+abbrev pub ruleAt : List Rule → ℕ → Rule
+ruleAt rs k = getD rs k noRule
 
--- "1 and 2 come first, then lines in order, in a line by number": by place, then by number, as 1 and 2 have place 0
+-- a refusal from 3 on fits line n, in state s, that has these bytes
+pub data FitsLine (rs : List Rule) (n : ℕ) (s : Known) (bytes : List ℕ) (number : ℕ) : Type 0 where
+  no-line : number ≡ 3 → lineOf bytes ≡ none → FitsLine rs n s bytes number
+  breaks : (k : ℕ) (l : Line) → k < length rs → number ≡ ruleAt rs k .refusal → lineOf bytes ≡ some l
+      → ¬ T (ruleAt rs k .keeps n s l) → FitsLine rs n s bytes number
+
+-- a row of the table of refusals fits the text at a place, where it is read by these rules
+pub data FitsBy (rs : List Rule) (text : List ℕ) (number place : ℕ) : Type 0 where
+  too-long : number ≡ 1 → place ≡ 0 → textLimit < length text → FitsBy rs text number place
+  not-ended : number ≡ 2 → place ≡ 0 → ¬ T (isEnded text) → FitsBy rs text number place
+  in-line : place < length (linesOf text)
+      → FitsLine rs place (knownBefore fresh (linesOf text) place) (lineAt text place) number → FitsBy rs text number place
+
+-- 1 to 12
+abbrev pub Fits : (text : List ℕ) (number place : ℕ) → Type 0
+Fits text number place = FitsBy rules text number place
+
+-- by place, then in the order of the tests: 1 and 2 have place 0
 abbrev pub Before : (number place number′ place′ : ℕ) → Type 0
-Before n i n′ i′ = (i < i′) ⊎ ((i ≡ i′) × (n < n′))
+Before n i n′ i′ = (i < i′) ⊎ ((i ≡ i′) × (rank n < rank n′))
 
 -- the lines of a text are these
 abbrev pub Spells : List ℕ → List Line → Type 0
@@ -62,14 +73,18 @@ unfoldable pub knownAfter : Known → List Line → Known
 knownAfter s [] = s
 knownAfter s (l ∷ ls) = knownAfter (after s l) ls
 
--- demand 2: "A list is read exactly when none of 01's refusals fits it", and a refusal that is replied is the first that fits
-abbrev pub ReadsExactly : Type 0
-ReadsExactly =
+-- a list is read exactly when no refusal fits it, and a refusal that is replied is the first that fits
+abbrev pub ReadsExactlyBy : List Rule → Type 0
+ReadsExactlyBy rs =
     (text : List ℕ) →
-    (((ls : List Line) × (s : Known) × (reading text ≡ read ls s)) ↔ ((number place : ℕ) → ¬ Fits text number place))
-    × ((number place : ℕ) → reading text ≡ refused number place ↔
-    (Fits text number place × ((n i : ℕ) → Before n i number place → ¬ Fits text n i)))
-    × ((ls : List Line) (s : Known) → reading text ≡ read ls s → Spells text ls × (s ≡ knownAfter fresh ls))
+    (((ls : List Line) × (s : Known) × (readingBy rs text ≡ read ls s)) ↔ ((number place : ℕ) → ¬ FitsBy rs text number place))
+    × ((number place : ℕ) → readingBy rs text ≡ refused number place ↔
+    (FitsBy rs text number place × ((n i : ℕ) → Before n i number place → ¬ FitsBy rs text n i)))
+    × ((ls : List Line) (s : Known) → readingBy rs text ≡ read ls s → Spells text ls × (s ≡ knownAfter fresh ls))
+
+-- demand 2: "A list is read exactly when none of 01's refusals fits it"
+abbrev pub ReadsExactly : Type 0
+ReadsExactly = ReadsExactlyBy rules
 
 -- ---- rows
 

@@ -19,7 +19,7 @@ use Rattle.meaning.specs.Gadget.Which.{whichValue, whichLine}
 use Rattle.meaning.specs.Gadget.Max.{maxLine}
 use Rattle.meaning.specs.Gadget.Root.{rootValue, rootLine}
 use Rattle.meaning.specs.Meaning.{byWord, gadget, primeAfter, placesFrom, after}
-use Rattle.meaning.specs.Refusal.{all, onSome, isField, isPlaced, isOverPrime, isDigits, isRanged, isMade, rulesWithin, rules, firstBroken, onReading, consLine, readLine, readFrom, readingBy, reading}
+use Rattle.meaning.specs.Refusal.{all, onSome, isField, isPlaced, isOverPrime, isDigits, isRanged, isMade, rulesWith, rulesWithin, rules, firstBroken, onReading, consLine, readLine, readFrom, readingBy}
 use Rattle.meaning.specs.Work.{withCells, workFrom, work}
 use Rattle.meaning.specs.Reply.{readReply, firstFail, rowsFrom, rowsOf, isCell, checked, checkReply, filled, made, makeReply, stretch, shown}
 use Rattle.meaning.specs.Program.{tabbed, refusalText, cellsText, tableText, makingText, consPart, partsOf, joined, isSome, orNone, answerParts, onParts, respond}
@@ -48,7 +48,7 @@ computing-gadgets = tt
 
 -- reading, working, the replies and the program
 unfoldable pub computing-replies : Unit {0}
-unfolding all onSome isField isPlaced isOverPrime isDigits isRanged isMade rulesWithin rules firstBroken onReading consLine readLine readFrom readingBy reading withCells workFrom work readReply firstFail rowsFrom rowsOf isCell checked checkReply filled made makeReply stretch shown tabbed refusalText cellsText tableText makingText consPart partsOf joined isSome orNone answerParts onParts respond
+unfolding all onSome isField isPlaced isOverPrime isDigits isRanged isMade rulesWith rulesWithin rules firstBroken onReading consLine readLine readFrom readingBy withCells workFrom work readReply firstFail rowsFrom rowsOf isCell checked checkReply filled made makeReply stretch shown tabbed refusalText cellsText tableText makingText consPart partsOf joined isSome orNone answerParts onParts respond
 computing-replies = tt
 
 -- the rows of the worked tables

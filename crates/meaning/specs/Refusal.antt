@@ -1,9 +1,9 @@
 -- The refusals of a list, as document 01's table under "Replies" has them, and reading: a list is read where none of them fits.
 use Prim.Native.Nat.{ℕ, zero, suc, _+_}
 use mathlib.Core.Bool.{Bool, true, false, cond, _&&_, not}
-use mathlib.Core.List.{List, [], _∷_}
+use mathlib.Core.List.{List, [], _∷_, _++_}
 use mathlib.Core.Option.{Option, none, some}
-use lib.Dec.{leb, ltb}
+use lib.Dec.{leb, ltb, eqb}
 use lib.ListN.{length}
 use lib.IntN.{ℤ, pos, natAbs}
 use lib.Signed.{leZ, nonNeg}
@@ -110,19 +110,24 @@ pub record Rule : Type 0 where
 abbrev pub rule : ℕ → (ℕ → Known → Line → Bool) → Rule
 rule r f = record { refusal = r; keeps = f }
 
--- the ordered table, after refusal 3 (a line that spells nothing), for a list that may have so many cells
-unfoldable pub rulesWithin : (cells : ℕ) → List Rule
-rulesWithin cells =
+-- the ordered table, after refusal 3 (a line that spells nothing), for a list that may have so many cells; `before9` are rules that are
+-- tested just before 9
+unfoldable pub rulesWith : (before9 : List Rule) (cells : ℕ) → List Rule
+rulesWith before9 cells =
     rule 4 (λ n s l. isPlaced n (l .word))
     ∷ rule 5 (λ n s l. isOverPrime (l .word) (l .numbers))
     ∷ rule 6 (λ n s l. isRanged (s .p) (l .word) (l .numbers))
     ∷ rule 7 (λ n s l. all (isMade (length (s .known))) (namesOf (l .word) (l .numbers)))
     ∷ rule 8 (λ n s l. leb (length (s .known) + length (gadget s l .made)) valueLimit)
-    ∷ rule 9 (λ n s l. leb (s .cells + gadget s l .width) cells)
+    ∷ before9
+    ++ rule 9 (λ n s l. leb (s .cells + gadget s l .width) cells)
     ∷ rule 10 (λ n s l. gadget s l .unambiguous)
     ∷ rule 11 (λ n s l. gadget s l .fits)
     ∷ rule 12 (λ n s l. gadget s l .overlaps)
     ∷ []
+
+unfoldable pub rulesWithin : (cells : ℕ) → List Rule
+rulesWithin cells = rulesWith [] cells
 
 unfoldable pub rules : List Rule
 rules = rulesWithin cellLimit
@@ -130,6 +135,20 @@ rules = rulesWithin cellLimit
 unfoldable pub firstBroken : List Rule → ℕ → Known → Line → Option ℕ
 firstBroken [] n s l = none
 firstBroken (r ∷ rs) n s l = cond (r .keeps n s l) (firstBroken rs n s l) (some (r .refusal))
+
+-- ---- the order of the tests
+
+-- the refusals of a list in the order in which they are tested: "1 and 2 come first, then lines in order, in a line by number"
+unfoldable pub testOrder : List ℕ
+testOrder = 1 ∷ 2 ∷ 3 ∷ 4 ∷ 5 ∷ 6 ∷ 7 ∷ 8 ∷ 9 ∷ 10 ∷ 11 ∷ 12 ∷ []
+
+-- the place of a number among others, and their count where it is none of them
+unfoldable pub placeAmong : List ℕ → ℕ → ℕ
+placeAmong [] n = 0
+placeAmong (m ∷ ms) n = cond (eqb n m) 0 (suc (placeAmong ms n))
+
+unfoldable pub rank : (number : ℕ) → ℕ
+rank n = placeAmong testOrder n
 
 -- ---- reading
 
@@ -161,5 +180,5 @@ unfoldable pub readingBy : List Rule → List ℕ → Reading
 readingBy rs text =
     cond (leb (length text) textLimit) (cond (isEnded text) (readFrom rs 0 fresh (linesOf text)) (refused 2 0)) (refused 1 0)
 
-unfoldable pub reading : List ℕ → Reading
+abbrev pub reading : List ℕ → Reading
 reading text = readingBy rules text

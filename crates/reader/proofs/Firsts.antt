@@ -29,7 +29,7 @@ use Rattle.meaning.specs.Line.{Word as Meant}
 use Rattle.meaning.specs.Known.{fresh}
 use Rattle.meaning.specs.Gadget.Field.{fieldLine}
 use Rattle.meaning.specs.Meaning.{byWord, gadget, primeAfter, placesFrom, after}
-use Rattle.meaning.specs.Refusal.{all, onSome, isField, isPlaced, isOverPrime, isRanged, rulesWithin, rules, firstBroken}
+use Rattle.meaning.specs.Refusal.{all, onSome, isField, isPlaced, isOverPrime, isRanged, rulesWith, rulesWithin, rules, firstBroken}
 use Rattle.reader.specs.Told.{lineWith}
 use Rattle.reader.specs.Step.{stops, goes}
 use Rattle.reader.specs.Read.{firstOption, only}
@@ -40,16 +40,16 @@ unfolding firstOption
 first-none line e = rw e refl
 
 pub first-other : (line : List ℕ) (l : Line) → lineOf line ≡ some l → isField (l .word) ≡ false → stops 4 ≡ firstOption (lineOf line)
-unfolding firstOption rules rulesWithin firstBroken onSome isPlaced
+unfolding firstOption rules rulesWith rulesWithin firstBroken onSome isPlaced
 first-other line l e f = rw (e, f) refl
 
 module _ (line : List ℕ) (ns : List ℤ) (e : lineOf line ≡ some (lineWith field ns)) where
   pub first-not-prime : isOverPrime field ns ≡ false → stops 5 ≡ firstOption (lineOf line)
-  unfolding firstOption rules rulesWithin firstBroken onSome isPlaced isField
+  unfolding firstOption rules rulesWith rulesWithin firstBroken onSome isPlaced isField
   first-not-prime f = rw (e, f) refl
 
   pub first-prime : isOverPrime field ns ≡ true → goes (only (sizeAt ns 0)) ≡ firstOption (lineOf line)
-  unfolding firstOption rules rulesWithin firstBroken onSome isPlaced isField isRanged all digitsOf shiftsOf coefficientsOf namesOf gadget byWord fieldLine fresh after primeAfter placesFrom only
+  unfolding firstOption rules rulesWith rulesWithin firstBroken onSome isPlaced isField isRanged all digitsOf shiftsOf coefficientsOf namesOf gadget byWord fieldLine fresh after primeAfter placesFrom only
   first-prime f = rw (e, f) refl
 
 -- ---- the number of line 0, as the code has it

@@ -23,6 +23,7 @@ use Rattle.meaning.specs.Refusal.{
   isOverPrime,
   isRanged,
   isMade,
+  rulesWith,
   rulesWithin,
   rules,
   firstBroken,
@@ -87,20 +88,20 @@ cellsFit s w ns = leb (s .cells + byWord w s ns .width) cellLimit
 
 module _ (s : Known) (w : Word) (ns : List ℤ) (es : List Ends) (plain : isField w ≡ false) where
   pub told-6 : isRanged (s .p) w ns ≡ false → toldWith s (lineWith w ns) es ≡ refuses 6
-  unfolding onSome firstBroken rules rulesWithin isPlaced
+  unfolding onSome firstBroken rules rulesWith rulesWithin isPlaced
   told-6 ranged = rw (plain, over-prime w ns plain, ranged)
 
   module _ (ranged : isRanged (s .p) w ns ≡ true) {n : ℕ}
       (early : n ≡ earlyBroken (areNamed s w ns) (length (s .known)) (length (byWord w s ns .made)) (s .cells) (byWord w s ns .width)) where
     pub told-early : (n ≡ 0 → ⊥) → toldWith s (lineWith w ns) es ≡ refuses n
-    unfolding firstBroken rules rulesWithin isPlaced earlyBroken gadget
+    unfolding firstBroken rules rulesWith rulesWithin isPlaced earlyBroken gadget
     told-early some-broken =
         let g : Gadget = byWord w s ns in
         rw (plain, over-prime w ns plain, ranged)
         (early-told (areNamed s w ns) (valuesFit s w ns) (cellsFit s w ns) (g .unambiguous) (g .fits) (g .overlaps) es n early some-broken)
 
     pub told-late : n ≡ 0 → toldWith s (lineWith w ns) es ≡ late (byWord w s ns) es
-    unfolding firstBroken rules rulesWithin isPlaced earlyBroken gadget late
+    unfolding firstBroken rules rulesWith rulesWithin isPlaced earlyBroken gadget late
     told-late none-broken =
         let g : Gadget = byWord w s ns in
         rw (plain, over-prime w ns plain, ranged)

@@ -26,7 +26,7 @@ use Rattle.meaning.specs.Gadget.Which.{whichLine}
 use Rattle.meaning.specs.Gadget.Max.{maxLine}
 use Rattle.meaning.specs.Gadget.Root.{rootLine}
 use Rattle.meaning.specs.Meaning.{byWord, gadget, primeAfter, after}
-use Rattle.meaning.specs.Refusal.{all, onSome, isMade, isField, isPlaced, rulesWithin, rules, firstBroken}
+use Rattle.meaning.specs.Refusal.{all, onSome, isMade, isField, isPlaced, rulesWith, rulesWithin, rules, firstBroken}
 use Rattle.meaning.specs.Kept.{Keeps}
 use Rattle.meaning.proofs.Lines.{digits-ranged}
 use Rattle.text.specs.Word.{wordOf}
@@ -65,7 +65,7 @@ at-word s numbers x q e h = h ∙ ap₂ (λ (u : Word) (i : ℕ). lineTold s (li
 -- ---- a field line that comes later
 
 pub field-later : {v : Word} (s : Known) (ns : List ℤ) → v ≡ Field → refuses 4 ≡ lineTold s (lineWith (wordOf v) ns)
-unfolding lineTold toldBy toldOf rules rulesWithin firstBroken onSome isPlaced isField wordOf
+unfolding lineTold toldBy toldOf rules rulesWith rulesWithin firstBroken onSome isPlaced isField wordOf
 field-later s ns q = rw q refl
 
 -- ---- the lines that narrow no ends

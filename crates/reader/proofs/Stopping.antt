@@ -6,7 +6,7 @@ use native.Mathlib.Omega.{arith}
 use Rattle.meaning.specs.Line.{Line}
 use Rattle.meaning.specs.Known.{Known, fresh}
 use Rattle.meaning.specs.Meaning.{after}
-use Rattle.meaning.specs.Refusal.{Reading, refused, read, onSome, onReading, isPlaced, rulesWithin, rules, firstBroken, consLine, readLine}
+use Rattle.meaning.specs.Refusal.{Reading, refused, read, onSome, onReading, isPlaced, rulesWith, rulesWithin, rules, firstBroken, consLine, readLine}
 use Rattle.reader.specs.Step.{Step, stops, goes, stepOf, stepOption}
 use Rattle.reader.specs.Read.{firstOption, refusedAt, surveyOf}
 
@@ -22,7 +22,7 @@ step-first (some l) = refl
 
 -- the rules are the same for every line after line 0
 step-after : (m : ℕ) (s : Known) (o : Option Line) → stepOption s o ≡ stepAt (suc m) s o
-unfolding stepOption stepOf stepAt rules rulesWithin firstBroken isPlaced
+unfolding stepOption stepOf stepAt rules rulesWith rulesWithin firstBroken isPlaced
 step-after m s none = refl
 step-after m s (some l) = refl
 

@@ -29,12 +29,12 @@ ended-some (x ∷ xs) e = omega arith
 
 module _ (text : List ℕ) where
   pub survey-too-long : textLimit < length text → refusedAt 1 0 ≡ surveyOf (reading text)
-  unfolding surveyOf reading readingBy onReading
+  unfolding surveyOf readingBy onReading
   survey-too-long h = rw (lt-leb (length text) textLimit h) refl
 
   module _ (short : length text ≤ textLimit) where
     pub survey-not-ended : isEnded text ≡ false → refusedAt 2 0 ≡ surveyOf (reading text)
-    unfolding surveyOf reading readingBy onReading
+    unfolding surveyOf readingBy onReading
     survey-not-ended e = rw (le-leb (length text) textLimit short, e) refl
 
     module _ (ended : isEnded text ≡ true) where
@@ -48,7 +48,7 @@ module _ (text : List ℕ) where
       rest z = readFrom rules 1 z (linesFrom text (endOf text 0 + 1))
 
       survey-here : surveyOf (reading text) ≡ surveyOf (readLine rules 0 fresh (lineOf line) rest)
-      unfolding reading readingBy readFrom
+      unfolding readingBy readFrom
       survey-here = rw (le-leb (length text) textLimit short, ended, lines-at text 0 ended (ended-some text ended)) refl
 
       module _ (x : First) (told : firstSeen x ≡ firstOption (lineOf line)) where

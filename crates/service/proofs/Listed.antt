@@ -39,7 +39,7 @@ ended-by true false r ls s e = absurd (subst IsRead (sym e) tt)
 ended-by false ended r ls s e = absurd (subst IsRead (sym e) tt)
 
 pub read-ended : (list : List ℕ) (ls : List Line) (s : Known) → reading list ≡ read ls s → isEnded list ≡ true
-unfolding reading readingBy
+unfolding readingBy
 read-ended list ls s e = ended-by (leb (length list) textLimit) (isEnded list) (readFrom rules 0 fresh (linesOf list)) ls s e
 
 -- and not too long
@@ -51,7 +51,7 @@ short-by n ended r ls s e = by (leb n textLimit) refl e
     by false q f = absurd (subst IsRead (sym f) tt)
 
 pub read-short : (list : List ℕ) (ls : List Line) (s : Known) → reading list ≡ read ls s → length list ≤ textLimit
-unfolding reading readingBy
+unfolding readingBy
 read-short list ls s e = short-by (length list) (isEnded list) (readFrom rules 0 fresh (linesOf list)) ls s e
 
 -- ---- it is read in one way
