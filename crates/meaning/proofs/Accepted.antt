@@ -14,7 +14,7 @@ use Rattle.meaning.specs.Number.{inRange}
 use Rattle.meaning.specs.Line.{Line}
 use Rattle.meaning.specs.Known.{Known}
 use Rattle.meaning.specs.Row.{holds}
-use Rattle.meaning.specs.Refusal.{rules, testOrder, placeAmong, rank, onSome, Reading, refused, read, onReading, reading}
+use Rattle.meaning.specs.Refusal.{testOrder, placeAmong, rank, plain, onSome, Reading, refused, read, onReading, reading}
 use Rattle.meaning.specs.Work.{Worked, false-at, true-table, work}
 use Rattle.meaning.specs.Reply.{Reply, reply, firstFail, rowsOf, isCell, checked, checkReply, Making, filled, made, makeReply}
 use Rattle.meaning.specs.Desk.{isAccepted}
@@ -30,7 +30,7 @@ ranked-not-zero zero h = absurd (omega arith)
 ranked-not-zero (suc n) h = omega arith
 
 pub refused-not-zero : (text : List ℕ) (n i : ℕ) → reading text ≡ refused n i → 0 < n
-refused-not-zero text n i e = ranked-not-zero n (fits-ranked rules rules-in-order text n i (reads-exactly text .1 n i .0 e .0))
+refused-not-zero text n i e = ranked-not-zero n (fits-ranked plain rules-in-order text n i (reads-exactly text .1 n i .0 e .0))
 
 -- a list is read or refused
 module _ (text : List ℕ) {A : Type 0} (if-refused : (n i : ℕ) → reading text ≡ refused n i → A) (if-read : (ls : List Line) (s : Known) → reading text ≡ read ls s → A) where

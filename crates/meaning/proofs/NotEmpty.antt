@@ -64,15 +64,15 @@ lines-over p =
 abbrev column-of : List ℤ
 column-of = pos 2 ∷ pos 1 ∷ []
 
-over : (p : ℕ) → reading (listText (lines-over p)) ≡ read (lines-over p) (knownAfter fresh (lines-over p))
-    → knownAfter fresh (lines-over p) .p ≡ p
+over : (p : ℕ) → reading (listText (lines-over p)) ≡ read (lines-over p) (knownAfter after fresh (lines-over p))
+    → knownAfter after fresh (lines-over p) .p ≡ p
     → work (lines-over p) column-of ≡ true-table (valuesIn (work (lines-over p) column-of)) (cellsIn (work (lines-over p) column-of))
     → checkReply (listText (lines-over p)) (cellsIn (work (lines-over p) column-of)) ≡ reply 0 0 → HasTrueTable p
 unfolding computing occurs
 over p r o w a = record {
   text = listText (lines-over p);
   lines = lines-over p;
-  known = knownAfter fresh (lines-over p);
+  known = knownAfter after fresh (lines-over p);
   column = column-of;
   values = valuesIn (work (lines-over p) column-of);
   table = cellsIn (work (lines-over p) column-of);

@@ -8,7 +8,7 @@ use mathlib.Core.List.{List, [], _∷_, map}
 use lib.Dec.{T, leb}
 use lib.ListN.{length, getD, length-map}
 use Rattle.algebra.proofs.Test.{left, right, leb-iff}
-use Rattle.meaning.specs.Refusal.{Rule, testOrder, rank}
+use Rattle.meaning.specs.Refusal.{RuleOf, testOrder, rank}
 use Rattle.meaning.specs.Claims.{ruleAt}
 
 -- ---- the order
@@ -19,11 +19,11 @@ ascends from [] = leb from (length testOrder)
 ascends from (n ∷ ns) = leb from (rank n) && ascends (suc (rank n)) ns
 
 -- the numbers of all tests, where these are the rules
-unfoldable pub testsOf : List Rule → List ℕ
-testsOf rs = 1 ∷ 2 ∷ 3 ∷ map (λ (r : Rule). r .refusal) rs
+unfoldable pub testsOf : {S : Type 0} → List (RuleOf S) → List ℕ
+testsOf {S} rs = 1 ∷ 2 ∷ 3 ∷ map (λ (r : RuleOf S). r .refusal) rs
 
 -- with these rules, are the tests made in the order?
-unfoldable pub inOrder : List Rule → Bool
+unfoldable pub inOrder : {S : Type 0} → List (RuleOf S) → Bool
 inOrder rs = ascends 0 (testsOf rs)
 
 -- ---- numbers that ascend by rank
@@ -60,7 +60,7 @@ ranks-ascend from (n ∷ ns) t (suc j) (suc k) h i =
 
 -- ---- the tests
 
-module _ (rs : List Rule) where
+module _ {S : Type 0} (rs : List (RuleOf S)) where
   -- test k is that of refusal r
   pub record IsTest (k r : ℕ) : Type 0 where
     pub inside : k < length (testsOf rs)
@@ -80,9 +80,9 @@ module _ (rs : List Rule) where
 
   pub rule-test : (k : ℕ) → k < length rs → IsTest (suc (suc (suc k))) (ruleAt rs k .refusal)
   unfolding testsOf
-  rule-test k h = record { inside = omega (arith, length-map rs (λ (r : Rule). r .refusal)); number = refusal-at rs k }
+  rule-test k h = record { inside = omega (arith, length-map rs (λ (r : RuleOf S). r .refusal)); number = refusal-at rs k }
     where
-      refusal-at : (rs : List Rule) (k : ℕ) → ruleAt rs k .refusal ≡ getD (map (λ (r : Rule). r .refusal) rs) k 0
+      refusal-at : (rs : List (RuleOf S)) (k : ℕ) → ruleAt rs k .refusal ≡ getD (map (λ (r : RuleOf S). r .refusal) rs) k 0
       refusal-at [] k = refl
       refusal-at (r ∷ rs) zero = refl
       refusal-at (r ∷ rs) (suc k) = refusal-at rs k

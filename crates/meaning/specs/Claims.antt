@@ -17,7 +17,7 @@ use Rattle.meaning.specs.Known.{Ends, Known, fresh, digitRule}
 use Rattle.meaning.specs.Row.{Form, eval, among, holds, group}
 use Rattle.meaning.specs.Gadget.Digits.{groupCells}
 use Rattle.meaning.specs.Meaning.{gadget, after}
-use Rattle.meaning.specs.Refusal.{textLimit, Rule, rule, rules, rank, refused, read, readingBy, reading}
+use Rattle.meaning.specs.Refusal.{textLimit, RuleOf, rule, rank, Way, plain, refused, read, readingBy, reading}
 use Rattle.meaning.specs.Work.{false-at, true-table, work}
 use Rattle.meaning.specs.Reply.{Reply, reply, rowsOf, checkReply, makeReply}
 use Rattle.meaning.specs.Desk.{Desk, called, freshDesk, fullCount, isAccepted, deskCall, Call, deskAfter, deskReplies}
@@ -27,39 +27,39 @@ use Rattle.meaning.specs.Desk.{Desk, called, freshDesk, fullCount, isAcc
 unfoldable pub lineAt : (text : List ℕ) (line : ℕ) → List ℕ
 lineAt text n = getD (linesOf text) n []
 
-unfoldable pub afterBytes : Known → Option Line → Known
-afterBytes s none = s
-afterBytes s (some l) = after s l
+unfoldable pub afterBytes : {S : Type 0} → (S → Line → S) → S → Option Line → S
+afterBytes next s none = s
+afterBytes next s (some l) = next s l
 
 -- what is known before line n, if the lines before it are read
-unfoldable pub knownBefore : Known → List (List ℕ) → (n : ℕ) → Known
-knownBefore s bs ℕ.zero = s
-knownBefore s [] (ℕ.suc n) = s
-knownBefore s (b ∷ bs) (ℕ.suc n) = knownBefore (afterBytes s (lineOf b)) bs n
+unfoldable pub knownBefore : {S : Type 0} → (S → Line → S) → S → List (List ℕ) → (n : ℕ) → S
+knownBefore next s bs ℕ.zero = s
+knownBefore next s [] (ℕ.suc n) = s
+knownBefore next s (b ∷ bs) (ℕ.suc n) = knownBefore next (afterBytes next s (lineOf b)) bs n
 
 -- the rule at a place of a table, and one that stands for none of them
-abbrev pub noRule : Rule
+abbrev pub noRule : {S : Type 0} → RuleOf S
 noRule = rule 0 (λ n s l. true)
 
-abbrev pub ruleAt : List Rule → ℕ → Rule
+abbrev pub ruleAt : {S : Type 0} → List (RuleOf S) → ℕ → RuleOf S
 ruleAt rs k = getD rs k noRule
 
 -- a refusal from 3 on fits line n, in state s, that has these bytes
-pub data FitsLine (rs : List Rule) (n : ℕ) (s : Known) (bytes : List ℕ) (number : ℕ) : Type 0 where
+pub data FitsLine {S : Type 0} (rs : List (RuleOf S)) (n : ℕ) (s : S) (bytes : List ℕ) (number : ℕ) : Type 0 where
   no-line : number ≡ 3 → lineOf bytes ≡ none → FitsLine rs n s bytes number
   breaks : (k : ℕ) (l : Line) → k < length rs → number ≡ ruleAt rs k .refusal → lineOf bytes ≡ some l
       → ¬ T (ruleAt rs k .keeps n s l) → FitsLine rs n s bytes number
 
--- a row of the table of refusals fits the text at a place, where it is read by these rules
-pub data FitsBy (rs : List Rule) (text : List ℕ) (number place : ℕ) : Type 0 where
-  too-long : number ≡ 1 → place ≡ 0 → textLimit < length text → FitsBy rs text number place
-  not-ended : number ≡ 2 → place ≡ 0 → ¬ T (isEnded text) → FitsBy rs text number place
+-- a row of the table of refusals fits the text at a place, where it is read in this way
+pub data FitsBy {S : Type 0} (w : Way S) (text : List ℕ) (number place : ℕ) : Type 0 where
+  too-long : number ≡ 1 → place ≡ 0 → textLimit < length text → FitsBy w text number place
+  not-ended : number ≡ 2 → place ≡ 0 → ¬ T (isEnded text) → FitsBy w text number place
   in-line : place < length (linesOf text)
-      → FitsLine rs place (knownBefore fresh (linesOf text) place) (lineAt text place) number → FitsBy rs text number place
+      → FitsLine (w .rules) place (knownBefore (w .next) (w .start) (linesOf text) place) (lineAt text place) number → FitsBy w text number place
 
 -- 1 to 12
 abbrev pub Fits : (text : List ℕ) (number place : ℕ) → Type 0
-Fits text number place = FitsBy rules text number place
+Fits text number place = FitsBy plain text number place
 
 -- by place, then in the order of the tests: 1 and 2 have place 0
 abbrev pub Before : (number place number′ place′ : ℕ) → Type 0
@@ -69,22 +69,22 @@ Before n i n′ i′ = (i < i′) ⊎ ((i ≡ i′) × (rank n < rank n′))
 abbrev pub Spells : List ℕ → List Line → Type 0
 Spells text ls = map lineOf (linesOf text) ≡ map some ls
 
-unfoldable pub knownAfter : Known → List Line → Known
-knownAfter s [] = s
-knownAfter s (l ∷ ls) = knownAfter (after s l) ls
+unfoldable pub knownAfter : {S : Type 0} → (S → Line → S) → S → List Line → S
+knownAfter next s [] = s
+knownAfter next s (l ∷ ls) = knownAfter next (next s l) ls
 
 -- a list is read exactly when no refusal fits it, and a refusal that is replied is the first that fits
-abbrev pub ReadsExactlyBy : List Rule → Type 0
-ReadsExactlyBy rs =
+abbrev pub ReadsExactlyBy : {S : Type 0} → Way S → Type 0
+ReadsExactlyBy {S} w =
     (text : List ℕ) →
-    (((ls : List Line) × (s : Known) × (readingBy rs text ≡ read ls s)) ↔ ((number place : ℕ) → ¬ FitsBy rs text number place))
-    × ((number place : ℕ) → readingBy rs text ≡ refused number place ↔
-    (FitsBy rs text number place × ((n i : ℕ) → Before n i number place → ¬ FitsBy rs text n i)))
-    × ((ls : List Line) (s : Known) → readingBy rs text ≡ read ls s → Spells text ls × (s ≡ knownAfter fresh ls))
+    (((ls : List Line) × (s : S) × (readingBy w text ≡ read ls s)) ↔ ((number place : ℕ) → ¬ FitsBy w text number place))
+    × ((number place : ℕ) → readingBy w text ≡ refused number place ↔
+    (FitsBy w text number place × ((n i : ℕ) → Before n i number place → ¬ FitsBy w text n i)))
+    × ((ls : List Line) (s : S) → readingBy w text ≡ read ls s → Spells text ls × (s ≡ knownAfter (w .next) (w .start) ls))
 
 -- demand 2: "A list is read exactly when none of 01's refusals fits it"
 abbrev pub ReadsExactly : Type 0
-ReadsExactly = ReadsExactlyBy rules
+ReadsExactly = ReadsExactlyBy plain
 
 -- ---- rows
 

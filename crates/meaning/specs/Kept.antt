@@ -9,8 +9,8 @@ use lib.ListN.{length}
 use Rattle.meaning.specs.Number.{OddPrime}
 use Rattle.meaning.specs.Line.{Line, namesOf}
 use Rattle.meaning.specs.Known.{Known, fresh, Ranged}
-use Rattle.meaning.specs.Meaning.{gadget, after}
-use Rattle.meaning.specs.Refusal.{valueLimit, cellLimit, all, isPlaced, isOverPrime, isRanged, isMade, Rule, rules, firstBroken}
+use Rattle.meaning.specs.Meaning.{gadget}
+use Rattle.meaning.specs.Refusal.{valueLimit, cellLimit, all, isPlaced, isOverPrime, isRanged, isMade, firstBroken, Way, plain}
 
 -- what the table of rules asks of line n, in state s: a field for each rule
 pub record Keeps (n : ℕ) (s : Known) (l : Line) : Type 0 where
@@ -24,13 +24,13 @@ pub record Keeps (n : ℕ) (s : Known) (l : Line) : Type 0 where
   pub fits : T (gadget s l .fits)
   pub overlaps : T (gadget s l .overlaps)
 
--- all lines keep these rules, from line n in state s to state s′
-abbrev pub KeptBy : List Rule → (n : ℕ) (s : Known) (ls : List Line) (s′ : Known) → Type 0
-KeptBy rs n s [] s′ = s ≡ s′
-KeptBy rs n s (l ∷ ls) s′ = (firstBroken rs n s l ≡ none) × KeptBy rs (suc n) (after s l) ls s′
+-- all lines keep the rules of this way of reading, from line n in state s to state s′
+abbrev pub KeptBy : {S : Type 0} → Way S → (n : ℕ) (s : S) (ls : List Line) (s′ : S) → Type 0
+KeptBy w n s [] s′ = s ≡ s′
+KeptBy w n s (l ∷ ls) s′ = (firstBroken (w .rules) n s l ≡ none) × KeptBy w (suc n) (w .next s l) ls s′
 
 abbrev pub Kept : (n : ℕ) (s : Known) (ls : List Line) (s′ : Known) → Type 0
-Kept n s ls s′ = KeptBy rules n s ls s′
+Kept n s ls s′ = KeptBy plain n s ls s′
 
 -- what is known before line n: nothing before line 0, and then a prime and ends in its signed range
 pub record Sound (n : ℕ) (s : Known) : Type 0 where

@@ -102,12 +102,15 @@ isMade n v = nonNeg v && ltb (natAbs v) n
 
 -- ---- the rules
 
--- a rule that each line has to keep, and the refusal of one that does not
-pub record Rule : Type 0 where
+-- a rule that each line has to keep, by what is known before it, and the refusal of one that does not
+pub record RuleOf (S : Type 0) : Type 0 where
   pub refusal : ℕ
-  pub keeps : (line : ℕ) → Known → Line → Bool
+  pub keeps : (line : ℕ) → S → Line → Bool
 
-abbrev pub rule : ℕ → (ℕ → Known → Line → Bool) → Rule
+abbrev pub Rule : Type 0
+Rule = RuleOf Known
+
+abbrev pub rule : {S : Type 0} → ℕ → (ℕ → S → Line → Bool) → RuleOf S
 rule r f = record { refusal = r; keeps = f }
 
 -- the ordered table, after refusal 3 (a line that spells nothing), for a list that may have so many cells; `before9` are rules that are
@@ -132,7 +135,7 @@ rulesWithin cells = rulesWith [] cells
 unfoldable pub rules : List Rule
 rules = rulesWithin cellLimit
 
-unfoldable pub firstBroken : List Rule → ℕ → Known → Line → Option ℕ
+unfoldable pub firstBroken : {S : Type 0} → List (RuleOf S) → ℕ → S → Line → Option ℕ
 firstBroken [] n s l = none
 firstBroken (r ∷ rs) n s l = cond (r .keeps n s l) (firstBroken rs n s l) (some (r .refusal))
 
@@ -152,33 +155,49 @@ rank n = placeAmong testOrder n
 
 -- ---- reading
 
--- a list that is read, its lines and what is known at its end; or its refusal and place
-pub data Reading : Type 0 where
-  refused : (number place : ℕ) → Reading
-  read : List Line → Known → Reading
+-- a way of reading: what is known before line 0, what is known after a line that is not refused, and the rules
+pub record Way (S : Type 0) : Type 0 where
+  pub start : S
+  pub next : S → Line → S
+  pub rules : List (RuleOf S)
 
-unfoldable pub onReading : {A : Type 0} → Reading → (refused : (number place : ℕ) → A) → (read : List Line → Known → A) → A
+-- document 01's way, by these rules
+abbrev pub wayBy : List Rule → Way Known
+wayBy rs = record { start = fresh; next = after; rules = rs }
+
+abbrev pub plain : Way Known
+plain = wayBy rules
+
+-- a list that is read, its lines and what is known at its end; or its refusal and place
+pub data ReadingOf (S : Type 0) : Type 0 where
+  refused : (number place : ℕ) → ReadingOf S
+  read : List Line → S → ReadingOf S
+
+abbrev pub Reading : Type 0
+Reading = ReadingOf Known
+
+unfoldable pub onReading : {S A : Type 0} → ReadingOf S → (refused : (number place : ℕ) → A) → (read : List Line → S → A) → A
 onReading (refused r n) f g = f r n
 onReading (read ls s) f g = g ls s
 
-unfoldable pub consLine : Line → Reading → Reading
+unfoldable pub consLine : {S : Type 0} → Line → ReadingOf S → ReadingOf S
 consLine l (refused r n) = refused r n
 consLine l (read ls s) = read (l ∷ ls) s
 
 -- line n in state s, before the rest; the rest waits, so that a refused line is the last one looked at
-unfoldable pub readLine : List Rule → ℕ → Known → Option Line → (Known → Reading) → Reading
-readLine rs n s none rest = refused 3 n
-readLine rs n s (some l) rest = onSome (firstBroken rs n s l) (λ r. refused r n) (consLine l (rest (after s l)))
+unfoldable pub readLine : {S : Type 0} → Way S → ℕ → S → Option Line → (S → ReadingOf S) → ReadingOf S
+readLine w n s none rest = refused 3 n
+readLine w n s (some l) rest = onSome (firstBroken (w .rules) n s l) (λ r. refused r n) (consLine l (rest (w .next s l)))
 
 -- "then lines in order, in a line by number"
-unfoldable pub readFrom : List Rule → ℕ → Known → List (List ℕ) → Reading
-readFrom rs n s [] = read [] s
-readFrom rs n s (b ∷ bs) = readLine rs n s (lineOf b) (λ s′. readFrom rs (suc n) s′ bs)
+unfoldable pub readFrom : {S : Type 0} → Way S → ℕ → S → List (List ℕ) → ReadingOf S
+readFrom w n s [] = read [] s
+readFrom w n s (b ∷ bs) = readLine w n s (lineOf b) (λ s′. readFrom w (suc n) s′ bs)
 
 -- "1 and 2 come first"
-unfoldable pub readingBy : List Rule → List ℕ → Reading
-readingBy rs text =
-    cond (leb (length text) textLimit) (cond (isEnded text) (readFrom rs 0 fresh (linesOf text)) (refused 2 0)) (refused 1 0)
+unfoldable pub readingBy : {S : Type 0} → Way S → List ℕ → ReadingOf S
+readingBy w text =
+    cond (leb (length text) textLimit) (cond (isEnded text) (readFrom w 0 (w .start) (linesOf text)) (refused 2 0)) (refused 1 0)
 
 abbrev pub reading : List ℕ → Reading
-reading text = readingBy rules text
+reading text = readingBy plain text

@@ -6,7 +6,7 @@ use native.Mathlib.Omega.{arith}
 use Rattle.meaning.specs.Line.{Line}
 use Rattle.meaning.specs.Known.{Known, fresh}
 use Rattle.meaning.specs.Meaning.{after}
-use Rattle.meaning.specs.Refusal.{Reading, refused, read, onSome, onReading, isPlaced, rulesWith, rulesWithin, rules, firstBroken, consLine, readLine}
+use Rattle.meaning.specs.Refusal.{Reading, refused, read, onSome, onReading, isPlaced, rulesWith, rulesWithin, rules, firstBroken, plain, consLine, readLine}
 use Rattle.reader.specs.Step.{Step, stops, goes, stepOf, stepOption}
 use Rattle.reader.specs.Read.{firstOption, refusedAt, surveyOf}
 
@@ -62,13 +62,13 @@ module _ (n : ℕ) (s : Known) (rest : Known → Reading) where
   gone-by none l a b e = (refl, ap knownIn e, survey-cons l (rest a) ∙ ap (λ (z : Known). surveyOf (rest z)) (sym (ap knownIn e)))
   gone-by (some q) l a b e = absurd (subst Goes e tt)
 
-  pub stopped-at : (o : Option Line) (r : ℕ) → stops r ≡ stepAt n s o → surveyOf (readLine rules n s o rest) ≡ refusedAt r n
+  pub stopped-at : (o : Option Line) (r : ℕ) → stops r ≡ stepAt n s o → surveyOf (readLine plain n s o rest) ≡ refusedAt r n
   unfolding stepAt readLine surveyOf onReading
   stopped-at none r e = ap (λ (i : ℕ). refusedAt i n) (sym (ap numberIn e))
   stopped-at (some l) r e = stopped-by (firstBroken rules n s l) l r (after s l) e
 
   pub gone-at : (o : Option Line) (b : Known) → goes b ≡ stepAt n s o
-      → (l : Line) × (firstBroken rules n s l ≡ none) × (b ≡ after s l) × (surveyOf (readLine rules n s o rest) ≡ surveyOf (rest b))
+      → (l : Line) × (firstBroken rules n s l ≡ none) × (b ≡ after s l) × (surveyOf (readLine plain n s o rest) ≡ surveyOf (rest b))
   unfolding stepAt readLine
   gone-at none b e = absurd (subst Goes e tt)
   gone-at (some l) b e = let g = gone-by (firstBroken rules n s l) l (after s l) b e in (l, g .0, g .1, g .2)

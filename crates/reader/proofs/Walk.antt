@@ -18,7 +18,7 @@ use Rattle.meaning.specs.Text.{isEnded}
 use Rattle.meaning.specs.Line.{Line, lineOf}
 use Rattle.meaning.specs.Known.{Known, Ranged}
 use Rattle.meaning.specs.Meaning.{gadget, after}
-use Rattle.meaning.specs.Refusal.{valueLimit, cellLimit, Reading, onReading, rules, firstBroken, readLine, readFrom}
+use Rattle.meaning.specs.Refusal.{valueLimit, cellLimit, Reading, onReading, rules, firstBroken, plain, readLine, readFrom}
 use Rattle.meaning.specs.Kept.{Keeps, Sound}
 use Rattle.meaning.proofs.Kept.{keeps-all}
 use Rattle.meaning.proofs.Lines.{sound-after}
@@ -47,7 +47,7 @@ pub record Walked (list : List ℕ) (start p : ℕ) (numbers lows highs : List �
   pub places-long : length places ≡ valueLimit
   pub sound : Sound n (stateOf p c lows highs places)
   pub ordered : Ordered (stateOf p c lows highs places .known)
-  pub survey-left : surveyOf (readFrom rules 1 (only p) (linesFrom list start)) ≡ surveyOf (readFrom rules n (stateOf p c lows highs places) (linesFrom list at))
+  pub survey-left : surveyOf (readFrom plain 1 (only p) (linesFrom list start)) ≡ surveyOf (readFrom plain n (stateOf p c lows highs places) (linesFrom list at))
 
 -- ---- the ends fit the arrays
 
@@ -133,7 +133,7 @@ walk-start list start p numbers lows highs places h k odd n l m o = record {
 module _ {list : List ℕ} {start p : ℕ} {numbers lows highs : List ℤ} {places : List ℕ} {c : Counts} {at n : ℕ}
     (w : Walked list start p numbers lows highs places c at n) where
   pub walk-end : length list ≤ at
-      → counted p (c .values) (c .inputs) (c .cells) (c .rows) ≡ surveyOf (readFrom rules 1 (only p) (linesFrom list start))
+      → counted p (c .values) (c .inputs) (c .cells) (c .rows) ≡ surveyOf (readFrom plain 1 (only p) (linesFrom list start))
   unfolding surveyOf readFrom onReading stateOf
   walk-end h = sym (w .survey-left ∙ rw (lines-none list at h) (ap (λ (v : ℕ). counted p v (c .inputs) (c .cells) (c .rows)) (known-count p c lows highs places (w .sized))))
 
@@ -142,15 +142,15 @@ module _ {list : List ℕ} {start p : ℕ} {numbers lows highs : List ℤ} {plac
     line = lineAt list at
 
     abbrev rest : Known → Reading
-    rest z = readFrom rules (suc n) z (linesFrom list (endOf list at + 1))
+    rest z = readFrom plain (suc n) z (linesFrom list (endOf list at + 1))
 
-    survey-here : surveyOf (readFrom rules 1 (only p) (linesFrom list start)) ≡ surveyOf (readLine rules n (state p c lows highs places (w .sized)) (lineOf line) rest)
+    survey-here : surveyOf (readFrom plain 1 (only p) (linesFrom list start)) ≡ surveyOf (readLine plain n (state p c lows highs places (w .sized)) (lineOf line) rest)
     unfolding readFrom
     survey-here = w .survey-left ∙ rw (lines-at list at ended h) refl
 
     pub walk-stopped : (x : Stepped) (r : ℕ) (ls hs : List ℤ) (ps : List ℕ) → x ≡ Refused r
         → stepSeen p x ls hs ps ≡ stepBytes (stateOf p c lows highs places) line
-        → refusedAt r n ≡ surveyOf (readFrom rules 1 (only p) (linesFrom list start))
+        → refusedAt r n ≡ surveyOf (readFrom plain 1 (only p) (linesFrom list start))
     unfolding stepSeen stepBytes
     walk-stopped x r ls hs ps is e =
         let stopped : stepSeen p (Refused r) ls hs ps ≡ stepBytes (stateOf p c lows highs places) line = ap (λ (y : Stepped). stepSeen p y ls hs ps) (sym is) ∙ e in
@@ -170,7 +170,7 @@ module _ {list : List ℕ} {start p : ℕ} {numbers lows highs : List ℤ} {plac
       unfolding valuesIn
       few-values = subst (λ (y : Stepped). valuesIn y ≤ valueLimit) is few-in
 
-      gone : (l : Line) × (firstBroken rules n s l ≡ none) × (t ≡ after s l) × (surveyOf (readLine rules n s (lineOf line) rest) ≡ surveyOf (rest t))
+      gone : (l : Line) × (firstBroken rules n s l ≡ none) × (t ≡ after s l) × (surveyOf (readLine plain n s (lineOf line) rest) ≡ surveyOf (rest t))
       unfolding stepSeen stepBytes
       gone = gone-at n s rest (lineOf line) t (ap (λ (y : Stepped). stepSeen p y ls hs ps) (sym is) ∙ e ∙ step-later n (w .later) s (lineOf line))
 
@@ -207,5 +207,5 @@ module _ {list : List ℕ} {start p : ℕ} {numbers lows highs : List ℤ} {plac
         places-long = places-long ∙ w .places-long;
         sound = rw (add-one n) (subst (λ (z : Known). Sound (suc n) z) (sym (gone .2)) (sound-after n s (gone .0) (w .sound) keeps));
         ordered = subst (λ (z : Known). Ordered (z .known)) (sym (gone .2)) (ordered-after n s (gone .0) keeps (w .ordered));
-        survey-left = survey-here ∙ gone .3 ∙ ap (λ (i : ℕ). surveyOf (readFrom rules i t (linesFrom list (endOf list at + 1)))) (sym (add-one n));
+        survey-left = survey-here ∙ gone .3 ∙ ap (λ (i : ℕ). surveyOf (readFrom plain i t (linesFrom list (endOf list at + 1)))) (sym (add-one n));
       }

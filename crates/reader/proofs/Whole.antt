@@ -11,7 +11,7 @@ use Rattle.meaning.specs.Text.{isEnded}
 use Rattle.meaning.specs.Line.{Line, lineOf}
 use Rattle.meaning.specs.Known.{Known, fresh}
 use Rattle.meaning.specs.Meaning.{after}
-use Rattle.meaning.specs.Refusal.{textLimit, Reading, onReading, rules, firstBroken, readLine, readFrom, readingBy, reading}
+use Rattle.meaning.specs.Refusal.{textLimit, Reading, onReading, rules, firstBroken, plain, readLine, readFrom, readingBy, reading}
 use Rattle.meaning.specs.Number.{OddPrime}
 use Rattle.meaning.proofs.Kept.{keeps-all}
 use Rattle.meaning.proofs.Lines.{sound-after, sound-fresh}
@@ -45,9 +45,9 @@ module _ (text : List ℕ) where
       first-within = in-line text ended 0 (ended-some text ended) .inside
 
       abbrev rest : Known → Reading
-      rest z = readFrom rules 1 z (linesFrom text (endOf text 0 + 1))
+      rest z = readFrom plain 1 z (linesFrom text (endOf text 0 + 1))
 
-      survey-here : surveyOf (reading text) ≡ surveyOf (readLine rules 0 fresh (lineOf line) rest)
+      survey-here : surveyOf (reading text) ≡ surveyOf (readLine plain 0 fresh (lineOf line) rest)
       unfolding readingBy readFrom
       survey-here = rw (le-leb (length text) textLimit short, ended, lines-at text 0 ended (ended-some text ended)) refl
 
@@ -58,7 +58,7 @@ module _ (text : List ℕ) where
             sym (survey-here ∙ stopped-at 0 fresh rest (lineOf line) n (ap firstSeen (sym is) ∙ told ∙ step-first (lineOf line)))
 
         module _ (p : ℕ) {next : ℕ} (is : x ≡ Prime p next) where
-          gone : (l : Line) × (firstBroken rules 0 fresh l ≡ none) × (only p ≡ after fresh l) × (surveyOf (readLine rules 0 fresh (lineOf line) rest) ≡ surveyOf (rest (only p)))
+          gone : (l : Line) × (firstBroken rules 0 fresh l ≡ none) × (only p ≡ after fresh l) × (surveyOf (readLine plain 0 fresh (lineOf line) rest) ≡ surveyOf (rest (only p)))
           unfolding firstSeen
           gone = gone-at 0 fresh rest (lineOf line) (only p) (ap firstSeen (sym is) ∙ told ∙ step-first (lineOf line))
 
@@ -69,5 +69,5 @@ module _ (text : List ℕ) where
               let sound = sound-after 0 fresh l sound-fresh (keeps-all 0 fresh l (gone .1)) in
               subst OddPrime (sym (ap (λ (z : Known). z .p) (gone .2))) (sound .prime (omega arith))
 
-          pub survey-after : surveyOf (readFrom rules 1 (only p) (linesFrom text (endOf text 0 + 1))) ≡ surveyOf (reading text)
+          pub survey-after : surveyOf (readFrom plain 1 (only p) (linesFrom text (endOf text 0 + 1))) ≡ surveyOf (reading text)
           survey-after = sym (survey-here ∙ gone .3)

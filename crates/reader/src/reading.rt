@@ -13,7 +13,7 @@ ghost use lib.ListN.{length};
 ghost use Rattle.meaning.specs.Line.{lineOf};
 ghost use mathlib.Core.Bool.{true};
 ghost use Rattle.meaning.specs.Text.{isEnded};
-ghost use Rattle.meaning.specs.Refusal.{isField, rules, readFrom, reading};
+ghost use Rattle.meaning.specs.Refusal.{isField, plain, readFrom, reading};
 ghost use Rattle.meaning.specs.Number.{OddPrime};
 ghost use Rattle.text.specs.Place.{lineAt, linesFrom};
 ghost use Rattle.meaning.specs.Reply.{readReply};
@@ -114,7 +114,7 @@ pub fn survey(list: &[u8]) -> Surveyed
 fn survey_from(list: &[u8], start: usize, p: u32, numbers: &mut [i64]) -> Surveyed
     requires { ⌜ (isEnded (now list) ≡ true) × (1 ≤ start) × (start ≤ length (now list)) × OddPrime p × (p ≤ greatest)
         × (length (now numbers) ≡ mostNumbers) ⌝ }
-    ensures told { λ r. ⌜ surveySeen r ≡ surveyOf (readFrom rules 1 (only p) (linesFrom (now (list .entry)) start)) ⌝ }
+    ensures told { λ r. ⌜ surveySeen r ≡ surveyOf (readFrom plain 1 (only p) (linesFrom (now (list .entry)) start)) ⌝ }
     ensures prime { λ r. ⌜ PrimeFound r ⌝ }
 {
     let mut lows: [i64; 256] = [0; 256];

@@ -13,7 +13,7 @@ use Rattle.algebra.proofs.Test.{≡-test}
 use Rattle.meaning.specs.Number.{inRange}
 use Rattle.meaning.specs.Line.{Line}
 use Rattle.meaning.specs.Known.{Known, fresh}
-use Rattle.meaning.specs.Refusal.{rules, testOrder, placeAmong, rank, onSome, Reading, refused, read, onReading, reading}
+use Rattle.meaning.specs.Refusal.{testOrder, placeAmong, rank, plain, onSome, Reading, refused, read, onReading, reading}
 use Rattle.meaning.specs.Work.{Worked, false-at, true-table, work}
 use Rattle.meaning.specs.Reply.{reply, firstFail, Making, making, filled, made, makeReply, checkReply}
 use Rattle.meaning.specs.Reply.{Reply as Meant}

@@ -10,7 +10,7 @@ use Rattle.algebra.proofs.Test.{≡-test}
 use Rattle.meaning.specs.Text.{linesOf, isEnded}
 use Rattle.meaning.specs.Line.{Line}
 use Rattle.meaning.specs.Known.{Known, fresh}
-use Rattle.meaning.specs.Refusal.{textLimit, rules, Reading, refused, read, onReading, readFrom, readingBy, reading}
+use Rattle.meaning.specs.Refusal.{textLimit, plain, Reading, refused, read, onReading, readFrom, readingBy, reading}
 use Rattle.meaning.specs.Number.{OddPrime}
 use Rattle.reader.specs.State.{greatest}
 use Rattle.reader.specs.Read.{Survey, counted, refusedAt, surveyOf, surveySeen, PrimeFound}
@@ -40,7 +40,7 @@ ended-by false ended r ls s e = absurd (subst IsRead (sym e) tt)
 
 pub read-ended : (list : List ℕ) (ls : List Line) (s : Known) → reading list ≡ read ls s → isEnded list ≡ true
 unfolding readingBy
-read-ended list ls s e = ended-by (leb (length list) textLimit) (isEnded list) (readFrom rules 0 fresh (linesOf list)) ls s e
+read-ended list ls s e = ended-by (leb (length list) textLimit) (isEnded list) (readFrom plain 0 fresh (linesOf list)) ls s e
 
 -- and not too long
 short-by : (n : ℕ) (ended : Bool) (r : Reading) (ls : List Line) (s : Known) → cond (leb n textLimit) (cond ended r (refused 2 0)) (refused 1 0) ≡ read ls s → n ≤ textLimit
@@ -52,7 +52,7 @@ short-by n ended r ls s e = by (leb n textLimit) refl e
 
 pub read-short : (list : List ℕ) (ls : List Line) (s : Known) → reading list ≡ read ls s → length list ≤ textLimit
 unfolding readingBy
-read-short list ls s e = short-by (length list) (isEnded list) (readFrom rules 0 fresh (linesOf list)) ls s e
+read-short list ls s e = short-by (length list) (isEnded list) (readFrom plain 0 fresh (linesOf list)) ls s e
 
 -- ---- it is read in one way
 
