@@ -5,13 +5,13 @@ use native.Mathlib.Numerals.{unary-clauses}
 use mathlib.Core.Path.{_≡_, refl, sym, ap, _∙_}
 use mathlib.Core.Bool.{Bool, true, false, not}
 use mathlib.Core.Logic.{inl, inr}
-use mathlib.Core.List.{List}
 use lib.Dec.{eqb, leb}
 use borrow.Author.Tests.{not-true, not-false, lt-leb, eq-eqb, ne-eqb, eqb-true, eqb-false}
-use Rattle.meaning.specs.Reply.{reply, checkReply}
-use Rattle.meaning.specs.Desk.{counted, called, fullCount, isAccepted, raised, deskCall}
+use Rattle.meaning.specs.Reply.{reply}
+use Rattle.meaning.specs.Reply.{Reply as MeantReply}
+use Rattle.meaning.specs.Desk.{counted, called, fullCount, isAccepted, raised, deskAnswer}
 use Rattle.meaning.specs.Desk.{Desk as MeantDesk, Called as MeantCalled}
-use Rattle.meaning.proofs.Desk.{stays-full}
+use Rattle.meaning.proofs.Desk.{answers-full, answers-by-check}
 use Rattle.service.specs.Reply.{replySeen}
 use Rattle.service.specs.declared.reply.Reply.{Reply}
 use Rattle.desk.specs.declared.Desk.{Desk}
@@ -48,23 +48,22 @@ module _ (d : Desk) (t : Bool) (is : t ≡ eqb (d .heard) (d .accepted + d .refu
   pub tested-agrees : not t ≡ false → Agrees d
   tested-agrees e = eqb-true _ _ (sym is ∙ not-false t e)
 
-  pub call-disagrees : (list table : List ℕ) → not t ≡ true → deskCall (deskSeen d) list table ≡ called (deskSeen d) (reply 19 0)
-  unfolding deskSeen deskCall
-  call-disagrees list table e = rw (sym is, not-true t e) refl
+  pub call-disagrees : (checked : MeantReply) → not t ≡ true → deskAnswer (deskSeen d) checked ≡ called (deskSeen d) (reply 19 0)
+  unfolding deskSeen deskAnswer
+  call-disagrees checked e = rw (sym is, not-true t e) refl
 
-module _ (d : Desk) (list table : List ℕ) (agrees : Agrees d) where
-  pub call-full : d .heard ≡ fullCount → deskCall (deskSeen d) list table ≡ called (deskSeen d) (reply 20 0)
+module _ (d : Desk) (checked : MeantReply) (agrees : Agrees d) where
+  pub call-full : d .heard ≡ fullCount → deskAnswer (deskSeen d) checked ≡ called (deskSeen d) (reply 20 0)
   unfolding deskSeen
-  call-full full = stays-full (deskSeen d) agrees full list table
+  call-full full = answers-full (deskSeen d) checked agrees full
 
-  call-with-room : (d .heard ≡ fullCount → ⊥)
-      → deskCall (deskSeen d) list table ≡ called (raised (deskSeen d) (checkReply list table)) (checkReply list table)
-  unfolding deskSeen deskCall
-  call-with-room room = rw (eq-eqb (d .heard) (d .accepted + d .refused) agrees, ne-eqb (d .heard) fullCount room) refl
+  call-with-room : (d .heard ≡ fullCount → ⊥) → deskAnswer (deskSeen d) checked ≡ called (raised (deskSeen d) checked) checked
+  unfolding deskSeen
+  call-with-room room = answers-by-check (deskSeen d) checked agrees room
 
   pub call-counted : (d .heard ≡ fullCount → ⊥) → (c : Called)
-      → deskSeen (c .desk) ≡ raised (deskSeen d) (replySeen (c .reply)) → replySeen (c .reply) ≡ checkReply list table
-      → calledSeen c ≡ deskCall (deskSeen d) list table
+      → deskSeen (c .desk) ≡ raised (deskSeen d) (replySeen (c .reply)) → replySeen (c .reply) ≡ checked
+      → calledSeen c ≡ deskAnswer (deskSeen d) checked
   unfolding calledSeen
   call-counted room c raises checks = rw (call-with-room room, raises, checks) refl
 
@@ -87,12 +86,12 @@ one-more d c agrees e = by-test (eqb (c .reply .number) 0) refl
         let q = same-counts (e ∙ sym (raise-refused d (c .reply) other)) in
         record { agrees = omega (arith, q, agrees); heard = q .0; one-other = inr (other, q .1, q .2) }
 
-pub in-plain-words : (d : Desk) (list table : List ℕ) (c : Called) → calledSeen c ≡ deskCall (deskSeen d) list table
-    → (calledSeen c ≡ deskCall (deskSeen d) list table) × (Agrees d → d .heard < fullCount → CountsOne d c)
+pub in-plain-words : (d : Desk) (checked : MeantReply) (c : Called) → calledSeen c ≡ deskAnswer (deskSeen d) checked
+    → (calledSeen c ≡ deskAnswer (deskSeen d) checked) × (Agrees d → d .heard < fullCount → CountsOne d c)
 unfolding calledSeen
-in-plain-words d list table c e = (e, λ agrees room. one-more d c agrees (raises agrees room))
+in-plain-words d checked c e = (e, λ agrees room. one-more d c agrees (raises agrees room))
   where
     raises : Agrees d → d .heard < fullCount → deskSeen (c .desk) ≡ raised (deskSeen d) (replySeen (c .reply))
     raises agrees room =
-        let q = e ∙ call-with-room d list table agrees (λ full. omega arith) in
+        let q = e ∙ call-with-room d checked agrees (λ full. omega arith) in
         ap (λ (k : MeantCalled). k .desk) q ∙ ap (raised (deskSeen d)) (sym (ap (λ (k : MeantCalled). k .answer) q))

@@ -2,7 +2,7 @@
 use mathlib.Core.Path.{_≡_, refl, sym, ap, ap₂, _∙_}
 use mathlib.Core.List.{List, [], _∷_, map}
 use Rattle.meaning.specs.Reply.{Reply as MeantReply}
-use Rattle.meaning.specs.Desk.{freshDesk, fullCount, Call, deskAfter, deskReplies, deskCall}
+use Rattle.meaning.specs.Desk.{freshDesk, fullCount, deskAnswer, Call, checkOf, deskOver, answersOver, deskAfter, deskReplies}
 use Rattle.meaning.specs.Desk.{Desk as MeantDesk, Called as MeantCalled}
 use Rattle.meaning.proofs.Desk.{counts}
 use Rattle.service.specs.Reply.{replySeen}
@@ -16,12 +16,12 @@ use Rattle.desk.proofs.Calling.{call-full}
 -- ---- a run of the code is one of the definitions
 
 desk-of-run : {d : Desk} (run : Run d) → deskSeen (deskOf run) ≡ deskAfter (deskSeen d) (callsOf run)
-unfolding deskAfter callsOf deskOf calledSeen
+unfolding deskOver callsOf deskOf calledSeen
 desk-of-run (no-call d) = refl
 desk-of-run (then d c gave h run) = desk-of-run run ∙ ap (λ (k : MeantCalled). deskAfter (k .desk) (callsOf run)) h
 
 replies-of-run : {d : Desk} (run : Run d) → map replySeen (repliesOf run) ≡ deskReplies (deskSeen d) (callsOf run)
-unfolding deskReplies callsOf repliesOf calledSeen
+unfolding answersOver callsOf repliesOf calledSeen
 replies-of-run (no-call d) = refl
 replies-of-run (then d c gave h run) =
     ap (λ (rs : List MeantReply). replySeen (gave .reply) ∷ rs) (replies-of-run run)
@@ -59,10 +59,10 @@ same-called c e q = ap code-of q
 -- ---- at the full count
 
 full-call : (d : Desk) (c : Call) (gave : Called) → Agrees d → d .heard ≡ fullCount
-    → Answers d (c .list) (c .table) gave → gave ≡ record { desk = d; reply = fullReply c }
+    → Answers d c gave → gave ≡ record { desk = d; reply = fullReply c }
 unfolding calledSeen replySeen fullReply
 full-call d c gave agrees full h =
-    same-called gave (record { desk = d; reply = fullReply c }) (h ∙ call-full d (c .list) (c .table) agrees full)
+    same-called gave (record { desk = d; reply = fullReply c }) (h ∙ call-full d (checkOf c) agrees full)
 
 pub code-stays-full : CodeStaysFull
 unfolding callsOf repliesOf deskOf
@@ -79,6 +79,7 @@ pub every-list-runs : EveryListRuns
 unfolding callsOf
 every-list-runs d [] = (no-call d, refl)
 every-list-runs d (c ∷ cs) =
-    let gave : Called = code-of (deskCall (deskSeen d) (c .list) (c .table)) in
+    let answer : MeantCalled = deskAnswer (deskSeen d) (checkOf c) in
+    let gave : Called = code-of answer in
     let rest = every-list-runs (gave .desk) cs in
-    (then d c gave (seen-code (deskCall (deskSeen d) (c .list) (c .table))) (rest .0), ap (λ (xs : List Call). c ∷ xs) (rest .1))
+    (then d c gave (seen-code answer) (rest .0), ap (λ (xs : List Call). c ∷ xs) (rest .1))

@@ -4,8 +4,8 @@ use mathlib.Core.Path.{_≡_}
 use mathlib.Core.Bool.{not}
 use mathlib.Core.List.{List, map}
 use lib.ListN.{length}
-use Rattle.meaning.specs.Desk.{fullCount, Call}
-use Rattle.meaning.specs.Claims.{howMany, passes, checkOf}
+use Rattle.meaning.specs.Desk.{fullCount, Call, checkOf}
+use Rattle.meaning.specs.Claims.{howMany, passes}
 use Rattle.service.specs.Reply.{replySeen}
 use Rattle.service.specs.declared.reply.Reply.{Reply}
 use Rattle.desk.specs.declared.Desk.{Desk}

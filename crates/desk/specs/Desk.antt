@@ -1,9 +1,8 @@
 -- How a desk of the code, and what a call gave, are read as those of the definitions; and what a call does to the counts, in plain words.
-use Prim.Native.Nat.{ℕ, _+_}
+use Prim.Native.Nat.{_+_}
 use mathlib.Core.Path.{_≡_}
-use mathlib.Core.List.{List}
 use mathlib.Core.Logic.{_⊎_, _≢_}
-use Rattle.meaning.specs.Desk.{counted, freshDesk, called, deskCall}
+use Rattle.meaning.specs.Desk.{counted, freshDesk, called, deskAnswer, Call, checkOf}
 use Rattle.meaning.specs.Desk.{Desk as MeantDesk, Called as MeantCalled}
 use Rattle.service.specs.Reply.{replySeen}
 use Rattle.desk.specs.declared.Desk.{Desk}
@@ -19,9 +18,9 @@ calledSeen c = called (deskSeen (c .desk)) (replySeen (c .reply))
 abbrev pub Fresh : Desk → Type 0
 Fresh d = deskSeen d ≡ freshDesk
 
--- what a call of this desk gave, with this list and table, is what document 01 says
-abbrev pub Answers : Desk → List ℕ → List ℕ → Called → Type 0
-Answers d list table gave = calledSeen gave ≡ deskCall (deskSeen d) list table
+-- what a call of this desk gave is what document 01 says
+abbrev pub Answers : Desk → Call → Called → Type 0
+Answers d c gave = calledSeen gave ≡ deskAnswer (deskSeen d) (checkOf c)
 
 -- the counts of a desk agree
 abbrev pub Agrees : Desk → Type 0

@@ -9,7 +9,7 @@ use Rattle.desk.specs.Desk.{Answers}
 
 pub data Run : Desk → Type 0 where
   no-call : (d : Desk) → Run d
-  then : (d : Desk) (c : Call) (gave : Called) → Answers d (c .list) (c .table) gave → Run (gave .desk) → Run d
+  then : (d : Desk) (c : Call) (gave : Called) → Answers d c gave → Run (gave .desk) → Run d
 
 -- what was asked, in order
 unfoldable pub callsOf : {d : Desk} → Run d → List Call

@@ -6,7 +6,7 @@ ghost use mathlib.Core.Path.{_≡_};
 ghost use Prim.Native.Nat.{_+_, _<_};
 ghost use lib.Dec.{eqb};
 ghost use Rattle.meaning.specs.Reply.{reply};
-ghost use Rattle.meaning.specs.Desk.{fullCount, called};
+ghost use Rattle.meaning.specs.Desk.{fullCount, called, callOf};
 ghost use Rattle.meaning.specs.Desk.{raised as raisedDesk};
 ghost use Rattle.service.specs.Reply.{replySeen};
 ghost use Rattle.desk.specs.Desk.{deskSeen, calledSeen, Fresh, Answers, Agrees, CountsOne};
@@ -39,7 +39,7 @@ impl Desk {
 
     // The public call, for every desk, also one whose counts were damaged: 19 and 20 come first and leave it as it is.
     pub fn call(self, list: &[u8], table: &[u32]) -> Called
-        ensures { λ r. ⌜ Answers self (now (list .entry)) (now (table .entry)) r
+        ensures { λ r. ⌜ Answers self (callOf (now (list .entry)) (now (table .entry))) r
             × (Agrees self → self .heard < fullCount → CountsOne self r) ⌝ }
     {
         let agrees = self.agrees();

@@ -19,8 +19,8 @@ use Rattle.meaning.specs.Gadget.Digits.{groupCells}
 use Rattle.meaning.specs.Meaning.{gadget, after}
 use Rattle.meaning.specs.Refusal.{textLimit, RuleOf, rule, rank, Way, plain, refused, read, readingBy, reading}
 use Rattle.meaning.specs.Work.{false-at, true-table, work}
-use Rattle.meaning.specs.Reply.{Reply, reply, rowsOf, checkReply, makeReply}
-use Rattle.meaning.specs.Desk.{Desk, called, freshDesk, fullCount, isAccepted, deskCall, Call, deskAfter, deskReplies}
+use Rattle.meaning.specs.Reply.{reply, rowsOf, checkReply, makeReply}
+use Rattle.meaning.specs.Desk.{Desk, called, freshDesk, fullCount, isAccepted, Call, checkOf, deskCall, deskAfter, deskReplies}
 
 -- ---- reading is exact
 
@@ -173,15 +173,12 @@ MakesTheOnly =
 -- ---- counts
 
 -- how many calls there are whose check is accepted, and how many whose check is refused
-unfoldable pub howMany : (Call → Bool) → List Call → ℕ
+unfoldable pub howMany : {A : Type 0} → (A → Bool) → List A → ℕ
 howMany f [] = 0
-howMany f (c ∷ cs) = mathlib.Core.Bool.cond (f c) 1 0 + howMany f cs
+howMany f (x ∷ xs) = mathlib.Core.Bool.cond (f x) 1 0 + howMany f xs
 
 unfoldable pub passes : Call → Bool
-passes c = isAccepted (checkReply (c .list) (c .table))
-
-unfoldable pub checkOf : Call → Reply
-checkOf c = checkReply (c .list) (c .table)
+passes c = isAccepted (checkOf c)
 
 -- demand 2: "For every sequence of desk calls up to the full count, heard = accepted + refused, and each is the number of such
 -- calls"; each call is answered by its check's reply

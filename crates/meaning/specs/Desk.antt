@@ -1,7 +1,7 @@
 -- The desk (document 01, "Show, desk, program"): "three counts, heard, accepted, refused, all 0 when fresh".
 use Prim.Native.Nat.{ℕ, suc, _+_, _-_, _^_}
 use mathlib.Core.Bool.{Bool, cond}
-use mathlib.Core.List.{List, [], _∷_}
+use mathlib.Core.List.{List, [], _∷_, map}
 use lib.Dec.{eqb}
 use Rattle.meaning.specs.Reply.{Reply, reply, checkReply}
 
@@ -36,23 +36,41 @@ pub record Called : Type 0 where
 abbrev pub called : Desk → Reply → Called
 called d r = record { desk = d; answer = r }
 
--- "19, 0: heard is not accepted + refused", "20, 0: heard is 2^64-1", "before all"; they raise none
-unfoldable pub deskCall : Desk → (list table : List ℕ) → Called
-deskCall d text t =
+-- "19, 0: heard is not accepted + refused", "20, 0: heard is 2^64-1", "before all"; they raise none. Else what the check replies is counted
+unfoldable pub deskAnswer : Desk → (checked : Reply) → Called
+deskAnswer d checked =
     cond (eqb (d .heard) (d .accepted + d .refused))
-    (cond (eqb (d .heard) fullCount) (called d (reply 20 0)) (called (raised d (checkReply text t)) (checkReply text t)))
+    (cond (eqb (d .heard) fullCount) (called d (reply 20 0)) (called (raised d checked) checked))
     (called d (reply 19 0))
 
--- ---- a list of calls
+-- ---- a call
 
 pub record Call : Type 0 where
   pub list : List ℕ
   pub table : List ℕ
 
-unfoldable pub deskAfter : Desk → List Call → Desk
-deskAfter d [] = d
-deskAfter d (c ∷ cs) = deskAfter (deskCall d (c .list) (c .table) .desk) cs
+abbrev pub callOf : (list table : List ℕ) → Call
+callOf list table = record { list = list; table = table }
 
-unfoldable pub deskReplies : Desk → List Call → List Reply
-deskReplies d [] = []
-deskReplies d (c ∷ cs) = deskCall d (c .list) (c .table) .answer ∷ deskReplies (deskCall d (c .list) (c .table) .desk) cs
+-- what a call's check replies
+unfoldable pub checkOf : Call → Reply
+checkOf c = checkReply (c .list) (c .table)
+
+abbrev pub deskCall : Desk → (list table : List ℕ) → Called
+deskCall d list table = deskAnswer d (checkOf (callOf list table))
+
+-- ---- a list of calls, by what their checks reply
+
+unfoldable pub deskOver : Desk → (checked : List Reply) → Desk
+deskOver d [] = d
+deskOver d (r ∷ rs) = deskOver (deskAnswer d r .desk) rs
+
+unfoldable pub answersOver : Desk → (checked : List Reply) → List Reply
+answersOver d [] = []
+answersOver d (r ∷ rs) = deskAnswer d r .answer ∷ answersOver (deskAnswer d r .desk) rs
+
+abbrev pub deskAfter : Desk → List Call → Desk
+deskAfter d calls = deskOver d (map checkOf calls)
+
+abbrev pub deskReplies : Desk → List Call → List Reply
+deskReplies d calls = answersOver d (map checkOf calls)
