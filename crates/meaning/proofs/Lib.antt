@@ -1,5 +1,7 @@
 pub mod Lists
 pub mod Results
+pub mod Part
+pub mod Decimal
 pub mod Number
 pub mod Order
 pub mod Cells

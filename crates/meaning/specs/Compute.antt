@@ -24,7 +24,8 @@ use Rattle.meaning.specs.Work.{withCells, workFrom, work}
 use Rattle.meaning.specs.Reply.{readReply, firstFail, rowsFrom, rowsOf, isCell, checked, checkReply, filled, made, makeReply, stretch, shown}
 use Rattle.meaning.specs.Program.{tabbed, refusalText, cellsText, tableText, makingText, consPart, partsOf, joined, isSome, orNone, answerParts, onParts, respond}
 use Rattle.meaning.specs.Claims.{valuesOf, signedAt}
-use Rattle.meaning.specs.Examples.{numbersText, listText, columnText, inputText, sameReply, sameAnswer, sameValues, making-of, values-of, isRight, allRight, examples}
+use Rattle.meaning.specs.Write.{numbersText, listText}
+use Rattle.meaning.specs.Examples.{columnText, inputText, sameReply, sameAnswer, sameValues, making-of, values-of, isRight, allRight, examples}
 
 -- remainders, digits, roots and the signed range
 unfoldable pub computing-numbers : Unit {0}

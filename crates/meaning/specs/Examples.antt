@@ -10,22 +10,14 @@ use lib.ListN.{replicate}
 use lib.IntN.{ℤ, pos, negℤ}
 use lib.Signed.{leZ}
 use Rattle.meaning.specs.Text.{bytes, sameBytes, numberText}
-use Rattle.meaning.specs.Line.{Word, field, input, span, sum, relu, which, max, root, Line, spelling}
+use Rattle.meaning.specs.Line.{Word, field, input, span, sum, relu, which, max, root, Line}
 use Rattle.meaning.specs.Refusal.{onReading, reading}
 use Rattle.meaning.specs.Reply.{Reply, reply, Answer, counts, refusal, readReply, checkReply, Making, makeReply}
 use Rattle.meaning.specs.Program.{refusalText, tableText, respond}
+use Rattle.meaning.specs.Write.{listText}
 use Rattle.meaning.specs.Claims.{valuesOf}
 
 -- ---- texts
-
--- each number after a tab, then the byte that ends the line
-unfoldable pub numbersText : List ℤ → List ℕ
-numbersText [] = 10 ∷ []
-numbersText (n ∷ ns) = 9 ∷ numberText n ++ numbersText ns
-
-unfoldable pub listText : List Line → List ℕ
-listText [] = []
-listText (l ∷ ls) = spelling (l .word) ++ numbersText (l .numbers) ++ listText ls
 
 unfoldable pub columnText : List ℤ → List ℕ
 columnText [] = []

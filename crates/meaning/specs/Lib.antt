@@ -1,6 +1,7 @@
 pub mod Number
 pub mod Text
 pub mod Line
+pub mod Write
 pub mod Known
 pub mod Row
 pub mod Gadget

@@ -15,7 +15,7 @@ use Rattle.meaning.specs.Reply.{Reply, reply, making, makeReply}
 use Rattle.meaning.specs.Program.{refusalText, tableText, makingText}
 use Rattle.service.specs.Reply.{replySeen, Makes}
 use Rattle.service.specs.declared.reply.Reply.{Reply as Replied}
-use Rattle.program.specs.Written.{Written}
+use Rattle.output.specs.Written.{Written}
 use Rattle.program.specs.Answered.{Answered, longest}
 
 module _ {answer before : List ℕ} (short : length answer ≤ longest) where

@@ -9,9 +9,9 @@ use lib.Seq.{drop-cons}
 use Rattle.meaning.specs.Text.{bytes, decimalOf}
 use Rattle.meaning.specs.Reply.{reply}
 use Rattle.meaning.specs.Program.{tabbed, refusalText, cellsText, tableText}
-use Rattle.program.specs.Written.{pairText, headingText}
+use Rattle.meaning.proofs.Decimal.{decimal-most, decimal-of-32, decimal-of-64}
+use Rattle.program.specs.Texts.{pairText, headingText}
 use Rattle.program.specs.Answered.{longest}
-use Rattle.program.proofs.Digits.{decimal-most, decimal-of-32, decimal-of-64}
 use Rattle.program.proofs.Texts.{table-parts, cell-parts}
 
 pub pair-length : (first second : ℕ) → length (pairText first second) ≡ length (decimalOf first) + length (decimalOf second) + 2

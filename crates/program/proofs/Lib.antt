@@ -1,6 +1,3 @@
-pub mod Digits
-pub mod Filling
-pub mod Writing
 pub mod Texts
 pub mod Lengths
 pub mod Parting

@@ -10,8 +10,9 @@ use borrow.Rule.Slice.PartMut.{putMid}
 use Rattle.meaning.specs.Text.{bytes, decimalOf}
 use Rattle.meaning.specs.Reply.{reply}
 use Rattle.meaning.specs.Program.{tabbed, refusalText, cellsText, tableText}
-use Rattle.program.specs.Written.{Written, fieldText, pairText, headingText}
-use Rattle.program.proofs.Writing.{Halves, rest-starts, rest-room, whole-room, written-whole}
+use Rattle.output.specs.Written.{Written, fieldText}
+use Rattle.output.proofs.Writing.{Halves, rest-starts, rest-room, whole-room, written-whole}
+use Rattle.program.specs.Texts.{pairText, headingText}
 
 -- ---- the parts of a text
 

@@ -1,10 +1,10 @@
 // Answers: each is written where it has room in the output, and else nothing is.
+use super::answer_text::refusal_length;
+use super::answer_text::table_length;
+use super::answer_text::write_refusal;
+use super::answer_text::write_table;
 use super::input::Inputs;
 use super::input::read_inputs;
-use super::output::refusal_length;
-use super::output::table_length;
-use super::output::write_refusal;
-use super::output::write_table;
 use reader::Surveyed;
 use reader::survey;
 use service::Reply;

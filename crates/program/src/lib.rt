@@ -1,8 +1,7 @@
 // The product's program as a function on bytes: a list, the line `end` and the inputs are answered by the table or by a refusal.
 mod answer;
-mod decimal;
+mod answer_text;
 mod input;
-mod output;
 
 use answer::answer_list;
 use answer::answer_refusal;

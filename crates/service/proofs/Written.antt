@@ -34,7 +34,6 @@ use Rattle.text.specs.Word.{wordOf}
 use Rattle.reader.specs.declared.state.Counts.{Counts}
 use Rattle.reader.proofs.Steps.{few}
 use Rattle.table.specs.LineValues.{CellsAsked}
-use Rattle.table.proofs.CellsPart.{written-after}
 use Rattle.service.specs.Walk.{Stands, AtLine, Took, taken}
 use Rattle.service.specs.declared.walk.Taken.{Taken}
 use Rattle.service.specs.Make.{WriteAsked}
@@ -42,6 +41,7 @@ use Rattle.service.proofs.Listed.{same-lines, same-last}
 use Rattle.service.proofs.Standing.{stands-first, nothing-left, known-last, line-kept, prime-here, cells-inside}
 use Rattle.text.specs.Parsed.{mostNumbers}
 use Rattle.meaning.specs.Refusal.{valueLimit}
+use Rattle.meaning.proofs.Part.{written-after}
 
 -- ---- working on does not change the values that are there
 

@@ -13,7 +13,6 @@ pub mod WorksSum
 pub mod WorksSumFits
 pub mod WorksLine
 -- writing its cells
-pub mod CellsPart
 pub mod CellsGroup
 pub mod CellsSign
 pub mod CellsRoot

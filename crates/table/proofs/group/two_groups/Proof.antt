@@ -5,7 +5,7 @@ use Rattle.meaning.specs.Gadget.Digits.{groupCells}
 use Rattle.number.proofs.Word.{back}
 use mathlib.Core.Path.{refl}
 use Rattle.meaning.proofs.Group.{length-group}
-use Rattle.table.proofs.CellsPart.{written-after}
+use Rattle.meaning.proofs.Part.{written-after}
 use borrow.Author.Needs.{needs}
 use Rattle.table.proofs.group.two_groups.Statement.{statement}
 use Rattle.table.proofs.group.two_groups.Tie as tie

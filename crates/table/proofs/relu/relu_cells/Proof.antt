@@ -10,9 +10,9 @@ use mir.Val.{SFits}
 use Rattle.meaning.specs.Number.{remainder}
 use Rattle.meaning.specs.Known.{larger}
 use Rattle.meaning.specs.Gadget.Sign.{signCells}
+use Rattle.meaning.proofs.Part.{written-after}
 use Rattle.number.proofs.Word.{back}
 use Rattle.number.proofs.Bounded.{bounded-more}
-use Rattle.table.proofs.CellsPart.{written-after}
 use borrow.Author.Needs.{needs}
 use Rattle.table.proofs.relu.relu_cells.Statement.{statement}
 use Rattle.table.proofs.relu.relu_cells.Tie as tie

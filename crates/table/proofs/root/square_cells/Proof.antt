@@ -3,8 +3,8 @@ use mathlib.Core.Path.{refl}
 use mathlib.Core.List.{[], _∷_}
 use lib.IntN.{_*ℤ_}
 use Rattle.meaning.specs.Number.{remainder}
+use Rattle.meaning.proofs.Part.{written-after}
 use Rattle.number.proofs.Word.{back}
-use Rattle.table.proofs.CellsPart.{written-after}
 use Rattle.table.proofs.CellsRoot.{square-fits}
 use borrow.Author.Needs.{needs}
 use Rattle.table.proofs.root.square_cells.Statement.{statement}

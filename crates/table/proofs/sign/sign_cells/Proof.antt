@@ -11,12 +11,12 @@ use Rattle.algebra.specs.Congruence.{remainder}
 use Rattle.algebra.specs.Digits.{digits}
 use Rattle.algebra.proofs.Digits.{length-digits, digit-at}
 use Rattle.meaning.specs.Gadget.Sign.{signShift}
+use Rattle.meaning.proofs.Part.{written-after}
 use Rattle.number.proofs.Word.{back}
 use Rattle.number.proofs.Bounded.{bounded-more}
 use Rattle.table.specs.Cells.{flagCells}
 use Rattle.table.proofs.Whole.{negation-bounded, negation-fits, negation-is}
 use Rattle.table.proofs.SignPower.{rest-shift}
-use Rattle.table.proofs.CellsPart.{written-after}
 use Rattle.table.proofs.CellsSign.{sign-cells-are}
 use borrow.Author.Needs.{needs}
 use Rattle.table.proofs.sign.sign_cells.Statement.{statement}

@@ -9,9 +9,9 @@ use mir.Val.{SFits}
 use Rattle.meaning.specs.Number.{remainder}
 use Rattle.meaning.specs.Gadget.Sign.{signCells}
 use Rattle.meaning.specs.Gadget.Which.{whichValue}
+use Rattle.meaning.proofs.Part.{written-after}
 use Rattle.number.proofs.Word.{back}
 use Rattle.number.proofs.Bounded.{bounded-difference, difference-fits}
-use Rattle.table.proofs.CellsPart.{written-after}
 use borrow.Author.Needs.{needs}
 use Rattle.table.proofs.which.which_cells.Statement.{statement}
 use Rattle.table.proofs.which.which_cells.Tie as tie

@@ -1,0 +1,15 @@
+-- A list as it is written: the bytes of lines that are given as words and numbers (document 01, "The list").
+use Prim.Native.Nat.{ℕ}
+use mathlib.Core.List.{List, [], _∷_, _++_}
+use lib.IntN.{ℤ}
+use Rattle.meaning.specs.Text.{numberText}
+use Rattle.meaning.specs.Line.{Line, spelling}
+
+-- each number after a tab, then the byte that ends the line
+unfoldable pub numbersText : List ℤ → List ℕ
+numbersText [] = 10 ∷ []
+numbersText (n ∷ ns) = 9 ∷ numberText n ++ numbersText ns
+
+unfoldable pub listText : List Line → List ℕ
+listText [] = []
+listText (l ∷ ls) = spelling (l .word) ++ numbersText (l .numbers) ++ listText ls

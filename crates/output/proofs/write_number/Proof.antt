@@ -1,0 +1,96 @@
+-- Below 0 the size is written into the part after the sign, and else the number is its size.
+use mathlib.Core.Path.{_≡_, sym}
+use mathlib.Core.List.{[], _∷_}
+use Prim.Native.Nat.{_+_}
+use native.Mathlib.Omega.{arith}
+use lib.Signed.{mag}
+use borrow.Author.Needs.{needs}
+use Rattle.meaning.specs.Text.{decimalOf, numberText}
+use Rattle.meaning.proofs.Decimal.{number-plain, number-signed}
+use Rattle.number.proofs.Word.{back, negative, not-negative}
+use Rattle.output.proofs.Writing.{Halves, first-room, rest-starts, rest-room, whole-room, written-whole}
+use Rattle.output.proofs.write_number.Statement.{statement}
+use Rattle.output.proofs.write_number.Tie as tie
+
+size : (c : tie.After-magnitude) → c .magnitude .result ≡ mag (c .before .before .args .z)
+size c = rw (back (c .before .before .fits .z)) at (c .magnitude .ensures)
+
+-- a sign, and then the size
+halves : (c : tie.Then1)
+    → Halves (numberText (c .before .before .before .args .z)) (45 ∷ []) (decimalOf (c .before .magnitude .result + 1)) (c .before .before .before .args .part .now)
+halves c =
+    let s = c .before .before .before in
+    record { parts = rw (size (c .before)) (sym (number-signed (s .args .z) (negative (s .fits .z) (c .if1 .taken) .1))); room = s .pre }
+
+plain : (c : tie.Else1) → decimalOf (c .before .magnitude .result) ≡ numberText (c .before .before .before .args .z)
+plain c =
+    let s = c .before .before .before in
+    rw (size (c .before)) (sym (number-plain (s .args .z) (not-negative (s .fits .z) (c .if1 .left))))
+
+magnitude-requires : tie.Need-magnitude-requires
+magnitude-requires c κs = search needs
+
+slice-aggregate-write-bytes : tie.Need-slice-aggregate-write-bytes
+slice-aggregate-write-bytes c = search needs
+
+write-bytes-requires : tie.Need-write-bytes-requires
+write-bytes-requires c κs = first-room (halves (c .before .before))
+
+sub-write-decimal : tie.Need-sub-write-decimal
+sub-write-decimal c = rest-starts (halves (c .before .before .before .before .before)) (c .before .before .write-bytes .ensures)
+
+part-write-decimal-start : tie.Need-part-write-decimal-start
+part-write-decimal-start c = rest-starts (halves (c .before .before .before .before .before)) (c .before .before .write-bytes .ensures)
+
+part-write-decimal-end : tie.Need-part-write-decimal-end
+part-write-decimal-end c = search needs
+
+add-write-decimal : tie.Need-add-write-decimal
+add-write-decimal c =
+    let measured = c .before .before .before .before .before .before .before in
+    record { fits = omega (arith, size measured, measured .before .before .fits .z .sfits) }
+
+write-decimal-requires : tie.Need-write-decimal-requires
+write-decimal-requires c κs =
+    rest-room (halves (c .before .before .before .before .before .before)) (c .before .before .before .write-bytes .ensures)
+
+add-result : tie.Need-add-result
+add-result c =
+    let below = c .before .before .before .before .before .before .before .before .before in
+    omega (arith, whole-room (halves below) (c .before .before .before .before .before .before .write-bytes .ensures) (c .before .before .write-decimal .ensures))
+
+same-length : tie.Need-same-length
+same-length c = search needs
+
+returns : tie.Need-returns
+returns c =
+    let below = c .before .before .before .before .before .before .before .before .before in
+    written-whole (halves below) (c .before .before .before .before .before .before .write-bytes .ensures) (c .before .before .write-decimal .ensures)
+
+write-decimal-requires-2 : tie.Need-write-decimal-requires-2
+write-decimal-requires-2 c κs = rw (plain (c .before)) (c .before .before .before .before .pre)
+
+same-length-2 : tie.Need-same-length-2
+same-length-2 c = search needs
+
+returns-2 : tie.Need-returns-2
+returns-2 c = rw (plain (c .before .before .before .before)) at (c .before .before .write-decimal2 .ensures)
+
+pub write-number-spec : {M : Type 1} → statement M
+write-number-spec =
+    tie.close
+    (tie.spec
+    magnitude-requires
+    slice-aggregate-write-bytes
+    write-bytes-requires
+    sub-write-decimal
+    part-write-decimal-start
+    part-write-decimal-end
+    add-write-decimal
+    write-decimal-requires
+    add-result
+    same-length
+    returns
+    write-decimal-requires-2
+    same-length-2
+    returns-2)

@@ -1,0 +1,76 @@
+-- Before each cell, `Summing` holds of the bytes before its line.
+use Prim.Native.Nat.{_-_}
+use native.Mathlib.Omega.{arith}
+use lib.ListN.{length}
+use Rattle.meaning.proofs.Decimal.{decimal-of-64}
+use Rattle.program.proofs.Lengths.{Summing, summing-start, summing-turn, summing-end}
+use borrow.Author.Needs.{needs}
+use Rattle.program.proofs.answer_text.table_length.Statement.{statement}
+use Rattle.program.proofs.answer_text.table_length.Tie as tie
+
+abbrev Inv-loop : tie.InvT-loop
+Inv-loop table total₀ i₀ total i = Summing table total i
+
+abbrev μ-loop : tie.MeasureT-loop
+μ-loop table total₀ i₀ total i = length table - i
+
+decimal-length-requires : tie.Need-decimal-length-requires Inv-loop μ-loop
+decimal-length-requires c κs = search needs
+
+add-total : tie.Need-add-total Inv-loop μ-loop
+add-total c =
+    let s = c .before .before in
+    omega (arith, decimal-of-64 (length (s .args .table .now)) (omega arith))
+
+loop-holds : tie.Need-loop-holds Inv-loop μ-loop
+loop-holds c = summing-start _ _ (omega arith) (c .decimal-length .ensures)
+
+mul-pair-length : tie.Need-mul-pair-length Inv-loop μ-loop
+mul-pair-length c = search needs
+
+shared-slice-read-pair-length : tie.Need-shared-slice-read-pair-length Inv-loop μ-loop
+shared-slice-read-pair-length c = search needs
+
+cast-pair-length : tie.Need-cast-pair-length Inv-loop μ-loop
+cast-pair-length c =
+    let at-loop = c .before .before in
+    omega (arith, c .shared-slice-known2 .given (at-loop .loop .i))
+
+pair-length-requires : tie.Need-pair-length-requires Inv-loop μ-loop
+pair-length-requires c κs = search needs
+
+add-total-2 : tie.Need-add-total-2 Inv-loop μ-loop
+add-total-2 c = search needs
+
+add-i : tie.Need-add-i Inv-loop μ-loop
+add-i c = search needs
+
+loop-less : tie.Need-loop-less Inv-loop μ-loop
+loop-less c = search needs
+
+loop-again : tie.Need-loop-again Inv-loop μ-loop
+loop-again c =
+    let at-test = c .before .before in
+    summing-turn (at-test .before .loop .inv) (at-test .loop-test .taken) _ (c .pair-length .ensures .0) (c .pair-length .ensures .1)
+
+returns : tie.Need-returns Inv-loop μ-loop
+returns c = summing-end (c .before .loop .inv) (c .loop-test .left)
+
+pub table-length-spec : {M : Type 1} → statement M
+table-length-spec =
+    tie.close
+    (tie.spec
+    Inv-loop
+    μ-loop
+    decimal-length-requires
+    add-total
+    loop-holds
+    mul-pair-length
+    shared-slice-read-pair-length
+    cast-pair-length
+    pair-length-requires
+    add-total-2
+    add-i
+    loop-less
+    loop-again
+    returns)

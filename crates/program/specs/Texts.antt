@@ -1,0 +1,13 @@
+-- The parts of an answer's text.
+use mathlib.Core.List.{List, [], _∷_, _++_}
+use Prim.Native.Nat.{ℕ}
+use Rattle.meaning.specs.Text.{bytes, decimalOf}
+use Rattle.meaning.specs.Program.{tabbed}
+
+-- a line of two numbers
+abbrev pub pairText : (first second : ℕ) → List ℕ
+pairText first second = tabbed (decimalOf first) (decimalOf second) ++ 10 ∷ []
+
+-- the first line of a table
+abbrev pub headingText : (count : ℕ) → List ℕ
+headingText count = tabbed (bytes "table") (decimalOf count) ++ 10 ∷ []
