@@ -65,7 +65,20 @@ pub fn write_field(part: &mut [u8], n: u64, end: u8) -> usize
     at + 1
 }
 
-// Writes a signed number, with - before it if negative. The size of the lowest i64 is no i64, but a u64.
+// ---- a signed number, with - before it if negative. The size of the lowest i64 is no i64, but a u64
+
+// How many bytes it has.
+pub fn number_length(z: i64) -> usize
+    ensures { λ r. ⌜ r ≡ length (numberText z) ⌝ }
+{
+    let size = magnitude(Whole(z));
+    if z < 0 {
+        return 1 + decimal_length(size + 1);
+    }
+    decimal_length(size)
+}
+
+// Writes the sign, and then the size.
 pub fn write_number(part: &mut [u8], z: i64) -> usize
     requires { ⌜ length (numberText z) ≤ length (now part) ⌝ }
     ensures { λ r. ⌜ Written (numberText z) (now (part .entry)) (now (part .exit)) r ⌝ }

@@ -3,29 +3,22 @@ use mathlib.Core.Path.{_≡_, sym}
 use mathlib.Core.List.{[], _∷_}
 use Prim.Native.Nat.{_+_}
 use native.Mathlib.Omega.{arith}
-use lib.Signed.{mag}
 use borrow.Author.Needs.{needs}
 use Rattle.meaning.specs.Text.{decimalOf, numberText}
-use Rattle.meaning.proofs.Decimal.{number-plain, number-signed}
-use Rattle.number.proofs.Word.{back, negative, not-negative}
+use Rattle.output.proofs.Signed.{signed-text, plain-text, size-most}
 use Rattle.output.proofs.Writing.{Halves, first-room, rest-starts, rest-room, whole-room, written-whole}
 use Rattle.output.proofs.write_number.Statement.{statement}
 use Rattle.output.proofs.write_number.Tie as tie
-
-size : (c : tie.After-magnitude) → c .magnitude .result ≡ mag (c .before .before .args .z)
-size c = rw (back (c .before .before .fits .z)) at (c .magnitude .ensures)
 
 -- a sign, and then the size
 halves : (c : tie.Then1)
     → Halves (numberText (c .before .before .before .args .z)) (45 ∷ []) (decimalOf (c .before .magnitude .result + 1)) (c .before .before .before .args .part .now)
 halves c =
     let s = c .before .before .before in
-    record { parts = rw (size (c .before)) (sym (number-signed (s .args .z) (negative (s .fits .z) (c .if1 .taken) .1))); room = s .pre }
+    record { parts = sym (signed-text (s .fits .z) (c .before .magnitude .ensures) (c .if1 .taken)); room = s .pre }
 
 plain : (c : tie.Else1) → decimalOf (c .before .magnitude .result) ≡ numberText (c .before .before .before .args .z)
-plain c =
-    let s = c .before .before .before in
-    rw (size (c .before)) (sym (number-plain (s .args .z) (not-negative (s .fits .z) (c .if1 .left))))
+plain c = sym (plain-text (c .before .before .before .fits .z) (c .before .magnitude .ensures) (c .if1 .left))
 
 magnitude-requires : tie.Need-magnitude-requires
 magnitude-requires c κs = search needs
@@ -48,7 +41,7 @@ part-write-decimal-end c = search needs
 add-write-decimal : tie.Need-add-write-decimal
 add-write-decimal c =
     let measured = c .before .before .before .before .before .before .before in
-    record { fits = omega (arith, size measured, measured .before .before .fits .z .sfits) }
+    record { fits = omega (arith, size-most (measured .before .before .fits .z) (measured .magnitude .ensures)) }
 
 write-decimal-requires : tie.Need-write-decimal-requires
 write-decimal-requires c κs =
