@@ -4,24 +4,6 @@ use borrow.Author.Needs.{needs}
 use Rattle.digit_table.proofs.main.Statement.{statement}
 use Rattle.digit_table.proofs.main.Tie as tie
 
-slice-aggregate-read-full : tie.Need-slice-aggregate-read-full
-slice-aggregate-read-full c = search needs
-
-read-full-requires : tie.Need-read-full-requires
-read-full-requires c κs = search needs
-
-array-share-prefix-input : tie.Need-array-share-prefix-input
-array-share-prefix-input c = search needs
-
-slice-aggregate-respond : tie.Need-slice-aggregate-respond
-slice-aggregate-respond c = search needs
-
-slice-aggregate-respond-2 : tie.Need-slice-aggregate-respond-2
-slice-aggregate-respond-2 c = search needs
-
-respond-requires : tie.Need-respond-requires
-respond-requires c κs = search needs
-
 array-share-prefix-output : tie.Need-array-share-prefix-output
 array-share-prefix-output c =
     let inside = written-within (c .before .respond .ensures) in
@@ -30,9 +12,6 @@ array-share-prefix-output c =
 slice-aggregate-write-all : tie.Need-slice-aggregate-write-all
 slice-aggregate-write-all c = written-count (c .before .before .respond .ensures) (c .before .output2 .given)
 
-write-all-requires : tie.Need-write-all-requires
-write-all-requires c κs = search needs
-
 returns : tie.Need-returns
 returns c = search needs
 
@@ -40,13 +19,13 @@ pub main-spec : {M : Type 1} → statement M
 main-spec =
     tie.close
     (tie.spec
-    slice-aggregate-read-full
-    read-full-requires
-    array-share-prefix-input
-    slice-aggregate-respond
-    slice-aggregate-respond-2
-    respond-requires
+    (λ c. search needs)
+    (λ c κs. search needs)
+    (λ c. search needs)
+    (λ c. search needs)
+    (λ c. search needs)
+    (λ c κs. search needs)
     array-share-prefix-output
     slice-aggregate-write-all
-    write-all-requires
+    (λ c κs. search needs)
     returns)

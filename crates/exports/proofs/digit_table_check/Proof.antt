@@ -4,12 +4,9 @@ use borrow.Author.Needs.{needs}
 use Rattle.exports.proofs.digit_table_check.Statement.{statement}
 use Rattle.exports.proofs.digit_table_check.Tie as tie
 
-check-requires : tie.Need-check-requires
-check-requires c κs = search needs
-
 returns : tie.Need-returns
 unfolding replySeen
 returns c = c .check .ensures
 
 pub digit-table-check-spec : {M : Type 1} → statement M
-digit-table-check-spec = tie.close (tie.spec check-requires returns)
+digit-table-check-spec = tie.close (tie.spec (λ c κs. search needs) returns)

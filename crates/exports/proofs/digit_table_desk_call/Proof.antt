@@ -5,12 +5,9 @@ use borrow.Author.Needs.{needs}
 use Rattle.exports.proofs.digit_table_desk_call.Statement.{statement}
 use Rattle.exports.proofs.digit_table_desk_call.Tie as tie
 
-call-requires : tie.Need-call-requires
-call-requires c κs = search needs
-
 returns : tie.Need-returns
 unfolding calledSeen deskSeen replySeen
 returns c = c .before .before .call .ensures .0
 
 pub digit-table-desk-call-spec : {M : Type 1} → statement M
-digit-table-desk-call-spec = tie.close (tie.spec call-requires returns)
+digit-table-desk-call-spec = tie.close (tie.spec (λ c κs. search needs) returns)

@@ -6,12 +6,6 @@ use borrow.Author.Needs.{needs}
 use Rattle.exports.proofs.digit_table_make.Statement.{statement}
 use Rattle.exports.proofs.digit_table_make.Tie as tie
 
-make-requires : tie.Need-make-requires
-make-requires c κs = search needs
-
-same-length : tie.Need-same-length
-same-length c = search needs
-
 returns : tie.Need-returns
 unfolding replySeen
 returns c =
@@ -19,4 +13,4 @@ returns c =
     ap₂ making (given .replied) (given .left)
 
 pub digit-table-make-spec : {M : Type 1} → statement M
-digit-table-make-spec = tie.close (tie.spec make-requires same-length returns)
+digit-table-make-spec = tie.close (tie.spec (λ c κs. search needs) (λ c. search needs) returns)

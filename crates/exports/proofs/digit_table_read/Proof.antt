@@ -8,15 +8,6 @@ use borrow.Author.Needs.{needs}
 use Rattle.exports.proofs.digit_table_read.Statement.{statement}
 use Rattle.exports.proofs.digit_table_read.Tie as tie
 
-read-requires : tie.Need-read-requires
-read-requires c κs = search needs
-
-enum-known-answer : tie.Need-enum-known-answer
-enum-known-answer c = search needs
-
-enum-known-answer-2 : tie.Need-enum-known-answer-2
-enum-known-answer-2 c = search needs
-
 returns : tie.Need-returns
 unfolding numbersAfter answerSeen
 returns c =
@@ -33,4 +24,4 @@ returns-2 c =
 
 pub digit-table-read-spec : {M : Type 1} → statement M
 digit-table-read-spec =
-    tie.close (tie.spec read-requires enum-known-answer enum-known-answer-2 returns returns-2)
+    tie.close (tie.spec (λ c κs. search needs) (λ c. search needs) (λ c. search needs) returns returns-2)

@@ -11,27 +11,6 @@ returns c =
     let told = too-long-told (now (S .args .list)) (now (S .args .table)) (S .args .line) (c .if1 .taken) in
     (told .part, (told .counted, (told .starts, told .inside)))
 
-slice-aggregate-number-cells : tie.Need-slice-aggregate-number-cells
-slice-aggregate-number-cells c = search needs
-
-number-cells-requires : tie.Need-number-cells-requires
-number-cells-requires c κs = search needs
-
-sub-show : tie.Need-sub-show
-sub-show c = search needs
-
-part-show-start : tie.Need-part-show-start
-part-show-start c = search needs
-
-part-show-end : tie.Need-part-show-end
-part-show-end c = search needs
-
-show-requires : tie.Need-show-requires
-show-requires c κs = search needs
-
-first-of-requires : tie.Need-first-of-requires
-first-of-requires c κs = search needs
-
 returns-2 : tie.Need-returns-2
 returns-2 c =
     let S = c .before .before .before .before .before .before .before .before .before .before in
@@ -44,11 +23,11 @@ digit-table-show-spec =
     tie.close
     (tie.spec
     returns
-    slice-aggregate-number-cells
-    number-cells-requires
-    sub-show
-    part-show-start
-    part-show-end
-    show-requires
-    first-of-requires
+    (λ c. search needs)
+    (λ c κs. search needs)
+    (λ c. search needs)
+    (λ c. search needs)
+    (λ c. search needs)
+    (λ c κs. search needs)
+    (λ c κs. search needs)
     returns-2)

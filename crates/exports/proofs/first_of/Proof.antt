@@ -12,14 +12,5 @@ returns c =
     let none = c .if1 .taken in
     sym (List·getD-eq-default (now (c .before .before .args .part)) 0 {n = 0} (omega arith))
 
-shared-slice-read-wide : tie.Need-shared-slice-read-wide
-shared-slice-read-wide c = search needs
-
-wide-requires : tie.Need-wide-requires
-wide-requires c κs = search needs
-
-returns-2 : tie.Need-returns-2
-returns-2 c = search needs
-
 pub first-of-spec : {M : Type 1} → statement M
-first-of-spec = tie.close (tie.spec returns shared-slice-read-wide wide-requires returns-2)
+first-of-spec = tie.close (tie.spec returns (λ c. search needs) (λ c κs. search needs) (λ c. search needs))

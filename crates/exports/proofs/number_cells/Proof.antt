@@ -21,18 +21,6 @@ cast-cells c =
     let w = c .before .loop .inv in
     search (needs, w .inside)
 
-mul-cells : tie.Need-mul-cells Inv-loop μ-loop
-mul-cells c = search needs
-
-slice-write-cells : tie.Need-slice-write-cells Inv-loop μ-loop
-slice-write-cells c = search needs
-
-add-i : tie.Need-add-i Inv-loop μ-loop
-add-i c = search needs
-
-loop-less : tie.Need-loop-less Inv-loop μ-loop
-loop-less c = search needs
-
 loop-again : tie.Need-loop-again Inv-loop μ-loop
 loop-again c = numbering-next (c .before .loop .inv) (c .loop-test .taken)
 
@@ -50,10 +38,10 @@ number-cells-spec =
     μ-loop
     loop-holds
     cast-cells
-    mul-cells
-    slice-write-cells
-    add-i
-    loop-less
+    (λ c. search needs)
+    (λ c. search needs)
+    (λ c. search needs)
+    (λ c. search needs)
     loop-again
     same-length
     returns)

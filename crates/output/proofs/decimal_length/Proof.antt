@@ -15,17 +15,11 @@ Inv-loop n rest₀ count₀ rest count = (n < 18446744073709551616) × (count + 
 abbrev μ-loop : tie.MeasureT-loop
 μ-loop n rest₀ count₀ rest count = rest
 
-loop-holds : tie.Need-loop-holds Inv-loop μ-loop
-loop-holds c = search needs
-
 add-count : tie.Need-add-count Inv-loop μ-loop
 add-count c =
     let at-loop = c .before in
     let s = at-loop .before in
     omega (arith, decimal-of-64 (s .args .n) (at-loop .loop .inv .0), some-digit (at-loop .loop .rest))
-
-loop-less : tie.Need-loop-less Inv-loop μ-loop
-loop-less c = search needs
 
 loop-again : tie.Need-loop-again Inv-loop μ-loop
 loop-again c = (search needs, omega (arith, length-long (c .before .loop .rest) (c .loop-test .taken)))
@@ -35,4 +29,4 @@ returns c = omega (arith, length-short (c .before .loop .rest) (c .loop-test .le
 
 pub decimal-length-spec : {M : Type 1} → statement M
 decimal-length-spec =
-    tie.close (tie.spec Inv-loop μ-loop loop-holds add-count loop-less loop-again returns)
+    tie.close (tie.spec Inv-loop μ-loop (λ c. search needs) add-count (λ c. search needs) loop-again returns)

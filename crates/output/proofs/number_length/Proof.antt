@@ -9,14 +9,8 @@ use Rattle.output.proofs.Signed.{signed-text, plain-text, size-most}
 use Rattle.output.proofs.number_length.Statement.{statement}
 use Rattle.output.proofs.number_length.Tie as tie
 
-magnitude-requires : tie.Need-magnitude-requires
-magnitude-requires c κs = search needs
-
 add-decimal-length : tie.Need-add-decimal-length
 add-decimal-length c = record { fits = omega (arith, size-most (c .before .before .fits .z) (c .before .magnitude .ensures)) }
-
-decimal-length-requires : tie.Need-decimal-length-requires
-decimal-length-requires c κs = search needs
 
 add-result : tie.Need-add-result
 add-result c =
@@ -30,9 +24,6 @@ returns c =
     let text = signed-text (measured .before .fits .z) (measured .magnitude .ensures) (c .before .if1 .taken) in
     rw text (omega (arith, c .decimal-length .ensures))
 
-decimal-length-requires-2 : tie.Need-decimal-length-requires-2
-decimal-length-requires-2 c κs = search needs
-
 returns-2 : tie.Need-returns-2
 returns-2 c =
     let measured = c .before .before in
@@ -42,10 +33,10 @@ pub number-length-spec : {M : Type 1} → statement M
 number-length-spec =
     tie.close
     (tie.spec
-    magnitude-requires
+    (λ c κs. search needs)
     add-decimal-length
-    decimal-length-requires
+    (λ c κs. search needs)
     add-result
     returns
-    decimal-length-requires-2
+    (λ c κs. search needs)
     returns-2)

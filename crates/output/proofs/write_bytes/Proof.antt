@@ -16,19 +16,10 @@ abbrev μ-loop : tie.MeasureT-loop
 loop-holds : tie.Need-loop-holds Inv-loop μ-loop
 loop-holds c = copying-start _ _
 
-shared-slice-read-part : tie.Need-shared-slice-read-part Inv-loop μ-loop
-shared-slice-read-part c = search needs
-
 slice-write-part : tie.Need-slice-write-part Inv-loop μ-loop
 slice-write-part c =
     let at-loop = c .before .before in
     omega (arith, copying-length (at-loop .loop .inv) (at-loop .before .pre))
-
-add-i : tie.Need-add-i Inv-loop μ-loop
-add-i c = search needs
-
-loop-less : tie.Need-loop-less Inv-loop μ-loop
-loop-less c = search needs
 
 loop-again : tie.Need-loop-again Inv-loop μ-loop
 loop-again c = copying-turn (c .before .before .loop .inv) (c .before .before .before .pre) (c .before .loop-test .taken)
@@ -46,10 +37,10 @@ write-bytes-spec =
     Inv-loop
     μ-loop
     loop-holds
-    shared-slice-read-part
+    (λ c. search needs)
     slice-write-part
-    add-i
-    loop-less
+    (λ c. search needs)
+    (λ c. search needs)
     loop-again
     same-length
     returns)

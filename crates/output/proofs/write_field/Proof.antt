@@ -21,9 +21,6 @@ add-result c =
     let s = c .before .before .before .before .before in
     omega (arith, byte-inside (s .args .end) (c .before .before .write-decimal .ensures) (byte-room (decimalOf (s .args .n)) (s .args .end) (s .args .part .now) (s .pre)))
 
-same-length : tie.Need-same-length
-same-length c = search needs
-
 returns : tie.Need-returns
 returns c =
     let s = c .before .before .before .before .before in
@@ -31,4 +28,4 @@ returns c =
 
 pub write-field-spec : {M : Type 1} → statement M
 write-field-spec =
-    tie.close (tie.spec write-decimal-requires slice-write-part add-result same-length returns)
+    tie.close (tie.spec write-decimal-requires slice-write-part add-result (λ c. search needs) returns)

@@ -20,12 +20,6 @@ halves c =
 plain : (c : tie.Else1) → decimalOf (c .before .magnitude .result) ≡ numberText (c .before .before .before .args .z)
 plain c = sym (plain-text (c .before .before .before .fits .z) (c .before .magnitude .ensures) (c .if1 .left))
 
-magnitude-requires : tie.Need-magnitude-requires
-magnitude-requires c κs = search needs
-
-slice-aggregate-write-bytes : tie.Need-slice-aggregate-write-bytes
-slice-aggregate-write-bytes c = search needs
-
 write-bytes-requires : tie.Need-write-bytes-requires
 write-bytes-requires c κs = first-room (halves (c .before .before))
 
@@ -34,9 +28,6 @@ sub-write-decimal c = rest-starts (halves (c .before .before .before .before .be
 
 part-write-decimal-start : tie.Need-part-write-decimal-start
 part-write-decimal-start c = rest-starts (halves (c .before .before .before .before .before)) (c .before .before .write-bytes .ensures)
-
-part-write-decimal-end : tie.Need-part-write-decimal-end
-part-write-decimal-end c = search needs
 
 add-write-decimal : tie.Need-add-write-decimal
 add-write-decimal c =
@@ -52,9 +43,6 @@ add-result c =
     let below = c .before .before .before .before .before .before .before .before .before in
     omega (arith, whole-room (halves below) (c .before .before .before .before .before .before .write-bytes .ensures) (c .before .before .write-decimal .ensures))
 
-same-length : tie.Need-same-length
-same-length c = search needs
-
 returns : tie.Need-returns
 returns c =
     let below = c .before .before .before .before .before .before .before .before .before in
@@ -63,9 +51,6 @@ returns c =
 write-decimal-requires-2 : tie.Need-write-decimal-requires-2
 write-decimal-requires-2 c κs = rw (plain (c .before)) (c .before .before .before .before .pre)
 
-same-length-2 : tie.Need-same-length-2
-same-length-2 c = search needs
-
 returns-2 : tie.Need-returns-2
 returns-2 c = rw (plain (c .before .before .before .before)) at (c .before .before .write-decimal2 .ensures)
 
@@ -73,17 +58,17 @@ pub write-number-spec : {M : Type 1} → statement M
 write-number-spec =
     tie.close
     (tie.spec
-    magnitude-requires
-    slice-aggregate-write-bytes
+    (λ c κs. search needs)
+    (λ c. search needs)
     write-bytes-requires
     sub-write-decimal
     part-write-decimal-start
-    part-write-decimal-end
+    (λ c. search needs)
     add-write-decimal
     write-decimal-requires
     add-result
-    same-length
+    (λ c. search needs)
     returns
     write-decimal-requires-2
-    same-length-2
+    (λ c. search needs)
     returns-2)

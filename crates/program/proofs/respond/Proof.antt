@@ -7,27 +7,12 @@ use borrow.Author.Needs.{needs}
 use Rattle.program.proofs.respond.Statement.{statement}
 use Rattle.program.proofs.respond.Tie as tie
 
-answer-refusal-requires : tie.Need-answer-refusal-requires
-answer-refusal-requires c κs = search needs
-
-same-length : tie.Need-same-length
-same-length c = search needs
-
 returns : tie.Need-returns
 returns c =
     let at-answer = c .before .before in
     let at-if1 = at-answer .before .before in
     let s = at-if1 .before .before .before in
     answered-as (respond-long (s .args .input .now) (at-if1 .if1 .taken)) (at-answer .answer-refusal .ensures)
-
-is-ended-requires : tie.Need-is-ended-requires
-is-ended-requires c κs = search needs
-
-answer-refusal-requires-2 : tie.Need-answer-refusal-requires-2
-answer-refusal-requires-2 c κs = search needs
-
-same-length-2 : tie.Need-same-length-2
-same-length-2 c = search needs
 
 returns-2 : tie.Need-returns-2
 returns-2 c =
@@ -42,15 +27,6 @@ returns-2 c =
 find-end-requires : tie.Need-find-end-requires
 find-end-requires c κs = sym (c .before .is-ended .ensures) ∙ not-false _ (c .if2 .left)
 
-enum-told : tie.Need-enum-told
-enum-told c = search needs
-
-answer-refusal-requires-3 : tie.Need-answer-refusal-requires-3
-answer-refusal-requires-3 c κs = search needs
-
-enum-known-found : tie.Need-enum-known-found
-enum-known-found c = search needs
-
 answer-list-requires : tie.Need-answer-list-requires
 answer-list-requires c κs =
     let at-found = c .before .before in
@@ -61,9 +37,6 @@ answer-list-requires c κs =
     let s = at-if1 .before .before .before in
     let ended = sym (at-ended .is-ended .ensures) ∙ not-false _ (at-if2 .if2 .left) in
     list-asked (s .args .input .now) (at-if1 .if1 .left) ended (at-end .find-end .ensures) (at-found .found .given .1)
-
-same-length-3 : tie.Need-same-length-3
-same-length-3 c = search needs
 
 returns-3 : tie.Need-returns-3
 returns-3 c =
@@ -76,9 +49,6 @@ returns-3 c =
     let s = at-if1 .before .before .before in
     let ended = sym (at-ended .is-ended .ensures) ∙ not-false _ (at-if2 .if2 .left) in
     answered-as (respond-missing (s .args .input .now) (at-if1 .if1 .left) ended (at-end .find-end .ensures) (at-found .enum-told .given .1)) (at-answer .answer-refusal3 .ensures)
-
-same-length-4 : tie.Need-same-length-4
-same-length-4 c = search needs
 
 returns-4 : tie.Need-returns-4
 returns-4 c =
@@ -94,19 +64,19 @@ pub respond-spec : {M : Type 1} → statement M
 respond-spec =
     tie.close
     (tie.spec
-    answer-refusal-requires
-    same-length
+    (λ c κs. search needs)
+    (λ c. search needs)
     returns
-    is-ended-requires
-    answer-refusal-requires-2
-    same-length-2
+    (λ c κs. search needs)
+    (λ c κs. search needs)
+    (λ c. search needs)
     returns-2
     find-end-requires
-    enum-told
-    answer-refusal-requires-3
-    enum-known-found
+    (λ c. search needs)
+    (λ c κs. search needs)
+    (λ c. search needs)
     answer-list-requires
-    same-length-3
+    (λ c. search needs)
     returns-3
-    same-length-4
+    (λ c. search needs)
     returns-4)

@@ -4,12 +4,6 @@ use borrow.Author.Needs.{needs}
 use Rattle.stored_answers.proofs.print_answer.Statement.{statement}
 use Rattle.stored_answers.proofs.print_answer.Tie as tie
 
-slice-aggregate-respond : tie.Need-slice-aggregate-respond
-slice-aggregate-respond c = search needs
-
-respond-requires : tie.Need-respond-requires
-respond-requires c κs = search needs
-
 array-share-prefix-output : tie.Need-array-share-prefix-output
 array-share-prefix-output c =
     let inside = written-within (c .before .respond .ensures) in
@@ -18,19 +12,13 @@ array-share-prefix-output c =
 slice-aggregate-write-all : tie.Need-slice-aggregate-write-all
 slice-aggregate-write-all c = written-count (c .before .before .respond .ensures) (c .before .output2 .given)
 
-write-all-requires : tie.Need-write-all-requires
-write-all-requires c κs = search needs
-
-returns : tie.Need-returns
-returns c = search needs
-
 pub print-answer-spec : {M : Type 1} → statement M
 print-answer-spec =
     tie.close
     (tie.spec
-    slice-aggregate-respond
-    respond-requires
+    (λ c. search needs)
+    (λ c κs. search needs)
     array-share-prefix-output
     slice-aggregate-write-all
-    write-all-requires
-    returns)
+    (λ c κs. search needs)
+    (λ c. search needs))

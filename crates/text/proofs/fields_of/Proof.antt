@@ -17,12 +17,6 @@ use Rattle.text.proofs.fields_of.Tie as tie
 line : (c : tie.Start) → InLine (c .args .text .now) (c .args .at) (endOf (c .args .text .now) (c .args .at))
 line c = in-line (c .args .text .now) (c .pre .0) (c .args .at) (c .pre .1)
 
-word-at-requires : tie.Need-word-at-requires
-word-at-requires c κs = search needs
-
-enum-known-spelled : tie.Need-enum-known-spelled
-enum-known-spelled c = search needs
-
 shared-slice-read-if1 : tie.Need-shared-slice-read-if1
 shared-slice-read-if1 c =
     let at-word = c .before .before .before .before in
@@ -48,9 +42,6 @@ add-from : tie.Need-add-from
 add-from c =
     let at-word = c .before .before .before .before .before in
     omega (arith, place-inside (word-place (line (at-word .before .before)) (at-word .word-at .ensures) (c .before .before .before .spelled .given .1)))
-
-enum-told : tie.Need-enum-told
-enum-told c = search needs
 
 same-word : {v w : Word} {i j : ℕ} → Known v i ≡ Known w j → v ≡ w
 same-word q = cc
@@ -83,15 +74,6 @@ numbers-from-requires c κs =
     (λ w. (start .pre .0, omega (arith, w .2, start .pre .1), start .pre .2))
     (started (c .before))
 
-enum-known-count : tie.Need-enum-known-count
-enum-known-count c = search needs
-
-enum-told-2 : tie.Need-enum-told-2
-enum-told-2 c = search needs
-
-same-length : tie.Need-same-length
-same-length c = search needs
-
 returns-2 : tie.Need-returns-2
 unfolding Started
 returns-2 c =
@@ -109,15 +91,6 @@ returns-2 c =
       bare-stored (line start) (at-word .word-at .ensures) (w .0) (rw (w .2) at (at-numbers .numbers-from .ensures .1)),
     ))
     (started at-match)
-
-enum-known-spelled-2 : tie.Need-enum-known-spelled-2
-enum-known-spelled-2 c = search needs
-
-enum-told-3 : tie.Need-enum-told-3
-enum-told-3 c = search needs
-
-same-length-2 : tie.Need-same-length-2
-same-length-2 c = search needs
 
 -- the line of the numbers ends before the text does
 end-inside : (c : tie.After-count) → c .count .given .0 .1 .0 < length (c .before .before .before .before .before .before .before .before .args .text .now)
@@ -150,9 +123,6 @@ returns-3 c =
     (λ w. absurd (no-word-known (sym (w .1) ∙ is)))
     (started at-match)
 
-same-length-3 : tie.Need-same-length-3
-same-length-3 c = search needs
-
 add-t18 : tie.Need-add-t18
 add-t18 c = let inside = end-inside (c .before .before .before) in search (needs, inside)
 
@@ -178,23 +148,23 @@ pub fields-of-spec : {M : Type 1} → statement M
 fields-of-spec =
     tie.close
     (tie.spec
-    word-at-requires
-    enum-known-spelled
+    (λ c κs. search needs)
+    (λ c. search needs)
     shared-slice-read-if1
     worded-requires
     returns
     add-from
-    enum-told
+    (λ c. search needs)
     numbers-from-requires
-    enum-known-count
-    enum-told-2
-    same-length
+    (λ c. search needs)
+    (λ c. search needs)
+    (λ c. search needs)
     returns-2
-    enum-known-spelled-2
+    (λ c. search needs)
     worded-requires-2
-    enum-told-3
+    (λ c. search needs)
     add-t18
-    same-length-2
+    (λ c. search needs)
     returns-3
-    same-length-3
+    (λ c. search needs)
     returns-4)

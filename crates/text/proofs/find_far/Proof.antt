@@ -17,27 +17,12 @@ abbrev μ-loop : tie.MeasureT-loop
 loop-holds : tie.Need-loop-holds Inv-loop μ-loop
 loop-holds c = record { low = search needs; high = search needs; same = refl }
 
-sub-loop : tie.Need-sub-loop Inv-loop μ-loop
-sub-loop c = search needs
-
-shared-slice-read-if1 : tie.Need-shared-slice-read-if1 Inv-loop μ-loop
-shared-slice-read-if1 c = search needs
-
 returns : tie.Need-returns Inv-loop μ-loop
 returns c =
     let at-test = c .before .before in
     let at-loop = at-test .before .loop in
     let passed0 = at-loop .inv in
     search-here passed0 (omega (arith, at-test .loop-test .taken)) (c .if1 .taken)
-
-add-if2 : tie.Need-add-if2 Inv-loop μ-loop
-add-if2 c = search needs
-
-shared-slice-read-if2 : tie.Need-shared-slice-read-if2 Inv-loop μ-loop
-shared-slice-read-if2 c = search needs
-
-add-result : tie.Need-add-result Inv-loop μ-loop
-add-result c = search needs
 
 returns-2 : tie.Need-returns-2 Inv-loop μ-loop
 returns-2 c =
@@ -47,15 +32,6 @@ returns-2 c =
     let passed0 = at-loop .inv in
     let passed1 = search-past passed0 (omega (arith, at-test .loop-test .taken)) (at-if1 .if1 .left) {j = at-loop .i + 1} (omega arith) in
     search-here passed1 (omega (arith, at-test .loop-test .taken)) (c .if2 .taken)
-
-add-if3 : tie.Need-add-if3 Inv-loop μ-loop
-add-if3 c = search needs
-
-shared-slice-read-if3 : tie.Need-shared-slice-read-if3 Inv-loop μ-loop
-shared-slice-read-if3 c = search needs
-
-add-result-2 : tie.Need-add-result-2 Inv-loop μ-loop
-add-result-2 c = search needs
 
 returns-3 : tie.Need-returns-3 Inv-loop μ-loop
 returns-3 c =
@@ -67,15 +43,6 @@ returns-3 c =
     let passed1 = search-past passed0 (omega (arith, at-test .loop-test .taken)) (at-if1 .if1 .left) {j = at-loop .i + 1} (omega arith) in
     let passed2 = search-past passed1 (omega (arith, at-test .loop-test .taken)) (at-if2 .if2 .left) {j = at-loop .i + 2} (omega arith) in
     search-here passed2 (omega (arith, at-test .loop-test .taken)) (c .if3 .taken)
-
-add-if4 : tie.Need-add-if4 Inv-loop μ-loop
-add-if4 c = search needs
-
-shared-slice-read-if4 : tie.Need-shared-slice-read-if4 Inv-loop μ-loop
-shared-slice-read-if4 c = search needs
-
-add-result-3 : tie.Need-add-result-3 Inv-loop μ-loop
-add-result-3 c = search needs
 
 returns-4 : tie.Need-returns-4 Inv-loop μ-loop
 returns-4 c =
@@ -90,12 +57,6 @@ returns-4 c =
     let passed3 = search-past passed2 (omega (arith, at-test .loop-test .taken)) (at-if3 .if3 .left) {j = at-loop .i + 3} (omega arith) in
     search-here passed3 (omega (arith, at-test .loop-test .taken)) (c .if4 .taken)
 
-add-i : tie.Need-add-i Inv-loop μ-loop
-add-i c = search needs
-
-loop-less : tie.Need-loop-less Inv-loop μ-loop
-loop-less c = search needs
-
 loop-again : tie.Need-loop-again Inv-loop μ-loop
 loop-again c =
     let at-if3 = c .before .before in
@@ -109,9 +70,6 @@ loop-again c =
     let passed3 = search-past passed2 (omega (arith, at-test .loop-test .taken)) (at-if3 .if3 .left) {j = at-loop .i + 3} (omega arith) in
     search-past passed3 (omega (arith, at-test .loop-test .taken)) (c .if4 .left) (omega arith)
 
-find-requires : tie.Need-find-requires Inv-loop μ-loop
-find-requires c κs = search needs
-
 returns-5 : tie.Need-returns-5 Inv-loop μ-loop
 returns-5 c =
     search-on (c .before .before .loop .inv) (c .find .ensures)
@@ -123,23 +81,23 @@ find-far-spec =
     Inv-loop
     μ-loop
     loop-holds
-    sub-loop
-    shared-slice-read-if1
+    (λ c. search needs)
+    (λ c. search needs)
     returns
-    add-if2
-    shared-slice-read-if2
-    add-result
+    (λ c. search needs)
+    (λ c. search needs)
+    (λ c. search needs)
     returns-2
-    add-if3
-    shared-slice-read-if3
-    add-result-2
+    (λ c. search needs)
+    (λ c. search needs)
+    (λ c. search needs)
     returns-3
-    add-if4
-    shared-slice-read-if4
-    add-result-3
+    (λ c. search needs)
+    (λ c. search needs)
+    (λ c. search needs)
     returns-4
-    add-i
-    loop-less
+    (λ c. search needs)
+    (λ c. search needs)
     loop-again
-    find-requires
+    (λ c κs. search needs)
     returns-5)

@@ -8,16 +8,10 @@ use Rattle.text.proofs.is_ended.Tie as tie
 returns : tie.Need-returns
 returns c = sym (ended-empty _ (c .if1 .taken))
 
-sub-result : tie.Need-sub-result
-sub-result c = search needs
-
-shared-slice-read-result : tie.Need-shared-slice-read-result
-shared-slice-read-result c = search needs
-
 returns-2 : tie.Need-returns-2
 returns-2 c =
     let start = c .before .before in
     sym (ended-last (start .args .text .now) (c .before .if1 .left))
 
 pub is-ended-spec : {M : Type 1} → statement M
-is-ended-spec = tie.close (tie.spec returns sub-result shared-slice-read-result returns-2)
+is-ended-spec = tie.close (tie.spec returns (λ c. search needs) (λ c. search needs) returns-2)

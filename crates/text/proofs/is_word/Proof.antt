@@ -30,21 +30,12 @@ add-if1 c = omega (arith, place-inside (c .before .loop .inv .1 .place))
 shared-slice-read-if1 : tie.Need-shared-slice-read-if1 Inv-loop μ-loop
 shared-slice-read-if1 c = omega (arith, place-inside (c .before .before .loop .inv .1 .place))
 
-shared-slice-read-if1-2 : tie.Need-shared-slice-read-if1-2 Inv-loop μ-loop
-shared-slice-read-if1-2 c = search needs
-
 returns : tie.Need-returns Inv-loop μ-loop
 unfolding Spells
 returns c =
     let at-test = c .before .before .before in
     let now = at-test .before .loop in
     spelling-differs (wordOf (at-test .before .before .before .before .args .word)) (now .inv .1) (rw (now .inv .0) at (at-test .loop-test .taken)) (rw (now .inv .0) at (c .if1 .taken))
-
-add-i : tie.Need-add-i Inv-loop μ-loop
-add-i c = search needs
-
-loop-less : tie.Need-loop-less Inv-loop μ-loop
-loop-less c = search needs
 
 loop-again : tie.Need-loop-again Inv-loop μ-loop
 loop-again c =
@@ -57,9 +48,6 @@ add-end c = omega (arith, place-inside (c .before .loop .inv .1 .place))
 
 shared-slice-read-is-end : tie.Need-shared-slice-read-is-end Inv-loop μ-loop
 shared-slice-read-is-end c = omega (arith, place-inside (c .before .before .loop .inv .1 .place))
-
-is-end-requires : tie.Need-is-end-requires Inv-loop μ-loop
-is-end-requires c κs = search needs
 
 returns-2 : tie.Need-returns-2 Inv-loop μ-loop
 unfolding Spells
@@ -87,13 +75,13 @@ is-word-spec =
     loop-holds
     add-if1
     shared-slice-read-if1
-    shared-slice-read-if1-2
+    (λ c. search needs)
     returns
-    add-i
-    loop-less
+    (λ c. search needs)
+    (λ c. search needs)
     loop-again
     add-end
     shared-slice-read-is-end
-    is-end-requires
+    (λ c κs. search needs)
     returns-2
     returns-3)

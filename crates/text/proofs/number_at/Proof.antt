@@ -13,18 +13,9 @@ use Rattle.text.proofs.number_at.Tie as tie
 line : (c : tie.Start) → InLine (c .args .text .now) (c .args .at) (endOf (c .args .text .now) (c .args .at))
 line c = in-line (c .args .text .now) (c .pre .0) (c .args .at) (c .pre .1)
 
-shared-slice-read-first : tie.Need-shared-slice-read-first
-shared-slice-read-first c = search needs
-
-add-next : tie.Need-add-next
-add-next c = search needs
-
 shared-slice-read-is-end : tie.Need-shared-slice-read-is-end
 shared-slice-read-is-end c =
     omega (arith, place-inside (place-next (line (c .before .before .before .before)) (λ e. omega (arith, c .before .if1 .taken))))
-
-is-end-requires : tie.Need-is-end-requires
-is-end-requires c κs = search needs
 
 returns : tie.Need-returns
 returns c =
@@ -37,9 +28,6 @@ returns-2 c =
     let stop = no-field-end _ (sym (c .before .is-end .ensures) ∙ c .if2 .left) in
     reads-no-zero (line (at-if1 .before .before .before)) (at-if1 .if1 .taken) (stop .0) (stop .1)
 
-add-from : tie.Need-add-from
-add-from c = search needs
-
 size-from-requires : tie.Need-size-from-requires
 size-from-requires c κs =
     let start = c .before .before .before .before in
@@ -47,12 +35,6 @@ size-from-requires c κs =
     (λ w. (start .pre .0, omega (arith, w .1, place-inside (place-next (line start) (λ e. omega (arith, w .0 .taken))))))
     (λ w. (start .pre .0, omega (arith, w .1, start .pre .1)))
     (c .if3 .came)
-
-enum-known-n : tie.Need-enum-known-n
-enum-known-n c = search needs
-
-enum-told : tie.Need-enum-told
-enum-told c = search needs
 
 returns-3 : tie.Need-returns-3
 returns-3 c =
@@ -105,16 +87,16 @@ pub number-at-spec : {M : Type 1} → statement M
 number-at-spec =
     tie.close
     (tie.spec
-    shared-slice-read-first
-    add-next
+    (λ c. search needs)
+    (λ c. search needs)
     shared-slice-read-is-end
-    is-end-requires
+    (λ c κs. search needs)
     returns
     returns-2
-    add-from
+    (λ c. search needs)
     size-from-requires
-    enum-known-n
-    enum-told
+    (λ c. search needs)
+    (λ c. search needs)
     returns-3
     cast-t15
     returns-4

@@ -6,18 +6,6 @@ use borrow.Author.Needs.{needs}
 use Rattle.text.proofs.number_of.Statement.{statement}
 use Rattle.text.proofs.number_of.Tie as tie
 
-slice-aggregate-fields-of : tie.Need-slice-aggregate-fields-of
-slice-aggregate-fields-of c = search needs
-
-fields-of-requires : tie.Need-fields-of-requires
-fields-of-requires c κs = search needs
-
-enum-known-fields : tie.Need-enum-known-fields
-enum-known-fields c = search needs
-
-array-copy-out-t13 : tie.Need-array-copy-out-t13
-array-copy-out-t13 c = search needs
-
 sub-t14 : tie.Need-sub-t14
 sub-t14 c =
     let at-told = c .before .before in
@@ -33,12 +21,6 @@ returns c =
     let told = rw (at-told .before .fields .given .1) at (at-fields .fields-of .ensures .0) in
     reads-one (start .args .text .now) (start .args .at) _ _ _ told (c .before .if1 .taken)
     (in-line (start .args .text .now) (start .pre .0) (start .args .at) (start .pre .1))
-
-enum-told : tie.Need-enum-told
-enum-told c = search needs
-
-enum-told-2 : tie.Need-enum-told-2
-enum-told-2 c = search needs
 
 returns-2 : tie.Need-returns-2
 returns-2 c =
@@ -68,14 +50,14 @@ pub number-of-spec : {M : Type 1} → statement M
 number-of-spec =
     tie.close
     (tie.spec
-    slice-aggregate-fields-of
-    fields-of-requires
-    enum-known-fields
-    array-copy-out-t13
+    (λ c. search needs)
+    (λ c κs. search needs)
+    (λ c. search needs)
+    (λ c. search needs)
     sub-t14
     returns
-    enum-told
-    enum-told-2
+    (λ c. search needs)
+    (λ c. search needs)
     returns-2
     returns-3
     returns-4)

@@ -41,15 +41,6 @@ number : (c : tie.After-number-at Inv-loop μ-loop) → let s = c .before .befor
     NumberRead (upTo (s .text .now) (s .from)) (c .before .before .loop .at) (c .number-at .result)
 number c = rw (same-line (c .before .before .loop .inv .0)) at (c .number-at .ensures)
 
-enum-known-n : tie.Need-enum-known-n Inv-loop μ-loop
-enum-known-n c = search needs
-
-enum-told : tie.Need-enum-told Inv-loop μ-loop
-enum-told c = search needs
-
-same-length : tie.Need-same-length Inv-loop μ-loop
-same-length c = search needs
-
 returns : tie.Need-returns Inv-loop μ-loop
 unfolding NumbersTold fieldsOf
 returns c =
@@ -58,15 +49,6 @@ returns c =
     let s = at-number .before .before .before .before .args in
     let line = upTo (s .text .now) (s .from) in
     reading-none (now .inv .2) (now .inv .1) (fields-from line (now .at)) (number-is-none _ _ (number at-number) (c .enum-told .given .1))
-
-mul-n : tie.Need-mul-n Inv-loop μ-loop
-mul-n c = search needs
-
-slice-set-from-n : tie.Need-slice-set-from-n Inv-loop μ-loop
-slice-set-from-n c = search needs
-
-add-count : tie.Need-add-count Inv-loop μ-loop
-add-count c = search needs
 
 -- after a number: where its field ends, which is in the line
 ends : (c : tie.After-known-told Inv-loop μ-loop) → let s = c .before .before .before .before .before .before .before .args in
@@ -96,9 +78,6 @@ kept c = search needs
 
 shared-slice-read-if1 : tie.Need-shared-slice-read-if1 Inv-loop μ-loop
 shared-slice-read-if1 c = omega (arith, place-inside (place (c .before)))
-
-same-length-2 : tie.Need-same-length-2 Inv-loop μ-loop
-same-length-2 c = search needs
 
 returns-2 : tie.Need-returns-2 Inv-loop μ-loop
 unfolding NumbersTold
@@ -132,9 +111,6 @@ loop-again c =
       rw (kept at-told) (rw (parts-more 9 line end (omega (arith, cut-length l, inside))) at (turn at-told)),
     )
 
-same-length-3 : tie.Need-same-length-3 Inv-loop μ-loop
-same-length-3 c = search needs
-
 returns-3 : tie.Need-returns-3 Inv-loop μ-loop
 unfolding NumbersTold fieldsOf
 returns-3 c =
@@ -150,18 +126,18 @@ numbers-from-spec =
     μ-loop
     loop-holds
     number-at-requires
-    enum-known-n
-    enum-told
-    same-length
+    (λ c. search needs)
+    (λ c. search needs)
+    (λ c. search needs)
     returns
-    mul-n
-    slice-set-from-n
-    add-count
+    (λ c. search needs)
+    (λ c. search needs)
+    (λ c. search needs)
     shared-slice-read-if1
-    same-length-2
+    (λ c. search needs)
     returns-2
     add-at
     loop-less
     loop-again
-    same-length-3
+    (λ c. search needs)
     returns-3)

@@ -13,12 +13,6 @@ use Rattle.text.proofs.only_word.Tie as tie
 line : (c : tie.Start) → InLine (c .args .text .now) (c .args .at) (endOf (c .args .text .now) (c .args .at))
 line c = in-line (c .args .text .now) (c .pre .0) (c .args .at) (c .pre .1)
 
-shared-slice-read-first : tie.Need-shared-slice-read-first
-shared-slice-read-first c = search needs
-
-add-if2 : tie.Need-add-if2
-add-if2 c = search needs
-
 shared-slice-read-if2 : tie.Need-shared-slice-read-if2
 shared-slice-read-if2 c = omega (arith, place-inside (place-next (line (c .before .before .before)) (λ e. omega (arith, c .before .if1 .taken))))
 
@@ -33,9 +27,6 @@ unfolding toldBy wordOf
 returns-2 c w q =
     let at-if1 = c .before .before in
     told-only (line (at-if1 .before .before)) w q ∙ simp (eq-eqb _ _ (at-if1 .if1 .taken), ne-eqb _ _ (c .if2 .left))
-
-add-if4 : tie.Need-add-if4
-add-if4 c = search needs
 
 shared-slice-read-if4 : tie.Need-shared-slice-read-if4
 shared-slice-read-if4 c = omega (arith, place-inside (place-next (line (c .before .before .before .before)) (λ e. omega (arith, c .before .if3 .taken))))
@@ -77,12 +68,12 @@ pub only-word-spec : {M : Type 1} → statement M
 only-word-spec =
     tie.close
     (tie.spec
-    shared-slice-read-first
-    add-if2
+    (λ c. search needs)
+    (λ c. search needs)
     shared-slice-read-if2
     returns
     returns-2
-    add-if4
+    (λ c. search needs)
     shared-slice-read-if4
     returns-3
     returns-4

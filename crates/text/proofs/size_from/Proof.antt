@@ -34,9 +34,6 @@ digit : (c : tie.Then3 Inv-loop μ-loop) → let now = c .before .before .loop i
     isDigit (getD (c .before .before .before .before .before .before .before .before .args .text .now) (now .i) 0) ≡ true
 digit c = rw (c .before .before .loop .inv .1) at (sym (c .before .is-digit .ensures) ∙ c .if3 .taken)
 
-shared-slice-read-first : tie.Need-shared-slice-read-first Inv-loop μ-loop
-shared-slice-read-first c = search needs
-
 returns : tie.Need-returns Inv-loop μ-loop
 returns c =
     let start = c .before .before .before in
@@ -48,15 +45,6 @@ returns-2 c =
     let start = at-if1 .before .before .before in
     size-starts-high (start-line start) (at-if1 .if1 .left) (c .if2 .taken)
 
-sub-n : tie.Need-sub-n Inv-loop μ-loop
-sub-n c = search needs
-
-cast-n : tie.Need-cast-n Inv-loop μ-loop
-cast-n c = search needs
-
-add-i : tie.Need-add-i Inv-loop μ-loop
-add-i c = search needs
-
 shared-slice-read-byte : tie.Need-shared-slice-read-byte Inv-loop μ-loop
 shared-slice-read-byte c = omega (arith, place-inside (start-sizing (c .before) .place))
 
@@ -64,9 +52,6 @@ loop-holds : tie.Need-loop-holds Inv-loop μ-loop
 loop-holds c =
     let sizing = start-sizing (c .before) in
     (sizing, refl, omega arith)
-
-is-digit-requires : tie.Need-is-digit-requires Inv-loop μ-loop
-is-digit-requires c κs = search needs
 
 sub-if4 : tie.Need-sub-if4 Inv-loop μ-loop
 sub-if4 c = omega (arith, c .before .before .loop .inv .0 .later)
@@ -113,9 +98,6 @@ returns-4 c =
     let now = c .before .before .before .loop in
     sizing-over (now .inv .0) (c .if5 .taken)
 
-is-end-requires : tie.Need-is-end-requires Inv-loop μ-loop
-is-end-requires c κs = search needs
-
 returns-5 : tie.Need-returns-5 Inv-loop μ-loop
 returns-5 c =
     let now = c .before .before .before .before .before .loop in
@@ -136,15 +118,15 @@ size-from-spec =
     (tie.spec
     Inv-loop
     μ-loop
-    shared-slice-read-first
+    (λ c. search needs)
     returns
     returns-2
-    sub-n
-    cast-n
-    add-i
+    (λ c. search needs)
+    (λ c. search needs)
+    (λ c. search needs)
     shared-slice-read-byte
     loop-holds
-    is-digit-requires
+    (λ c κs. search needs)
     sub-if4
     returns-3
     mul-n
@@ -156,6 +138,6 @@ size-from-spec =
     loop-less
     loop-again
     returns-4
-    is-end-requires
+    (λ c κs. search needs)
     returns-5
     returns-6)

@@ -5,12 +5,6 @@ use borrow.Author.Needs.{needs}
 use Rattle.text.proofs.worded.Statement.{statement}
 use Rattle.text.proofs.worded.Tie as tie
 
-add-next : tie.Need-add-next
-add-next c = search needs
-
-is-count-requires : tie.Need-is-count-requires
-is-count-requires c κs = search needs
-
 returns : tie.Need-returns
 unfolding wordedBy
 returns c = sym (rw (sym (c .before .is-count .ensures) ∙ c .if1 .taken))
@@ -20,4 +14,4 @@ unfolding wordedBy
 returns-2 c = sym (rw (sym (c .before .is-count .ensures) ∙ c .if1 .left))
 
 pub worded-spec : {M : Type 1} → statement M
-worded-spec = tie.close (tie.spec add-next is-count-requires returns returns-2)
+worded-spec = tie.close (tie.spec (λ c. search needs) (λ c κs. search needs) returns returns-2)

@@ -7,20 +7,11 @@ use Rattle.desk.proofs.Calling.{tested-agrees, call-disagrees, call-ful
 use Rattle.desk.proofs.Desk.call.Statement.{statement}
 use Rattle.desk.proofs.Desk.call.Tie as tie
 
-agrees-requires : tie.Need-agrees-requires
-agrees-requires c κs = search needs
-
-refusal-requires : tie.Need-refusal-requires
-refusal-requires c κs = search needs
-
 returns : tie.Need-returns
 returns c =
     let S = c .before .before .before .before .before .before in
     let disagrees = call-disagrees (S .args .self) _ (c .before .before .before .agrees .ensures) _ (c .before .if1 .taken) in
     in-plain-words (S .args .self) _ _ (c .refusal .ensures ∙ sym disagrees)
-
-refusal-requires-2 : tie.Need-refusal-requires-2
-refusal-requires-2 c κs = search needs
 
 returns-2 : tie.Need-returns-2
 unfolding fullCount
@@ -29,9 +20,6 @@ returns-2 c =
     let agrees = tested-agrees (S .args .self) _ (c .before .before .before .before .agrees .ensures) (c .before .before .if1 .left) in
     let full = call-full (S .args .self) _ agrees (eqb-true (S .args .self .heard) fullCount (c .before .if2 .taken)) in
     in-plain-words (S .args .self) _ _ (c .refusal2 .ensures ∙ sym full)
-
-check-requires : tie.Need-check-requires
-check-requires c κs = search needs
 
 raised-requires : tie.Need-raised-requires
 unfolding fullCount
@@ -52,11 +40,11 @@ pub call-spec : {M : Type 1} → statement M
 call-spec =
     tie.close
     (tie.spec
-    agrees-requires
-    refusal-requires
+    (λ c κs. search needs)
+    (λ c κs. search needs)
     returns
-    refusal-requires-2
+    (λ c κs. search needs)
     returns-2
-    check-requires
+    (λ c κs. search needs)
     raised-requires
     returns-3)

@@ -69,9 +69,6 @@ returns-5 c =
 mul-base : tie.Need-mul-base Inv-loop μ-loop
 mul-base c = wide-product (omega arith) (omega arith)
 
-loop-less : tie.Need-loop-less Inv-loop μ-loop
-loop-less c = search needs
-
 loop-again : tie.Need-loop-again Inv-loop μ-loop
 loop-again c =
     let at-factor = c .before .before in
@@ -94,6 +91,6 @@ capped-power-spec =
     mul-c
     returns-5
     mul-base
-    loop-less
+    (λ c. search needs)
     loop-again
     returns-6)

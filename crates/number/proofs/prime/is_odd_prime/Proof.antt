@@ -17,17 +17,8 @@ returns c = odd-prime-low _ (omega arith)
 returns-2 : tie.Need-returns-2
 returns-2 c = odd-prime-passes _ (omega arith) (known-prime _ (c .match .keys1))
 
-slice-aggregate-is-listed : tie.Need-slice-aggregate-is-listed
-slice-aggregate-is-listed c = search needs
-
-is-listed-requires : tie.Need-is-listed-requires
-is-listed-requires c κs = search needs
-
 returns-3 : tie.Need-returns-3
 returns-3 c = listed-decides _ _ (omega arith) (omega arith) (c .is-listed .ensures)
-
-slice-aggregate-first-divisor : tie.Need-slice-aggregate-first-divisor
-slice-aggregate-first-divisor c = search needs
 
 -- the law of the table holds of the table in the code
 first-divisor-requires : tie.Need-first-divisor-requires
@@ -45,20 +36,17 @@ passes-odd-trial-requires c κs =
     let e : d .result ≡ 54 = omega (arith, d .ensures .within) in
     (omega arith, rw e at (d .ensures))
 
-returns-5 : tie.Need-returns-5
-returns-5 c = search needs
-
 pub is-odd-prime-spec : {M : Type 1} → statement M
 is-odd-prime-spec =
     tie.close
     (tie.spec
     returns
     returns-2
-    slice-aggregate-is-listed
-    is-listed-requires
+    (λ c. search needs)
+    (λ c κs. search needs)
     returns-3
-    slice-aggregate-first-divisor
+    (λ c. search needs)
     first-divisor-requires
     returns-4
     passes-odd-trial-requires
-    returns-5)
+    (λ c. search needs))

@@ -33,9 +33,6 @@ short c = elim (decLt (c .square-root .result) 65536) [
   | no h ↦ let m : 65536 ≤ c .square-root .result = omega arith in absurd (omega (arith, mul-le-mul m m, square c))
 ]
 
-square-root-requires : tie.Need-square-root-requires Inv-loop μ-loop
-square-root-requires c κs = search needs
-
 cast-root : tie.Need-cast-root Inv-loop μ-loop
 cast-root c = let h = short c in search needs
 
@@ -43,9 +40,6 @@ cast-root c = let h = short c in search needs
 
 loop-holds : tie.Need-loop-holds Inv-loop μ-loop
 loop-holds c = (search needs, search needs, λ k h t l. absurd (omega arith))
-
-slice-aggregate-first-divisor : tie.Need-slice-aggregate-first-divisor Inv-loop μ-loop
-slice-aggregate-first-divisor c = search needs
 
 first-divisor-requires : tie.Need-first-divisor-requires Inv-loop μ-loop
 first-divisor-requires c κs k h =
@@ -69,9 +63,6 @@ returns c =
 
 add-d : tie.Need-add-d Inv-loop μ-loop
 add-d c = let h = short (c .before .before .before .before .before) in search needs
-
-loop-less : tie.Need-loop-less Inv-loop μ-loop
-loop-less c = search needs
 
 loop-again : tie.Need-loop-again Inv-loop μ-loop
 loop-again c =
@@ -109,13 +100,13 @@ passes-odd-trial-spec =
     (tie.spec
     Inv-loop
     μ-loop
-    square-root-requires
+    (λ c κs. search needs)
     cast-root
     loop-holds
-    slice-aggregate-first-divisor
+    (λ c. search needs)
     first-divisor-requires
     returns
     add-d
-    loop-less
+    (λ c. search needs)
     loop-again
     returns-2)

@@ -9,12 +9,6 @@ use Rattle.number.proofs.Remainder.{remainder-by}
 use Rattle.number.proofs.residue.difference.Statement.{statement}
 use Rattle.number.proofs.residue.difference.Tie as tie
 
-sub-t6 : tie.Need-sub-t6
-sub-t6 c = search needs
-
-add-t7 : tie.Need-add-t7
-add-t7 c = search needs
-
 returns : tie.Need-returns
 returns c = let p = c .before .before .before .before .before .args .p in (
   omega arith,
@@ -26,4 +20,4 @@ returns-2 : tie.Need-returns-2
 returns-2 c = (omega arith, remainder-by _ _ (pos 0) _ (omega arith) (omega linear))
 
 pub difference-spec : {M : Type 1} → statement M
-difference-spec = tie.close (tie.spec sub-t6 add-t7 returns returns-2)
+difference-spec = tie.close (tie.spec (λ c. search needs) (λ c. search needs) returns returns-2)

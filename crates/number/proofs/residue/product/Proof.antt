@@ -8,20 +8,11 @@ use Rattle.number.proofs.Remainder.{remainder-positive}
 use Rattle.number.proofs.residue.product.Statement.{statement}
 use Rattle.number.proofs.residue.product.Tie as tie
 
-cast-exact : tie.Need-cast-exact
-cast-exact c = search needs
-
-cast-exact-2 : tie.Need-cast-exact-2
-cast-exact-2 c = search needs
-
 mul-exact : tie.Need-mul-exact
 mul-exact c = wide-product (omega arith) (omega arith)
-
-reduced-requires : tie.Need-reduced-requires
-reduced-requires c κs = search needs
 
 returns : tie.Need-returns
 returns c = rw (c .reduced .ensures) (mod-lt _ (c .before .before .before .pre), sym (remainder-positive _ _))
 
 pub product-spec : {M : Type 1} → statement M
-product-spec = tie.close (tie.spec cast-exact cast-exact-2 mul-exact reduced-requires returns)
+product-spec = tie.close (tie.spec (λ c. search needs) (λ c. search needs) mul-exact (λ c κs. search needs) returns)

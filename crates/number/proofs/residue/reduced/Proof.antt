@@ -7,20 +7,11 @@ use Rattle.number.proofs.Word.{remainder-fits}
 use Rattle.number.proofs.residue.reduced.Statement.{statement}
 use Rattle.number.proofs.residue.reduced.Tie as tie
 
-cast-result : tie.Need-cast-result
-cast-result c = search needs
-
-rem-result : tie.Need-rem-result
-rem-result c = search needs
-
 cast-result-2 : tie.Need-cast-result-2
 cast-result-2 c = remainder-fits _ (c .before .pre) (omega arith)
 
 returns : tie.Need-returns
 returns c = sym (mod-eq-of-lt (c .if1 .taken))
 
-returns-2 : tie.Need-returns-2
-returns-2 c = search needs
-
 pub reduced-spec : {M : Type 1} → statement M
-reduced-spec = tie.close (tie.spec cast-result rem-result cast-result-2 returns returns-2)
+reduced-spec = tie.close (tie.spec (λ c. search needs) (λ c. search needs) cast-result-2 returns (λ c. search needs))

@@ -14,12 +14,6 @@ use Rattle.number.proofs.Remainder.{remainder-negative, remainder-posit
 use Rattle.number.proofs.residue.remainder_of.Statement.{statement}
 use Rattle.number.proofs.residue.remainder_of.Tie as tie
 
-magnitude-requires : tie.Need-magnitude-requires
-magnitude-requires c κs = search needs
-
-reduced-requires : tie.Need-reduced-requires
-reduced-requires c κs = search needs
-
 -- the remainder of the magnitude
 below : (c : tie.After-reduced) → c .reduced .result < c .before .before .args .p
 below c = rw (c .reduced .ensures) (mod-lt _ (c .before .before .pre))
@@ -49,4 +43,4 @@ returns-2 c =
     rw (r .reduced .ensures, r .before .magnitude .ensures) (sym e)
 
 pub remainder-of-spec : {M : Type 1} → statement M
-remainder-of-spec = tie.close (tie.spec magnitude-requires reduced-requires add-t7 sub-t8 returns returns-2)
+remainder-of-spec = tie.close (tie.spec (λ c κs. search needs) (λ c κs. search needs) add-t7 sub-t8 returns returns-2)

@@ -10,18 +10,6 @@ use Rattle.number.proofs.Word.{back, small, parts-fit}
 use Rattle.number.proofs.residue.signed_value.Statement.{statement}
 use Rattle.number.proofs.residue.signed_value.Tie as tie
 
-sub-half : tie.Need-sub-half
-sub-half c = search needs
-
-cast-t8 : tie.Need-cast-t8
-cast-t8 c = search needs
-
-cast-t9 : tie.Need-cast-t9
-cast-t9 c = search needs
-
-cast-t10 : tie.Need-cast-t10
-cast-t10 c = search needs
-
 sub-t11 : tie.Need-sub-t11
 sub-t11 c =
     let r = c .before .args .r .0 in
@@ -45,4 +33,4 @@ returns-2 c =
 
 pub signed-value-spec : {M : Type 1} → statement M
 signed-value-spec =
-    tie.close (tie.spec sub-half cast-t8 cast-t9 cast-t10 sub-t11 returns returns-2)
+    tie.close (tie.spec (λ c. search needs) (λ c. search needs) (λ c. search needs) (λ c. search needs) sub-t11 returns returns-2)

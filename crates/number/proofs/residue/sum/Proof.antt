@@ -7,12 +7,6 @@ use Rattle.number.proofs.Remainder.{remainder-by}
 use Rattle.number.proofs.residue.sum.Statement.{statement}
 use Rattle.number.proofs.residue.sum.Tie as tie
 
-sub-room : tie.Need-sub-room
-sub-room c = search needs
-
-add-t7 : tie.Need-add-t7
-add-t7 c = search needs
-
 returns : tie.Need-returns
 returns c = (omega arith, remainder-by _ _ (pos 0) _ (omega arith) (ap pos (omega arith)))
 
@@ -20,4 +14,4 @@ returns-2 : tie.Need-returns-2
 returns-2 c = (omega arith, remainder-by _ _ (pos 1) _ (omega arith) (ap pos (omega arith)))
 
 pub sum-spec : {M : Type 1} → statement M
-sum-spec = tie.close (tie.spec sub-room add-t7 returns returns-2)
+sum-spec = tie.close (tie.spec (λ c. search needs) (λ c. search needs) returns returns-2)

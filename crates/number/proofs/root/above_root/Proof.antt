@@ -12,28 +12,10 @@ Inv-loop n high₀ high = (1 ≤ high) × (high ≤ 2 ^ 33)
 abbrev μ-loop : tie.MeasureT-loop
 μ-loop n high₀ high = 2 ^ 33 - high
 
-loop-holds : tie.Need-loop-holds Inv-loop μ-loop
-loop-holds c = search needs
-
 mul-if1 : tie.Need-mul-if1 Inv-loop μ-loop
 mul-if1 c = wide-product (omega arith) (omega arith)
-
-returns : tie.Need-returns Inv-loop μ-loop
-returns c = search needs
-
-mul-high : tie.Need-mul-high Inv-loop μ-loop
-mul-high c = search needs
-
-loop-less : tie.Need-loop-less Inv-loop μ-loop
-loop-less c = search needs
-
-loop-again : tie.Need-loop-again Inv-loop μ-loop
-loop-again c = search needs
-
-returns-2 : tie.Need-returns-2 Inv-loop μ-loop
-returns-2 c = search needs
 
 pub above-root-spec : {M : Type 1} → statement M
 above-root-spec =
     tie.close
-    (tie.spec Inv-loop μ-loop loop-holds mul-if1 returns mul-high loop-less loop-again returns-2)
+    (tie.spec Inv-loop μ-loop (λ c. search needs) mul-if1 (λ c. search needs) (λ c. search needs) (λ c. search needs) (λ c. search needs) (λ c. search needs))

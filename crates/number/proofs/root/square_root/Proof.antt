@@ -14,35 +14,8 @@ Inv-loop n low₀ high₀ low high = (low < high) × (high ≤ 2 ^ 32) × (low *
 abbrev μ-loop : tie.MeasureT-loop
 μ-loop n low₀ high₀ low high = high - low
 
-above-root-requires : tie.Need-above-root-requires Inv-loop μ-loop
-above-root-requires c κs = search needs
-
-loop-holds : tie.Need-loop-holds Inv-loop μ-loop
-loop-holds c = search needs
-
-sub-loop : tie.Need-sub-loop Inv-loop μ-loop
-sub-loop c = search needs
-
-sub-middle : tie.Need-sub-middle Inv-loop μ-loop
-sub-middle c = search needs
-
-add-middle : tie.Need-add-middle Inv-loop μ-loop
-add-middle c = search needs
-
 mul-if1 : tie.Need-mul-if1 Inv-loop μ-loop
 mul-if1 c = wide-product (omega arith) (omega arith)
-
-loop-less : tie.Need-loop-less Inv-loop μ-loop
-loop-less c = search needs
-
-loop-again : tie.Need-loop-again Inv-loop μ-loop
-loop-again c = search needs
-
-loop-less-2 : tie.Need-loop-less-2 Inv-loop μ-loop
-loop-less-2 c = search needs
-
-loop-again-2 : tie.Need-loop-again-2 Inv-loop μ-loop
-loop-again-2 c = search needs
 
 returns : tie.Need-returns Inv-loop μ-loop
 returns c =
@@ -56,14 +29,14 @@ square-root-spec =
     (tie.spec
     Inv-loop
     μ-loop
-    above-root-requires
-    loop-holds
-    sub-loop
-    sub-middle
-    add-middle
+    (λ c κs. search needs)
+    (λ c. search needs)
+    (λ c. search needs)
+    (λ c. search needs)
+    (λ c. search needs)
     mul-if1
-    loop-less
-    loop-again
-    loop-less-2
-    loop-again-2
+    (λ c. search needs)
+    (λ c. search needs)
+    (λ c. search needs)
+    (λ c. search needs)
     returns)

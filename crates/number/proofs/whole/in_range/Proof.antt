@@ -10,19 +10,10 @@ use Rattle.number.proofs.Word.{back, small, parts-fit}
 use Rattle.number.proofs.whole.in_range.Statement.{statement}
 use Rattle.number.proofs.whole.in_range.Tie as tie
 
-sub-half : tie.Need-sub-half
-sub-half c = search needs
-
-cast-half : tie.Need-cast-half
-cast-half c = search needs
-
 sub-low : tie.Need-sub-low
 sub-low c =
     let h : ℕ = (c .args .p - 1) / 2 in
     rw (small h (omega arith)) (parts-fit (pos 0 -ℤ pos h) (omega (arith, minus (pos 0) (pos h))) (omega (arith, minus (pos 0) (pos h))))
-
-within-requires : tie.Need-within-requires
-within-requires c κs = search needs
 
 returns : tie.Need-returns
 unfolding inRange lowest highest half
@@ -32,4 +23,4 @@ returns c =
     c .within .ensures ∙ rw (back (sub-low s), small h (omega arith), +ℤ-idl (negℤ (pos h)))
 
 pub in-range-spec : {M : Type 1} → statement M
-in-range-spec = tie.close (tie.spec sub-half cast-half sub-low within-requires returns)
+in-range-spec = tie.close (tie.spec (λ c. search needs) (λ c. search needs) sub-low (λ c κs. search needs) returns)

@@ -7,18 +7,6 @@ use borrow.Author.Needs.{needs}
 use Rattle.program.proofs.answer.answer_inputs.Statement.{statement}
 use Rattle.program.proofs.answer.answer_inputs.Tie as tie
 
-add-read-inputs : tie.Need-add-read-inputs
-add-read-inputs c = search needs
-
-slice-aggregate-read-inputs : tie.Need-slice-aggregate-read-inputs
-slice-aggregate-read-inputs c = search needs
-
-read-inputs-requires : tie.Need-read-inputs-requires
-read-inputs-requires c κs = search needs
-
-enum-known-found : tie.Need-enum-known-found
-enum-known-found c = search needs
-
 add-answer-refusal : tie.Need-add-answer-refusal
 add-answer-refusal c =
     let at-found = c .before .before in
@@ -35,18 +23,6 @@ add-answer-refusal-2 c =
     let fails = inputs-no-number _ _ (at-read .read-inputs .ensures) (at-found .found .given .1) in
     omega (arith, place-fits (s .pre .asked) (s .pre .listed) _ fails)
 
-answer-refusal-requires : tie.Need-answer-refusal-requires
-answer-refusal-requires c κs = search needs
-
-enum-known-found-2 : tie.Need-enum-known-found-2
-enum-known-found-2 c = search needs
-
-answer-refusal-requires-2 : tie.Need-answer-refusal-requires-2
-answer-refusal-requires-2 c κs = search needs
-
-same-length : tie.Need-same-length
-same-length c = search needs
-
 returns : tie.Need-returns
 returns c =
     let at-answer = c .before .before in
@@ -57,31 +33,10 @@ returns c =
     let numbers = inputs-numbers _ _ (at-read .read-inputs .ensures) (at-found .found2 .given .1) in
     answered-as (too-many (s .pre .asked) (s .pre .listed) numbers (at-if1 .if1 .taken)) (at-answer .answer-refusal2 .ensures)
 
-sub-answer-made : tie.Need-sub-answer-made
-sub-answer-made c = search needs
-
-part-answer-made-start : tie.Need-part-answer-made-start
-part-answer-made-start c = search needs
-
-part-answer-made-end : tie.Need-part-answer-made-end
-part-answer-made-end c = search needs
-
-sub-answer-made-2 : tie.Need-sub-answer-made-2
-sub-answer-made-2 c = search needs
-
-part-answer-made-start-2 : tie.Need-part-answer-made-start-2
-part-answer-made-start-2 c = search needs
-
-part-answer-made-end-2 : tie.Need-part-answer-made-end-2
-part-answer-made-end-2 c = search needs
-
 answer-made-requires : tie.Need-answer-made-requires
 answer-made-requires c κs =
     let s = c .before .before .before .before .before .before .before .before .before .before .before .before .before in
     omega (arith, list-most (s .pre .listed) .cells-most, s .pre .cells-are)
-
-same-length-2 : tie.Need-same-length-2
-same-length-2 c = search needs
 
 returns-2 : tie.Need-returns-2
 returns-2 c =
@@ -91,9 +46,6 @@ returns-2 c =
     let s = at-read .before .before .before .before in
     let fails = inputs-no-number _ _ (at-read .read-inputs .ensures) (at-found .found .given .1) in
     answered-as (no-number (s .pre .asked) (s .pre .listed) _ fails) (at-answer .answer-refusal .ensures)
-
-same-length-3 : tie.Need-same-length-3
-same-length-3 c = search needs
 
 returns-3 : tie.Need-returns-3
 returns-3 c =
@@ -109,25 +61,25 @@ pub answer-inputs-spec : {M : Type 1} → statement M
 answer-inputs-spec =
     tie.close
     (tie.spec
-    add-read-inputs
-    slice-aggregate-read-inputs
-    read-inputs-requires
-    enum-known-found
+    (λ c. search needs)
+    (λ c. search needs)
+    (λ c κs. search needs)
+    (λ c. search needs)
     add-answer-refusal
     add-answer-refusal-2
-    answer-refusal-requires
-    enum-known-found-2
-    answer-refusal-requires-2
-    same-length
+    (λ c κs. search needs)
+    (λ c. search needs)
+    (λ c κs. search needs)
+    (λ c. search needs)
     returns
-    sub-answer-made
-    part-answer-made-start
-    part-answer-made-end
-    sub-answer-made-2
-    part-answer-made-start-2
-    part-answer-made-end-2
+    (λ c. search needs)
+    (λ c. search needs)
+    (λ c. search needs)
+    (λ c. search needs)
+    (λ c. search needs)
+    (λ c. search needs)
     answer-made-requires
-    same-length-2
+    (λ c. search needs)
     returns-2
-    same-length-3
+    (λ c. search needs)
     returns-3)

@@ -4,20 +4,11 @@ use borrow.Author.Needs.{needs}
 use Rattle.program.proofs.answer.answer_made.Statement.{statement}
 use Rattle.program.proofs.answer.answer_made.Tie as tie
 
-slice-aggregate-answer-within : tie.Need-slice-aggregate-answer-within
-slice-aggregate-answer-within c = search needs
-
 answer-within-requires : tie.Need-answer-within-requires
 answer-within-requires c κs =
     let s = c .before .before .before .before in
     (s .pre, s .pre, take-replicate (s .args .cells) 4096 (s .pre))
 
-same-length : tie.Need-same-length
-same-length c = search needs
-
-returns : tie.Need-returns
-returns c = search needs
-
 pub answer-made-spec : {M : Type 1} → statement M
 answer-made-spec =
-    tie.close (tie.spec slice-aggregate-answer-within answer-within-requires same-length returns)
+    tie.close (tie.spec (λ c. search needs) answer-within-requires (λ c. search needs) (λ c. search needs))

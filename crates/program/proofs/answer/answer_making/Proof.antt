@@ -5,12 +5,6 @@ use borrow.Author.Needs.{needs}
 use Rattle.program.proofs.answer.answer_making.Statement.{statement}
 use Rattle.program.proofs.answer.answer_making.Tie as tie
 
-answer-table-requires : tie.Need-answer-table-requires
-answer-table-requires c κs = search needs
-
-same-length : tie.Need-same-length
-same-length c = search needs
-
 returns : tie.Need-returns
 unfolding replySeen
 returns c =
@@ -18,12 +12,6 @@ returns c =
     let at-if1 = at-answer .before .before in
     let a = at-if1 .before .before .before .before .args in
     answered-as (making-table (a .reply .number) (a .reply .place) (a .table .now) (at-if1 .if1 .taken)) (at-answer .answer-table .ensures)
-
-answer-refusal-requires : tie.Need-answer-refusal-requires
-answer-refusal-requires c κs = search needs
-
-same-length-2 : tie.Need-same-length-2
-same-length-2 c = search needs
 
 returns-2 : tie.Need-returns-2
 unfolding replySeen
@@ -37,9 +25,9 @@ pub answer-making-spec : {M : Type 1} → statement M
 answer-making-spec =
     tie.close
     (tie.spec
-    answer-table-requires
-    same-length
+    (λ c κs. search needs)
+    (λ c. search needs)
     returns
-    answer-refusal-requires
-    same-length-2
+    (λ c κs. search needs)
+    (λ c. search needs)
     returns-2)

@@ -6,21 +6,12 @@ use borrow.Author.Needs.{needs}
 use Rattle.program.proofs.answer.answer_refusal.Statement.{statement}
 use Rattle.program.proofs.answer.answer_refusal.Tie as tie
 
-refusal-length-requires : tie.Need-refusal-length-requires
-refusal-length-requires c κs = search needs
-
 returns : tie.Need-returns
 returns c =
     let at-length = c .before in
     let s = at-length .before .before in
     let short = refusal-most (s .args .number) (s .args .place) (omega arith) (omega arith) in
     answered-no-room short _ (at-length .refusal-length .ensures) (c .if1 .taken)
-
-write-refusal-requires : tie.Need-write-refusal-requires
-write-refusal-requires c κs = search needs
-
-same-length : tie.Need-same-length
-same-length c = search needs
 
 returns-2 : tie.Need-returns-2
 returns-2 c =
@@ -34,4 +25,4 @@ returns-2 c =
 pub answer-refusal-spec : {M : Type 1} → statement M
 answer-refusal-spec =
     tie.close
-    (tie.spec refusal-length-requires returns write-refusal-requires same-length returns-2)
+    (tie.spec (λ c κs. search needs) returns (λ c κs. search needs) (λ c. search needs) returns-2)

@@ -6,9 +6,6 @@ use borrow.Author.Needs.{needs}
 use Rattle.program.proofs.answer.answer_table.Statement.{statement}
 use Rattle.program.proofs.answer.answer_table.Tie as tie
 
-table-length-requires : tie.Need-table-length-requires
-table-length-requires c κs = search needs
-
 returns : tie.Need-returns
 returns c =
     let at-length = c .before in
@@ -16,12 +13,6 @@ returns c =
     let s = at-known .before .before in
     let short = table-most (s .args .table .now) (s .pre) (λ j. omega (arith, at-known .shared-slice-known .given j)) in
     answered-no-room short _ (at-length .table-length .ensures) (c .if1 .taken)
-
-write-table-requires : tie.Need-write-table-requires
-write-table-requires c κs = search needs
-
-same-length : tie.Need-same-length
-same-length c = search needs
 
 returns-2 : tie.Need-returns-2
 returns-2 c =
@@ -35,4 +26,4 @@ returns-2 c =
 
 pub answer-table-spec : {M : Type 1} → statement M
 answer-table-spec =
-    tie.close (tie.spec table-length-requires returns write-table-requires same-length returns-2)
+    tie.close (tie.spec (λ c κs. search needs) returns (λ c κs. search needs) (λ c. search needs) returns-2)

@@ -6,12 +6,6 @@ use borrow.Author.Needs.{needs}
 use Rattle.program.proofs.answer_text.pair_length.Statement.{statement}
 use Rattle.program.proofs.answer_text.pair_length.Tie as tie
 
-decimal-length-requires : tie.Need-decimal-length-requires
-decimal-length-requires c κs = search needs
-
-decimal-length-requires-2 : tie.Need-decimal-length-requires-2
-decimal-length-requires-2 c κs = search needs
-
 add-result : tie.Need-add-result
 add-result c =
     let s = c .before .before in
@@ -31,4 +25,4 @@ returns c =
 pub pair-length-spec : {M : Type 1} → statement M
 pair-length-spec =
     tie.close
-    (tie.spec decimal-length-requires decimal-length-requires-2 add-result add-result-2 returns)
+    (tie.spec (λ c κs. search needs) (λ c κs. search needs) add-result add-result-2 returns)

@@ -14,9 +14,6 @@ Inv-loop table total₀ i₀ total i = Summing table total i
 abbrev μ-loop : tie.MeasureT-loop
 μ-loop table total₀ i₀ total i = length table - i
 
-decimal-length-requires : tie.Need-decimal-length-requires Inv-loop μ-loop
-decimal-length-requires c κs = search needs
-
 add-total : tie.Need-add-total Inv-loop μ-loop
 add-total c =
     let s = c .before .before in
@@ -25,28 +22,10 @@ add-total c =
 loop-holds : tie.Need-loop-holds Inv-loop μ-loop
 loop-holds c = summing-start _ _ (omega arith) (c .decimal-length .ensures)
 
-mul-pair-length : tie.Need-mul-pair-length Inv-loop μ-loop
-mul-pair-length c = search needs
-
-shared-slice-read-pair-length : tie.Need-shared-slice-read-pair-length Inv-loop μ-loop
-shared-slice-read-pair-length c = search needs
-
 cast-pair-length : tie.Need-cast-pair-length Inv-loop μ-loop
 cast-pair-length c =
     let at-loop = c .before .before in
     omega (arith, c .shared-slice-known2 .given (at-loop .loop .i))
-
-pair-length-requires : tie.Need-pair-length-requires Inv-loop μ-loop
-pair-length-requires c κs = search needs
-
-add-total-2 : tie.Need-add-total-2 Inv-loop μ-loop
-add-total-2 c = search needs
-
-add-i : tie.Need-add-i Inv-loop μ-loop
-add-i c = search needs
-
-loop-less : tie.Need-loop-less Inv-loop μ-loop
-loop-less c = search needs
 
 loop-again : tie.Need-loop-again Inv-loop μ-loop
 loop-again c =
@@ -62,15 +41,15 @@ table-length-spec =
     (tie.spec
     Inv-loop
     μ-loop
-    decimal-length-requires
+    (λ c κs. search needs)
     add-total
     loop-holds
-    mul-pair-length
-    shared-slice-read-pair-length
+    (λ c. search needs)
+    (λ c. search needs)
     cast-pair-length
-    pair-length-requires
-    add-total-2
-    add-i
-    loop-less
+    (λ c κs. search needs)
+    (λ c. search needs)
+    (λ c. search needs)
+    (λ c. search needs)
     loop-again
     returns)

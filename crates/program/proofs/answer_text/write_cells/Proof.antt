@@ -23,15 +23,6 @@ sub-write-pair c = line-starts (c .before .loop .inv) (c .loop-test .taken) (c .
 part-write-pair-start : tie.Need-part-write-pair-start Inv-loop μ-loop
 part-write-pair-start c = line-starts (c .before .loop .inv) (c .loop-test .taken) (c .before .before .before .before .pre)
 
-part-write-pair-end : tie.Need-part-write-pair-end Inv-loop μ-loop
-part-write-pair-end c = search needs
-
-mul-write-pair : tie.Need-mul-write-pair Inv-loop μ-loop
-mul-write-pair c = search needs
-
-shared-slice-read-write-pair : tie.Need-shared-slice-read-write-pair Inv-loop μ-loop
-shared-slice-read-write-pair c = search needs
-
 cast-write-pair : tie.Need-cast-write-pair Inv-loop μ-loop
 cast-write-pair c =
     let at-loop = c .before .before .before in
@@ -48,12 +39,6 @@ add-at c =
     let at-test = c .before .before .before .before .before in
     let at-loop = at-test .before in
     omega (arith, line-end-inside (at-loop .loop .inv) (at-test .loop-test .taken) (at-loop .before .before .before .pre) (c .before .before .write-pair .ensures))
-
-add-i : tie.Need-add-i Inv-loop μ-loop
-add-i c = search needs
-
-loop-less : tie.Need-loop-less Inv-loop μ-loop
-loop-less c = search needs
 
 loop-again : tie.Need-loop-again Inv-loop μ-loop
 loop-again c =
@@ -76,14 +61,14 @@ write-cells-spec =
     loop-holds
     sub-write-pair
     part-write-pair-start
-    part-write-pair-end
-    mul-write-pair
-    shared-slice-read-write-pair
+    (λ c. search needs)
+    (λ c. search needs)
+    (λ c. search needs)
     cast-write-pair
     write-pair-requires
     add-at
-    add-i
-    loop-less
+    (λ c. search needs)
+    (λ c. search needs)
     loop-again
     same-length
     returns)

@@ -7,9 +7,6 @@ use borrow.Author.Needs.{needs}
 use Rattle.program.proofs.answer_text.write_heading.Statement.{statement}
 use Rattle.program.proofs.answer_text.write_heading.Tie as tie
 
-slice-aggregate-write-bytes : tie.Need-slice-aggregate-write-bytes
-slice-aggregate-write-bytes c = search needs
-
 write-bytes-requires : tie.Need-write-bytes-requires
 unfolding bytes
 write-bytes-requires c κs =
@@ -31,9 +28,6 @@ part-write-field-start c =
     let halves = heading-halves (s .args .part .now) (s .args .count) (s .pre) in
     rest-starts halves (c .before .before .write-bytes .ensures)
 
-part-write-field-end : tie.Need-part-write-field-end
-part-write-field-end c = search needs
-
 write-field-requires : tie.Need-write-field-requires
 unfolding bytes
 write-field-requires c κs =
@@ -48,9 +42,6 @@ add-result c =
     let halves = heading-halves (s .args .part .now) (s .args .count) (s .pre) in
     omega (arith, whole-room halves (c .before .before .before .before .before .before .write-bytes .ensures) (c .before .before .write-field .ensures))
 
-same-length : tie.Need-same-length
-same-length c = search needs
-
 returns : tie.Need-returns
 unfolding bytes
 returns c =
@@ -62,12 +53,12 @@ pub write-heading-spec : {M : Type 1} → statement M
 write-heading-spec =
     tie.close
     (tie.spec
-    slice-aggregate-write-bytes
+    (λ c. search needs)
     write-bytes-requires
     sub-write-field
     part-write-field-start
-    part-write-field-end
+    (λ c. search needs)
     write-field-requires
     add-result
-    same-length
+    (λ c. search needs)
     returns)

@@ -24,9 +24,6 @@ part-write-field-start c =
     let halves = pair-halves (s .args .part .now) (s .args .first) (s .args .second) (s .pre) in
     rest-starts halves (c .before .before .write-field .ensures)
 
-part-write-field-end : tie.Need-part-write-field-end
-part-write-field-end c = search needs
-
 write-field-requires-2 : tie.Need-write-field-requires-2
 write-field-requires-2 c κs =
     let s = c .before .before .before .before .before .before in
@@ -38,9 +35,6 @@ add-result c =
     let s = c .before .before .before .before .before .before .before .before .before in
     let halves = pair-halves (s .args .part .now) (s .args .first) (s .args .second) (s .pre) in
     omega (arith, whole-room halves (c .before .before .before .before .before .before .write-field .ensures) (c .before .before .write-field2 .ensures))
-
-same-length : tie.Need-same-length
-same-length c = search needs
 
 returns : tie.Need-returns
 returns c =
@@ -55,8 +49,8 @@ write-pair-spec =
     write-field-requires
     sub-write-field
     part-write-field-start
-    part-write-field-end
+    (λ c. search needs)
     write-field-requires-2
     add-result
-    same-length
+    (λ c. search needs)
     returns)

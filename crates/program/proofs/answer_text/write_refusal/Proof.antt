@@ -7,9 +7,6 @@ use borrow.Author.Needs.{needs}
 use Rattle.program.proofs.answer_text.write_refusal.Statement.{statement}
 use Rattle.program.proofs.answer_text.write_refusal.Tie as tie
 
-slice-aggregate-write-bytes : tie.Need-slice-aggregate-write-bytes
-slice-aggregate-write-bytes c = search needs
-
 write-bytes-requires : tie.Need-write-bytes-requires
 unfolding bytes
 write-bytes-requires c κs =
@@ -31,9 +28,6 @@ part-write-pair-start c =
     let halves = refusal-halves (s .args .part .now) (s .args .number) (s .args .place) (s .pre) in
     rest-starts halves (c .before .before .write-bytes .ensures)
 
-part-write-pair-end : tie.Need-part-write-pair-end
-part-write-pair-end c = search needs
-
 write-pair-requires : tie.Need-write-pair-requires
 unfolding bytes
 write-pair-requires c κs =
@@ -48,9 +42,6 @@ add-result c =
     let halves = refusal-halves (s .args .part .now) (s .args .number) (s .args .place) (s .pre) in
     omega (arith, whole-room halves (c .before .before .before .before .before .before .write-bytes .ensures) (c .before .before .write-pair .ensures))
 
-same-length : tie.Need-same-length
-same-length c = search needs
-
 returns : tie.Need-returns
 unfolding bytes
 returns c =
@@ -62,12 +53,12 @@ pub write-refusal-spec : {M : Type 1} → statement M
 write-refusal-spec =
     tie.close
     (tie.spec
-    slice-aggregate-write-bytes
+    (λ c. search needs)
     write-bytes-requires
     sub-write-pair
     part-write-pair-start
-    part-write-pair-end
+    (λ c. search needs)
     write-pair-requires
     add-result
-    same-length
+    (λ c. search needs)
     returns)

@@ -24,9 +24,6 @@ part-write-cells-start c =
     let halves = table-halves (s .args .part .now) (s .args .table .now) (s .pre) in
     rest-starts halves (c .before .before .write-heading .ensures)
 
-part-write-cells-end : tie.Need-part-write-cells-end
-part-write-cells-end c = search needs
-
 write-cells-requires : tie.Need-write-cells-requires
 write-cells-requires c κs =
     let s = c .before .before .before .before .before .before .before in
@@ -38,9 +35,6 @@ add-result c =
     let s = c .before .before .before .before .before .before .before .before .before .before in
     let halves = table-halves (s .args .part .now) (s .args .table .now) (s .pre) in
     omega (arith, whole-room halves (c .before .before .before .before .before .before .write-heading .ensures) (c .before .before .write-cells .ensures))
-
-same-length : tie.Need-same-length
-same-length c = search needs
 
 returns : tie.Need-returns
 returns c =
@@ -55,8 +49,8 @@ write-table-spec =
     write-heading-requires
     sub-write-cells
     part-write-cells-start
-    part-write-cells-end
+    (λ c. search needs)
     write-cells-requires
     add-result
-    same-length
+    (λ c. search needs)
     returns)

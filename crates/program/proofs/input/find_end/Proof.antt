@@ -19,24 +19,6 @@ abbrev μ-loop : tie.MeasureT-loop
 loop-holds : tie.Need-loop-holds Inv-loop μ-loop
 loop-holds c = seeking-start _
 
-line-end-requires : tie.Need-line-end-requires Inv-loop μ-loop
-line-end-requires c κs = search needs
-
-sub-is-same : tie.Need-sub-is-same Inv-loop μ-loop
-sub-is-same c = search needs
-
-part-is-same-start : tie.Need-part-is-same-start Inv-loop μ-loop
-part-is-same-start c = search needs
-
-part-is-same-end : tie.Need-part-is-same-end Inv-loop μ-loop
-part-is-same-end c = search needs
-
-slice-aggregate-is-same : tie.Need-slice-aggregate-is-same Inv-loop μ-loop
-slice-aggregate-is-same c = search needs
-
-is-same-requires : tie.Need-is-same-requires Inv-loop μ-loop
-is-same-requires c κs = search needs
-
 returns : tie.Need-returns Inv-loop μ-loop
 unfolding bytes EndFound
 returns c =
@@ -51,9 +33,6 @@ add-at c =
     let at-test = at-end .before in
     let at-loop = at-test .before in
     omega (arith, at-end .line-end .ensures .low)
-
-add-lines : tie.Need-add-lines Inv-loop μ-loop
-add-lines c = search needs
 
 loop-less : tie.Need-loop-less Inv-loop μ-loop
 loop-less c =
@@ -82,15 +61,15 @@ find-end-spec =
     Inv-loop
     μ-loop
     loop-holds
-    line-end-requires
-    sub-is-same
-    part-is-same-start
-    part-is-same-end
-    slice-aggregate-is-same
-    is-same-requires
+    (λ c κs. search needs)
+    (λ c. search needs)
+    (λ c. search needs)
+    (λ c. search needs)
+    (λ c. search needs)
+    (λ c κs. search needs)
     returns
     add-at
-    add-lines
+    (λ c. search needs)
     loop-less
     loop-again
     returns-2)

@@ -22,18 +22,6 @@ abbrev μ-loop : tie.MeasureT-loop
 loop-holds : tie.Need-loop-holds Inv-loop μ-loop
 loop-holds c = reading-start _ _ _ (c .before .pre .1) (c .before .pre .2)
 
-number-of-requires : tie.Need-number-of-requires Inv-loop μ-loop
-number-of-requires c κs = search needs
-
-enum-known-n : tie.Need-enum-known-n Inv-loop μ-loop
-enum-known-n c = search needs
-
-enum-told : tie.Need-enum-told Inv-loop μ-loop
-enum-told c = search needs
-
-same-length : tie.Need-same-length Inv-loop μ-loop
-same-length c = search needs
-
 returns : tie.Need-returns Inv-loop μ-loop
 unfolding InputsRead
 returns c =
@@ -41,9 +29,6 @@ returns c =
     let at-test = at-number .before in
     let at-loop = at-test .before in
     reading-stops (at-loop .loop .inv) (at-loop .before .before .pre .0) (at-test .loop-test .taken) (at-number .number-of .ensures) (c .enum-told .given .1)
-
-store-requires : tie.Need-store-requires Inv-loop μ-loop
-store-requires c κs = search needs
 
 -- the place where the line that was read ends
 end : (c : tie.After-known-told Inv-loop μ-loop) → let at-loop = c .before .before .before .before .before in
@@ -74,9 +59,6 @@ loop-again c =
     rw (c .before .store .ensures, kept (c .before .before .before))
     (reading-turn (at-loop .loop .inv) (at-loop .before .before .pre .0) (at-test .loop-test .taken) (at-number .number-of .ensures) (c .before .before .before .before .n .given .1))
 
-same-length-2 : tie.Need-same-length-2 Inv-loop μ-loop
-same-length-2 c = search needs
-
 returns-2 : tie.Need-returns-2 Inv-loop μ-loop
 unfolding InputsRead
 returns-2 c =
@@ -89,15 +71,15 @@ read-inputs-spec =
     Inv-loop
     μ-loop
     loop-holds
-    number-of-requires
-    enum-known-n
-    enum-told
-    same-length
+    (λ c κs. search needs)
+    (λ c. search needs)
+    (λ c. search needs)
+    (λ c. search needs)
     returns
-    store-requires
+    (λ c κs. search needs)
     add-at
     add-count
     loop-less
     loop-again
-    same-length-2
+    (λ c. search needs)
     returns-2)

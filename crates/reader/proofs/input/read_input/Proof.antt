@@ -9,18 +9,9 @@ use borrow.Author.Needs.{needs}
 use Rattle.reader.proofs.input.read_input.Statement.{statement}
 use Rattle.reader.proofs.input.read_input.Tie as tie
 
-early-broken-requires : tie.Need-early-broken-requires
-early-broken-requires c κs = search needs
-
 returns : tie.Need-returns
 unfolding madeSeen
 returns c = λ s seen. sym (input-early (c .before .before .pre) seen (c .before .early-broken .ensures) (c .if1 .taken))
-
-sub-half : tie.Need-sub-half
-sub-half c = search needs
-
-cast-half : tie.Need-cast-half
-cast-half c = search needs
 
 sub-t11 : tie.Need-sub-t11
 sub-t11 c = let S = c .before .before in rw (small ((S .args .p - 1) / 2) (half-small (S .pre))) (half-fits (S .pre))
@@ -35,4 +26,4 @@ returns-2 c = λ s seen.
 
 pub read-input-spec : {M : Type 1} → statement M
 read-input-spec =
-    tie.close (tie.spec early-broken-requires returns sub-half cast-half sub-t11 returns-2)
+    tie.close (tie.spec (λ c κs. search needs) returns (λ c. search needs) (λ c. search needs) sub-t11 returns-2)

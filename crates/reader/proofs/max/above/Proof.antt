@@ -13,15 +13,6 @@ use Rattle.reader.proofs.max.above.Statement.{statement}
 use Rattle.reader.proofs.max.above.Tie as tie
 use Rattle.reader.specs.State.{greatestApart}
 
-apart-requires : tie.Need-apart-requires
-apart-requires c κs = search needs
-
-smaller-requires : tie.Need-smaller-requires
-smaller-requires c κs = search needs
-
-larger-requires : tie.Need-larger-requires
-larger-requires c κs = search needs
-
 returns : tie.Need-returns
 returns c =
     let at-larger = c .before .before in
@@ -46,4 +37,4 @@ returns c =
     }
 
 pub above-spec : {M : Type 1} → statement M
-above-spec = tie.close (tie.spec apart-requires smaller-requires larger-requires returns)
+above-spec = tie.close (tie.spec (λ c κs. search needs) (λ c κs. search needs) (λ c κs. search needs) returns)

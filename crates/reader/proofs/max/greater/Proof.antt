@@ -7,12 +7,6 @@ use borrow.Author.Needs.{needs}
 use Rattle.reader.proofs.max.greater.Statement.{statement}
 use Rattle.reader.proofs.max.greater.Tie as tie
 
-larger-requires : tie.Need-larger-requires
-larger-requires c κs = search needs
-
-larger-requires-2 : tie.Need-larger-requires-2
-larger-requires-2 c κs = search needs
-
 returns : tie.Need-returns
 unfolding madeSeen
 returns c =
@@ -28,4 +22,4 @@ returns c =
     rw (back f, back g, at-first .larger .ensures, at-second .larger2 .ensures, back u-low, back v-low, back u-high, back v-high)
 
 pub greater-spec : {M : Type 1} → statement M
-greater-spec = tie.close (tie.spec larger-requires larger-requires-2 returns)
+greater-spec = tie.close (tie.spec (λ c κs. search needs) (λ c κs. search needs) returns)

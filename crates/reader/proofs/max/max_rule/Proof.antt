@@ -11,15 +11,6 @@ use borrow.Author.Needs.{needs}
 use Rattle.reader.proofs.max.max_rule.Statement.{statement}
 use Rattle.reader.proofs.max.max_rule.Tie as tie
 
-capped-power-requires : tie.Need-capped-power-requires
-capped-power-requires c κs = search needs
-
-enum-known-c : tie.Need-enum-known-c
-enum-known-c c = search needs
-
-enum-told : tie.Need-enum-told
-enum-told c = search needs
-
 returns : tie.Need-returns
 returns c =
     let a = c .before .before .before .args in
@@ -32,9 +23,6 @@ power c =
     let start = c .before .before .before .before in
     power-read (start .args .p) (start .args .b) (start .args .k) (start .pre .1)
     (sym (c .before .c .given .1) ∙ c .before .before .before .capped-power .ensures)
-
-above-requires : tie.Need-above-requires
-above-requires c κs = search needs
 
 is-narrow-requires : tie.Need-is-narrow-requires
 is-narrow-requires c κs =
@@ -50,9 +38,6 @@ first c =
     let a = c .before .before .before .before .before .before .args in
     rw (← above-seen (c .before .above .ensures))
     (c .is-narrow .ensures ∙ sym (rule-within (a .p) (a .b) (a .k) (endsSeen (c .before .above .result)) (pos 0) (power (c .before .before))))
-
-above-requires-2 : tie.Need-above-requires-2
-above-requires-2 c κs = search needs
 
 is-narrow-requires-2 : tie.Need-is-narrow-requires-2
 is-narrow-requires-2 c κs =
@@ -75,13 +60,13 @@ pub max-rule-spec : {M : Type 1} → statement M
 max-rule-spec =
     tie.close
     (tie.spec
-    capped-power-requires
-    enum-known-c
-    enum-told
+    (λ c κs. search needs)
+    (λ c. search needs)
+    (λ c. search needs)
     returns
-    above-requires
+    (λ c κs. search needs)
     is-narrow-requires
-    above-requires-2
+    (λ c κs. search needs)
     is-narrow-requires-2
     returns-2
     returns-3)

@@ -35,18 +35,6 @@ made : (c : tie.After-known-told2)
     (isMade (a .values) (getD (a .numbers .now) 0 (pos 0)) ≡ true) × (isMade (a .values) (getD (a .numbers .now) 1 (pos 0)) ≡ true)
 made c = let a = c .before .before .before .before .before .args in two-made (a .values) (a .numbers .now) (begins _ _ _ _ _ _ _ _ _ _ (told-begun c) .are-made)
 
-are-made-requires : tie.Need-are-made-requires
-are-made-requires c κs = search needs
-
-begin-line-requires : tie.Need-begin-line-requires
-begin-line-requires c κs = search needs
-
-enum-known-begun : tie.Need-enum-known-begun
-enum-known-begun c = search needs
-
-enum-known-begun-2 : tie.Need-enum-known-begun-2
-enum-known-begun-2 c = search needs
-
 ends-named-requires : tie.Need-ends-named-requires
 ends-named-requires c κs =
     let start = c .before .before .before .before .before in
@@ -85,9 +73,6 @@ returns : tie.Need-returns
 unfolding madeSeen
 returns c = λ s seen. sym (told (c .before) s seen ∙ rw (not-true (c .before .max-rule .result) (c .if1 .taken)))
 
-greater-requires : tie.Need-greater-requires
-greater-requires c κs = search needs
-
 returns-2 : tie.Need-returns-2
 unfolding madeSeen
 returns-2 c =
@@ -103,14 +88,14 @@ pub read-max-spec : {M : Type 1} → statement M
 read-max-spec =
     tie.close
     (tie.spec
-    are-made-requires
-    begin-line-requires
-    enum-known-begun
-    enum-known-begun-2
+    (λ c κs. search needs)
+    (λ c κs. search needs)
+    (λ c. search needs)
+    (λ c. search needs)
     ends-named-requires
     ends-named-requires-2
     max-rule-requires
     returns
-    greater-requires
+    (λ c κs. search needs)
     returns-2
     returns-3)

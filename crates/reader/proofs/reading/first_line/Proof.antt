@@ -15,18 +15,6 @@ use borrow.Author.Needs.{needs}
 use Rattle.reader.proofs.reading.first_line.Statement.{statement}
 use Rattle.reader.proofs.reading.first_line.Tie as tie
 
-line-of-requires : tie.Need-line-of-requires
-line-of-requires c κs = search needs
-
-enum-known-word : tie.Need-enum-known-word
-enum-known-word c = search needs
-
-enum-told : tie.Need-enum-told
-enum-told c = search needs
-
-same-length : tie.Need-same-length
-same-length c = search needs
-
 returns : tie.Need-returns
 unfolding firstSeen primeIn SecondLine
 returns c = (
@@ -34,24 +22,12 @@ returns c = (
   (omega arith, (tt, c .before .before .before .line-of .ensures .0 .left .kept)),
 )
 
-is-field-requires : tie.Need-is-field-requires
-is-field-requires c κs = search needs
-
-same-length-2 : tie.Need-same-length-2
-same-length-2 c = search needs
-
 returns-2 : tie.Need-returns-2
 unfolding firstSeen primeIn SecondLine
 returns-2 c = (
   first-not-field (lineAt (now (c .before .before .before .before .before .before .before .before .before .args .list)) 0) (c .before .before .before .before .before .before .line-of .ensures .0) (c .before .before .before .word .given .1) (c .before .before .before .before .before .before .before .before .before .pre .2) (sym (c .before .is-field .ensures) ∙ not-true _ (c .if1 .taken)),
   (omega arith, (tt, c .before .before .before .before .before .before .line-of .ensures .0 .left .kept)),
 )
-
-slice-copy-out-n : tie.Need-slice-copy-out-n
-slice-copy-out-n c = search needs
-
-same-length-3 : tie.Need-same-length-3
-same-length-3 c = search needs
 
 returns-3 : tie.Need-returns-3
 unfolding firstSeen primeIn SecondLine
@@ -65,12 +41,6 @@ cast-p c =
     let f = (sym (c .before .before .before .is-field .ensures) ∙ not-false _ (c .before .before .if1 .left)) in
     rw (back (first-fits (lineAt (now (c .before .before .before .before .before .before .before .before .before .before .before .args .list)) 0) (c .before .before .before .before .before .before .before .before .line-of .ensures .0) (c .before .before .before .before .before .word .given .1) (c .before .before .before .before .before .before .before .before .before .before .before .pre .2) f), first-is (lineAt (now (c .before .before .before .before .before .before .before .before .before .before .before .args .list)) 0) (c .before .before .before .before .before .before .before .before .line-of .ensures .0) (c .before .before .before .before .before .word .given .1) (c .before .before .before .before .before .before .before .before .before .before .before .pre .2) f (c .if2 .left)) (tt, record { fits = omega (arith, first-size (lineAt (now (c .before .before .before .before .before .before .before .before .before .before .before .args .list)) 0) (c .before .before .before .before .before .before .before .before .line-of .ensures .0) (c .before .before .before .before .before .word .given .1) (c .before .before .before .before .before .before .before .before .before .before .before .pre .2) f (c .if2 .left)) })
 
-is-odd-prime-requires : tie.Need-is-odd-prime-requires
-is-odd-prime-requires c κs = search needs
-
-same-length-4 : tie.Need-same-length-4
-same-length-4 c = search needs
-
 returns-4 : tie.Need-returns-4
 unfolding firstSeen primeIn SecondLine
 returns-4 c =
@@ -80,9 +50,6 @@ returns-4 c =
           (ap oddPrime (sym number) ∙ sym (c .before .is-odd-prime .ensures) ∙ not-true _ (c .if3 .taken)),
       (omega arith, (tt, c .before .before .before .before .before .before .before .before .before .before .line-of .ensures .0 .left .kept)),
     )
-
-same-length-5 : tie.Need-same-length-5
-same-length-5 c = search needs
 
 returns-5 : tie.Need-returns-5
 unfolding firstSeen primeIn SecondLine
@@ -98,20 +65,20 @@ pub first-line-spec : {M : Type 1} → statement M
 first-line-spec =
     tie.close
     (tie.spec
-    line-of-requires
-    enum-known-word
-    enum-told
-    same-length
+    (λ c κs. search needs)
+    (λ c. search needs)
+    (λ c. search needs)
+    (λ c. search needs)
     returns
-    is-field-requires
-    same-length-2
+    (λ c κs. search needs)
+    (λ c. search needs)
     returns-2
-    slice-copy-out-n
-    same-length-3
+    (λ c. search needs)
+    (λ c. search needs)
     returns-3
     cast-p
-    is-odd-prime-requires
-    same-length-4
+    (λ c κs. search needs)
+    (λ c. search needs)
     returns-4
-    same-length-5
+    (λ c. search needs)
     returns-5)

@@ -10,15 +10,6 @@ use borrow.Author.Needs.{needs}
 use Rattle.reader.proofs.reading.read.Statement.{statement}
 use Rattle.reader.proofs.reading.read.Tie as tie
 
-survey-requires : tie.Need-survey-requires
-survey-requires c κs = search needs
-
-enum-known-found : tie.Need-enum-known-found
-enum-known-found c = search needs
-
-enum-known-found-2 : tie.Need-enum-known-found-2
-enum-known-found-2 c = search needs
-
 -- a reply that is the definitions' is exact
 answered : {text : List ℕ} (a : Answer) → a ≡ readReply text → (a ≡ readReply text) × Exact text a
 answered {text} a e = (e, reads-exactly-as-replied text a e)
@@ -35,4 +26,4 @@ returns-2 c =
 
 pub read-spec : {M : Type 1} → statement M
 read-spec =
-    tie.close (tie.spec survey-requires enum-known-found enum-known-found-2 returns returns-2)
+    tie.close (tie.spec (λ c κs. search needs) (λ c. search needs) (λ c. search needs) returns returns-2)

@@ -18,9 +18,6 @@ unfolding surveySeen PrimeFound
 returns c =
     (survey-too-long (now (c .before .before .args .list)) (c .if1 .taken), tt)
 
-is-ended-requires : tie.Need-is-ended-requires
-is-ended-requires c κs = search needs
-
 returns-2 : tie.Need-returns-2
 unfolding surveySeen PrimeFound
 returns-2 c =
@@ -30,27 +27,15 @@ returns-2 c =
 ended : (c : tie.Else2) → isEnded (now (c .before .before .before .before .args .list)) ≡ true
 ended c = sym (c .before .is-ended .ensures) ∙ not-false _ (c .if2 .left)
 
-slice-aggregate-first-line : tie.Need-slice-aggregate-first-line
-slice-aggregate-first-line c = search needs
-
 first-line-requires : tie.Need-first-line-requires
 first-line-requires c κs =
     let at-if2 = c .before in
     (ended at-if2, ended-some (now (at-if2 .before .before .before .before .args .list)) (ended at-if2), search needs)
 
-enum-known-first : tie.Need-enum-known-first
-enum-known-first c = search needs
-
-enum-known-first-2 : tie.Need-enum-known-first-2
-enum-known-first-2 c = search needs
-
 -- where line 1 starts
 second : (c : tie.After-known-told2) → c .before .first2 .given .0 .1 .0 ≡ endOf (now (c .before .before .before .before .before .before .before .before .before .before .args .list)) 0 + 1
 unfolding SecondLine
 second c = rw (c .before .first2 .given .1) at (c .before .before .before .before .first-line .ensures .1 .1 .0)
-
-slice-aggregate-survey-from : tie.Need-slice-aggregate-survey-from
-slice-aggregate-survey-from c = search needs
 
 survey-from-requires : tie.Need-survey-from-requires
 unfolding primeIn
@@ -87,13 +72,13 @@ survey-spec =
     tie.close
     (tie.spec
     returns
-    is-ended-requires
+    (λ c κs. search needs)
     returns-2
-    slice-aggregate-first-line
+    (λ c. search needs)
     first-line-requires
-    enum-known-first
-    enum-known-first-2
-    slice-aggregate-survey-from
+    (λ c. search needs)
+    (λ c. search needs)
+    (λ c. search needs)
     survey-from-requires
     returns-3
     returns-4)

@@ -37,12 +37,6 @@ line-of-requires c κs =
     let at-test = c .before in
     (at-test .before .before .before .pre .0, at-test .loop-test .taken, at-test .before .loop .inv .1 .numbers-long)
 
-enum-known-word : tie.Need-enum-known-word Inv-loop μ-loop
-enum-known-word c = search needs
-
-enum-told : tie.Need-enum-told Inv-loop μ-loop
-enum-told c = search needs
-
 same-length : tie.Need-same-length Inv-loop μ-loop
 same-length c = c .before .before .before .line-of .ensures .0 .left .kept ∙ c .before .before .before .before .before .before .loop .inv .1 .numbers-long ∙ sym (c .before .before .before .before .before .before .before .before .pre .5)
 
@@ -60,12 +54,6 @@ returns c =
       tt,
     )
 
-slice-aggregate-step : tie.Need-slice-aggregate-step Inv-loop μ-loop
-slice-aggregate-step c = search needs
-
-slice-aggregate-step-2 : tie.Need-slice-aggregate-step-2 Inv-loop μ-loop
-slice-aggregate-step-2 c = search needs
-
 step-requires : tie.Need-step-requires Inv-loop μ-loop
 step-requires c κs =
     let at-word = c .before .before .before .before in
@@ -82,9 +70,6 @@ step-requires c κs =
       line-most read q,
       line-small read q,
     )
-
-enum-known-stepped : tie.Need-enum-known-stepped Inv-loop μ-loop
-enum-known-stepped c = search needs
 
 same-length-2 : tie.Need-same-length-2 Inv-loop μ-loop
 same-length-2 c = c .before .before .before .before .before .before .before .before .before .before .before .before .before .line-of .ensures .0 .left .kept ∙ c .before .before .before .before .before .before .before .before .before .before .before .before .before .before .before .before .loop .inv .1 .numbers-long ∙ sym (c .before .before .before .before .before .before .before .before .before .before .before .before .before .before .before .before .before .before .pre .5)
@@ -105,9 +90,6 @@ returns-2 c =
       tt,
     )
 
-enum-known-stepped-2 : tie.Need-enum-known-stepped-2 Inv-loop μ-loop
-enum-known-stepped-2 c = search needs
-
 -- where the next line starts
 next-at : (c : tie.After-known-told3 Inv-loop μ-loop) → let at-word = c .before .before .before .before .before .before .before .before .before .before in
     let at-loop = at-word .before .before .before .before .before .before in
@@ -116,9 +98,6 @@ next-at c =
     let at-word = c .before .before .before .before .before .before .before .before .before .before in
     let at-loop = at-word .before .before .before .before .before .before in
     line-next (now (at-loop .before .before .args .list)) (at-loop .loop .at) (at-word .before .before .before .line-of .ensures .1) (at-word .word .given .1)
-
-add-n : tie.Need-add-n Inv-loop μ-loop
-add-n c = search needs
 
 loop-less : tie.Need-loop-less Inv-loop μ-loop
 loop-less c = omega (arith, next-at c, c .before .before .before .before .before .before .before .before .before .before .before .before .before .before .before .loop-test .taken)
@@ -157,18 +136,18 @@ survey-from-spec =
     μ-loop
     loop-holds
     line-of-requires
-    enum-known-word
-    enum-told
+    (λ c. search needs)
+    (λ c. search needs)
     same-length
     returns
-    slice-aggregate-step
-    slice-aggregate-step-2
+    (λ c. search needs)
+    (λ c. search needs)
     step-requires
-    enum-known-stepped
+    (λ c. search needs)
     same-length-2
     returns-2
-    enum-known-stepped-2
-    add-n
+    (λ c. search needs)
+    (λ c. search needs)
     loop-less
     loop-again
     same-length-3

@@ -7,12 +7,6 @@ use borrow.Author.Needs.{needs}
 use Rattle.reader.proofs.relu.above_zero.Statement.{statement}
 use Rattle.reader.proofs.relu.above_zero.Tie as tie
 
-larger-requires : tie.Need-larger-requires
-larger-requires c κs = search needs
-
-larger-requires-2 : tie.Need-larger-requires-2
-larger-requires-2 c κs = search needs
-
 returns : tie.Need-returns
 unfolding madeSeen
 returns c =
@@ -24,4 +18,4 @@ returns c =
     rw (back f, back g, c .before .before .before .before .larger .ensures, c .before .before .larger2 .ensures, back low, back high)
 
 pub above-zero-spec : {M : Type 1} → statement M
-above-zero-spec = tie.close (tie.spec larger-requires larger-requires-2 returns)
+above-zero-spec = tie.close (tie.spec (λ c κs. search needs) (λ c κs. search needs) returns)

@@ -28,18 +28,6 @@ well : (c : tie.After-known-told2)
     Begins (getD (a .numbers .now) 1 (pos 0)) (getD (a .numbers .now) 2 (pos 0)) (oneName (a .values) (a .numbers .now)) (c .before .begun2 .given .0 .0) (c .before .begun2 .given .0 .1 .0)
 well c = begins _ _ _ _ _ _ _ _ _ _ (told-begun c)
 
-is-made-requires : tie.Need-is-made-requires
-is-made-requires c κs = search needs
-
-begin-line-requires : tie.Need-begin-line-requires
-begin-line-requires c κs = search needs
-
-enum-known-begun : tie.Need-enum-known-begun
-enum-known-begun c = search needs
-
-enum-known-begun-2 : tie.Need-enum-known-begun-2
-enum-known-begun-2 c = search needs
-
 ends-named-requires : tie.Need-ends-named-requires
 ends-named-requires c κs =
     let start = c .before .before .before .before .before in
@@ -67,9 +55,6 @@ returns : tie.Need-returns
 unfolding madeSeen
 returns c = λ s seen. sym (told (c .before) s seen ∙ rw (not-true (c .before .sign-rule .result) (c .if1 .taken)))
 
-above-zero-requires : tie.Need-above-zero-requires
-above-zero-requires c κs = search needs
-
 returns-2 : tie.Need-returns-2
 unfolding madeSeen
 returns-2 c =
@@ -85,13 +70,13 @@ pub read-relu-spec : {M : Type 1} → statement M
 read-relu-spec =
     tie.close
     (tie.spec
-    is-made-requires
-    begin-line-requires
-    enum-known-begun
-    enum-known-begun-2
+    (λ c κs. search needs)
+    (λ c κs. search needs)
+    (λ c. search needs)
+    (λ c. search needs)
     ends-named-requires
     sign-rule-requires
     returns
-    above-zero-requires
+    (λ c κs. search needs)
     returns-2
     returns-3)

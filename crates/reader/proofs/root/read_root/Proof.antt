@@ -16,18 +16,6 @@ told-begun : (c : tie.After-known-told2)
     Digits (c .before .begun2 .given .0 .0) (c .before .begun2 .given .0 .1 .0) ≡ begunAt (a .numbers .now) 1 true (oneName (a .values) (a .numbers .now)) (a .values) 1 (a .cells) 4 2
 told-begun c = rw (← c .before .before .before .before .is-made .ensures) (sym (c .before .begun2 .given .1) ∙ c .before .before .before .begin-line .ensures)
 
-is-made-requires : tie.Need-is-made-requires
-is-made-requires c κs = search needs
-
-begin-line-requires : tie.Need-begin-line-requires
-begin-line-requires c κs = search needs
-
-enum-known-begun : tie.Need-enum-known-begun
-enum-known-begun c = search needs
-
-enum-known-begun-2 : tie.Need-enum-known-begun-2
-enum-known-begun-2 c = search needs
-
 root-ends-requires : tie.Need-root-ends-requires
 root-ends-requires c κs =
     let r = begins _ _ _ _ _ _ _ _ _ _ (told-begun c) .read in
@@ -49,10 +37,10 @@ pub read-root-spec : {M : Type 1} → statement M
 read-root-spec =
     tie.close
     (tie.spec
-    is-made-requires
-    begin-line-requires
-    enum-known-begun
-    enum-known-begun-2
+    (λ c κs. search needs)
+    (λ c κs. search needs)
+    (λ c. search needs)
+    (λ c. search needs)
     root-ends-requires
     returns
     returns-2)

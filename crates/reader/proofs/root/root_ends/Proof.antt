@@ -13,15 +13,6 @@ use borrow.Author.Needs.{needs}
 use Rattle.reader.proofs.root.root_ends.Statement.{statement}
 use Rattle.reader.proofs.root.root_ends.Tie as tie
 
-capped-power-requires : tie.Need-capped-power-requires
-capped-power-requires c κs = search needs
-
-enum-known-c : tie.Need-enum-known-c
-enum-known-c c = search needs
-
-enum-told : tie.Need-enum-told
-enum-told c = search needs
-
 returns : tie.Need-returns
 unfolding madeSeen
 returns c =
@@ -43,15 +34,6 @@ returns-2 c =
     let a = c .before .before .before .before .before .args in
     rw (← power (c .before) .power) (sym (root-low (a .p) (c .before .before .c .given .0 .0) (c .if1 .taken)))
 
-sub-most : tie.Need-sub-most
-sub-most c = search needs
-
-add-most : tie.Need-add-most
-add-most c = search needs
-
-cast-most : tie.Need-cast-most
-cast-most c = search needs
-
 mul-if2 : tie.Need-mul-if2
 mul-if2 c =
     let x : ℕ = c .before .before .c .given .0 .0 in
@@ -64,9 +46,6 @@ unfolding madeSeen half
 returns-3 c =
     let a = c .before .before .before .before .before .before .args in
     rw (← power (c .before .before) .power) (sym (root-wide (a .p) (c .before .before .before .c .given .0 .0) (c .if2 .taken)))
-
-sub-t11 : tie.Need-sub-t11
-sub-t11 c = search needs
 
 cast-t12 : tie.Need-cast-t12
 cast-t12 c =
@@ -86,16 +65,16 @@ pub root-ends-spec : {M : Type 1} → statement M
 root-ends-spec =
     tie.close
     (tie.spec
-    capped-power-requires
-    enum-known-c
-    enum-told
+    (λ c κs. search needs)
+    (λ c. search needs)
+    (λ c. search needs)
     returns
     returns-2
-    sub-most
-    add-most
-    cast-most
+    (λ c. search needs)
+    (λ c. search needs)
+    (λ c. search needs)
     mul-if2
     returns-3
-    sub-t11
+    (λ c. search needs)
     cast-t12
     returns-4)

@@ -3,12 +3,6 @@ use borrow.Author.Needs.{needs}
 use Rattle.reader.proofs.rule.are_made.Statement.{statement}
 use Rattle.reader.proofs.rule.are_made.Tie as tie
 
-is-made-requires : tie.Need-is-made-requires
-is-made-requires c κs = search needs
-
-is-made-requires-2 : tie.Need-is-made-requires-2
-is-made-requires-2 c κs = search needs
-
 returns : tie.Need-returns
 returns c = rw (← c .before .before .is-made .ensures, c .before .if1 .taken) (c .is-made2 .ensures)
 
@@ -16,4 +10,4 @@ returns-2 : tie.Need-returns-2
 returns-2 c = rw (← c .before .is-made .ensures, c .if1 .left)
 
 pub are-made-spec : {M : Type 1} → statement M
-are-made-spec = tie.close (tie.spec is-made-requires is-made-requires-2 returns returns-2)
+are-made-spec = tie.close (tie.spec (λ c κs. search needs) (λ c κs. search needs) returns returns-2)

@@ -24,15 +24,6 @@ read c = digits-read _ _ (c .before .b .given .1) (c .before .before .before .di
 small : (c : tie.After-known-told) → let a = c .before .before .before .before .args in a .each * c .before .b .given .0 .1 .0 ≤ 4 * 31
 small c = mul-le-mul (c .before .before .before .before .pre .4) (read c .count-most)
 
-digits-at-requires : tie.Need-digits-at-requires
-digits-at-requires c κs = search needs
-
-enum-known-b : tie.Need-enum-known-b
-enum-known-b c = search needs
-
-enum-told : tie.Need-enum-told
-enum-told c = search needs
-
 returns : tie.Need-returns
 unfolding begun
 returns c = rw (digits-none _ _ (c .enum-told .given .1) (c .before .before .digits-at .ensures))
@@ -40,9 +31,6 @@ returns c = rw (digits-none _ _ (c .enum-told .given .1) (c .before .before .dig
 returns-2 : tie.Need-returns-2
 unfolding begun
 returns-2 c = rw (not-true (c .before .before .before .before .before .args .ranged) (c .if1 .taken), and-false _)
-
-cast-early-broken : tie.Need-cast-early-broken
-cast-early-broken c = search needs
 
 mul-early-broken : tie.Need-mul-early-broken
 mul-early-broken c = let h = small (c .before) in search (needs, h)
@@ -73,12 +61,12 @@ pub begin-line-spec : {M : Type 1} → statement M
 begin-line-spec =
     tie.close
     (tie.spec
-    digits-at-requires
-    enum-known-b
-    enum-told
+    (λ c κs. search needs)
+    (λ c. search needs)
+    (λ c. search needs)
     returns
     returns-2
-    cast-early-broken
+    (λ c. search needs)
     mul-early-broken
     add-early-broken
     early-broken-requires

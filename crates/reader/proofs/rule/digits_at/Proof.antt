@@ -9,24 +9,6 @@ use borrow.Author.Needs.{needs}
 use Rattle.reader.proofs.rule.digits_at.Statement.{statement}
 use Rattle.reader.proofs.rule.digits_at.Tie as tie
 
-mul-b : tie.Need-mul-b
-mul-b c = search needs
-
-shared-slice-copy-out-b : tie.Need-shared-slice-copy-out-b
-shared-slice-copy-out-b c = search needs
-
-add-k : tie.Need-add-k
-add-k c = search needs
-
-mul-k : tie.Need-mul-k
-mul-k c = search needs
-
-shared-slice-copy-out-k : tie.Need-shared-slice-copy-out-k
-shared-slice-copy-out-k c = search needs
-
-digits-of-requires : tie.Need-digits-of-requires
-digits-of-requires c κs = search needs
-
 returns : tie.Need-returns
 returns c =
     let start = c .before .before .before in
@@ -38,10 +20,10 @@ pub digits-at-spec : {M : Type 1} → statement M
 digits-at-spec =
     tie.close
     (tie.spec
-    mul-b
-    shared-slice-copy-out-b
-    add-k
-    mul-k
-    shared-slice-copy-out-k
-    digits-of-requires
+    (λ c. search needs)
+    (λ c. search needs)
+    (λ c. search needs)
+    (λ c. search needs)
+    (λ c. search needs)
+    (λ c κs. search needs)
     returns)

@@ -11,17 +11,11 @@ returns : tie.Need-returns
 unfolding earlyBroken
 returns c = rw (not-true (c .before .args .named) (c .if1 .taken))
 
-add-if2 : tie.Need-add-if2
-add-if2 c = search needs
-
 returns-2 : tie.Need-returns-2
 unfolding earlyBroken
 returns-2 c =
     let a = c .before .before .args in
     rw (not-false (a .named) (c .before .if1 .left), lt-leb (a .values + a .new) valueLimit (c .if2 .taken))
-
-add-if3 : tie.Need-add-if3
-add-if3 c = search needs
 
 returns-3 : tie.Need-returns-3
 unfolding earlyBroken
@@ -46,4 +40,4 @@ returns-4 c =
     )
 
 pub early-broken-spec : {M : Type 1} → statement M
-early-broken-spec = tie.close (tie.spec returns add-if2 returns-2 add-if3 returns-3 returns-4)
+early-broken-spec = tie.close (tie.spec returns (λ c. search needs) returns-2 (λ c. search needs) returns-3 returns-4)

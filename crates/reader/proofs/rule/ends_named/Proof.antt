@@ -22,12 +22,6 @@ number-read c =
 name : (c : tie.Start) → Name (c .args .values) (getD (c .args .numbers .now) (c .args .at) (pos 0))
 name c = made-name (c .args .values) (getD (c .args .numbers .now) (c .args .at) (pos 0)) (c .pre .3)
 
-mul-v : tie.Need-mul-v
-mul-v c = search needs
-
-shared-slice-copy-out-v : tie.Need-shared-slice-copy-out-v
-shared-slice-copy-out-v c = search needs
-
 cast-v : tie.Need-cast-v
 cast-v c = let n = name (c .before) in rw (number-read c) (n .counts, record { fits = omega arith })
 
@@ -67,8 +61,8 @@ pub ends-named-spec : {M : Type 1} → statement M
 ends-named-spec =
     tie.close
     (tie.spec
-    mul-v
-    shared-slice-copy-out-v
+    (λ c. search needs)
+    (λ c. search needs)
     cast-v
     mul-t7
     shared-slice-copy-out-t9

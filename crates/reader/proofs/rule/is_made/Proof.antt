@@ -11,20 +11,11 @@ use borrow.Author.Needs.{needs}
 use Rattle.reader.proofs.rule.is_made.Statement.{statement}
 use Rattle.reader.proofs.rule.is_made.Tie as tie
 
-mul-v : tie.Need-mul-v
-mul-v c = search needs
-
-shared-slice-copy-out-v : tie.Need-shared-slice-copy-out-v
-shared-slice-copy-out-v c = search needs
-
 returns : tie.Need-returns
 returns c =
     let start = c .before .before in
     let f : SFits w64 (getD (start .args .numbers .now) (start .args .at) (pos 0)) = search needs in
     sym (not-made (start .args .values) (getD (start .args .numbers .now) (start .args .at) (pos 0)) (rw (back f) at (c .if1 .taken)))
-
-cast-result : tie.Need-cast-result
-cast-result c = search needs
 
 returns-2 : tie.Need-returns-2
 returns-2 c =
@@ -34,4 +25,4 @@ returns-2 c =
     (made-below (start .args .values) (getD (start .args .numbers .now) (start .args .at) (pos 0)) (rw (back f) at (c .if1 .left)))
 
 pub is-made-spec : {M : Type 1} → statement M
-is-made-spec = tie.close (tie.spec mul-v shared-slice-copy-out-v returns cast-result returns-2)
+is-made-spec = tie.close (tie.spec (λ c. search needs) (λ c. search needs) returns (λ c. search needs) returns-2)

@@ -21,12 +21,6 @@ last-is c = small (c .args .p - 1) (omega arith)
 digits-last : (c : tie.Start) → Bounded greatest (pos (c .args .c - 1))
 digits-last c = record { size = omega arith }
 
-sub-last : tie.Need-sub-last
-sub-last c = search needs
-
-cast-last : tie.Need-cast-last
-cast-last c = search needs
-
 sub-above : tie.Need-sub-above
 sub-above c =
     let start = c .before .before in
@@ -47,12 +41,6 @@ returns c =
     let start = c .before .before .before in
     let a = start .args in
     rw (less (pos (a .p - 1)) (a .e .high -ℤ a .shift) (rw (above-is (c .before), last-is start) at (c .if1 .taken)))
-
-sub-top : tie.Need-sub-top
-sub-top c = search needs
-
-cast-top : tie.Need-cast-top
-cast-top c = search needs
 
 add-top : tie.Need-add-top
 add-top c =
@@ -88,12 +76,12 @@ pub is-narrow-spec : {M : Type 1} → statement M
 is-narrow-spec =
     tie.close
     (tie.spec
-    sub-last
-    cast-last
+    (λ c. search needs)
+    (λ c. search needs)
     sub-above
     returns
-    sub-top
-    cast-top
+    (λ c. search needs)
+    (λ c. search needs)
     add-top
     sub-below
     returns-2)

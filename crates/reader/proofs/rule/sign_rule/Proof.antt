@@ -18,18 +18,6 @@ use borrow.Author.Needs.{needs}
 use Rattle.reader.proofs.rule.sign_rule.Statement.{statement}
 use Rattle.reader.proofs.rule.sign_rule.Tie as tie
 
-sub-capped-power : tie.Need-sub-capped-power
-sub-capped-power c = search needs
-
-capped-power-requires : tie.Need-capped-power-requires
-capped-power-requires c κs = search needs
-
-enum-known-part : tie.Need-enum-known-part
-enum-known-part c = search needs
-
-enum-told : tie.Need-enum-told
-enum-told c = search needs
-
 returns : tie.Need-returns
 returns c =
     let start = c .before .before .before in
@@ -117,10 +105,10 @@ pub sign-rule-spec : {M : Type 1} → statement M
 sign-rule-spec =
     tie.close
     (tie.spec
-    sub-capped-power
-    capped-power-requires
-    enum-known-part
-    enum-told
+    (λ c. search needs)
+    (λ c κs. search needs)
+    (λ c. search needs)
+    (λ c. search needs)
     returns
     mul-c
     returns-2

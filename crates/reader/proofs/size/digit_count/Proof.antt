@@ -12,9 +12,6 @@ use Rattle.reader.proofs.size.digit_count.Tie as tie
 fits : (c : tie.Start) → SFits w64 (c .args .k)
 fits c = search needs
 
-natural-requires : tie.Need-natural-requires
-natural-requires c κs = search needs
-
 returns : tie.Need-returns
 returns c = (
   omega arith,
@@ -28,4 +25,4 @@ returns-2 : tie.Need-returns-2
 returns-2 c = (omega (arith, c .if1 .left), λ l h. (rw (back (fits (c .before .before))) at (c .before .natural .ensures)) (omega linear))
 
 pub digit-count-spec : {M : Type 1} → statement M
-digit-count-spec = tie.close (tie.spec natural-requires returns returns-2)
+digit-count-spec = tie.close (tie.spec (λ c κs. search needs) returns returns-2)

@@ -20,8 +20,5 @@ cast-result c =
     let is = not-negative (fits s) (c .if1 .left) in
     rw (back (fits s), is) (tt, record { fits = omega (arith, fits s .sfits) })
 
-returns-2 : tie.Need-returns-2
-returns-2 c = search needs
-
 pub natural-spec : {M : Type 1} → statement M
-natural-spec = tie.close (tie.spec returns cast-result returns-2)
+natural-spec = tie.close (tie.spec returns cast-result (λ c. search needs))

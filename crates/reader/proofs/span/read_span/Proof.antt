@@ -26,28 +26,10 @@ well : (c : tie.After-known-told2)
     Begins (getD (a .numbers .now) 1 (pos 0)) (getD (a .numbers .now) 2 (pos 0)) (oneName (a .values) (a .numbers .now)) (c .before .begun2 .given .0 .0) (c .before .begun2 .given .0 .1 .0)
 well c = begins _ _ _ _ _ _ _ _ _ _ (told-begun c)
 
-is-ranged-requires : tie.Need-is-ranged-requires
-is-ranged-requires c κs = search needs
-
-is-made-requires : tie.Need-is-made-requires
-is-made-requires c κs = search needs
-
-begin-line-requires : tie.Need-begin-line-requires
-begin-line-requires c κs = search needs
-
-enum-known-begun : tie.Need-enum-known-begun
-enum-known-begun c = search needs
-
-enum-known-begun-2 : tie.Need-enum-known-begun-2
-enum-known-begun-2 c = search needs
-
 ends-named-requires : tie.Need-ends-named-requires
 ends-named-requires c κs =
     let start = c .before .before .before .before .before .before in
     (omega (arith, start .pre .1), ready-lows (start .pre .0), ready-highs (start .pre .0), well c .are-made)
-
-shared-slice-copy-out-shift : tie.Need-shared-slice-copy-out-shift
-shared-slice-copy-out-shift c = search needs
 
 span-ends-requires : tie.Need-span-ends-requires
 span-ends-requires c κs =
@@ -80,13 +62,13 @@ pub read-span-spec : {M : Type 1} → statement M
 read-span-spec =
     tie.close
     (tie.spec
-    is-ranged-requires
-    is-made-requires
-    begin-line-requires
-    enum-known-begun
-    enum-known-begun-2
+    (λ c κs. search needs)
+    (λ c κs. search needs)
+    (λ c κs. search needs)
+    (λ c. search needs)
+    (λ c. search needs)
     ends-named-requires
-    shared-slice-copy-out-shift
+    (λ c. search needs)
     span-ends-requires
     returns
     returns-2)

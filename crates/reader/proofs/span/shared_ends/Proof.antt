@@ -16,9 +16,6 @@ use Rattle.reader.proofs.span.shared_ends.Statement.{statement}
 use Rattle.reader.proofs.span.shared_ends.Tie as tie
 use Rattle.reader.specs.State.{greatest}
 
-cast-top : tie.Need-cast-top
-cast-top c = search needs
-
 add-top : tie.Need-add-top
 add-top c =
     let last : Bounded greatest (pos (c .args .last)) = record { size = c .pre .0 } in
@@ -28,12 +25,6 @@ add-top c =
 top-is : (c : tie.Start) → toZ w64 (ofZ w64 (toZ w64 (ofZ w64 (c .args .shift)) +ℤ toZ w64 (c .args .last))) ≡ c .args .shift +ℤ pos
     (c .args .last)
 top-is c = back (add-top c) ∙ rw (back (c .fits .shift), small (c .args .last) (omega (arith, c .pre .0)))
-
-larger-requires : tie.Need-larger-requires
-larger-requires c κs = search needs
-
-smaller-requires : tie.Need-smaller-requires
-smaller-requires c κs = search needs
 
 low-is : (c : tie.After-smaller) → let a = c .before .before .before .before .args in c .before .before .larger .result .0 ≡ larger
     (a .old .low) (a .shift)
@@ -73,4 +64,4 @@ returns-2 c =
 pub shared-ends-spec : {M : Type 1} → statement M
 shared-ends-spec =
     tie.close
-    (tie.spec cast-top add-top larger-requires smaller-requires returns returns-2)
+    (tie.spec (λ c. search needs) add-top (λ c κs. search needs) (λ c κs. search needs) returns returns-2)

@@ -13,15 +13,6 @@ use borrow.Author.Needs.{needs}
 use Rattle.reader.proofs.span.span_ends.Statement.{statement}
 use Rattle.reader.proofs.span.span_ends.Tie as tie
 
-capped-power-requires : tie.Need-capped-power-requires
-capped-power-requires c κs = search needs
-
-enum-known-c : tie.Need-enum-known-c
-enum-known-c c = search needs
-
-enum-told : tie.Need-enum-told
-enum-told c = search needs
-
 returns : tie.Need-returns
 unfolding madeSeen
 returns c =
@@ -77,9 +68,9 @@ pub span-ends-spec : {M : Type 1} → statement M
 span-ends-spec =
     tie.close
     (tie.spec
-    capped-power-requires
-    enum-known-c
-    enum-told
+    (λ c κs. search needs)
+    (λ c. search needs)
+    (λ c. search needs)
     returns
     is-narrow-requires
     returns-2

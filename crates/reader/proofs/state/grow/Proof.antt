@@ -19,35 +19,11 @@ low-fits c = search needs
 high-fits : (c : lts.After-known-told2 reads.Pre reads.Post) → SFits w64 (c .before .made2 .given .0 .1 .0)
 high-fits c = search needs
 
-enum-known-made : tie.Need-enum-known-made
-enum-known-made c = search needs
-
-enum-known-made-2 : tie.Need-enum-known-made-2
-enum-known-made-2 c = search needs
-
-mul-low : tie.Need-mul-low
-mul-low c = search needs
-
 slice-set-from-low : tie.Need-slice-set-from-low
 slice-set-from-low c = let S = c .before .before .before in omega (arith, S .pre .2 _ _ (c .before .made2 .given .1), S .pre .0 .lows-long)
 
-mul-high : tie.Need-mul-high
-mul-high c = search needs
-
 slice-set-from-high : tie.Need-slice-set-from-high
 slice-set-from-high c = let S = c .before .before .before in omega (arith, S .pre .2 _ _ (c .before .made2 .given .1), S .pre .0 .highs-long)
-
-add-t11 : tie.Need-add-t11
-add-t11 c = search needs
-
-add-t14 : tie.Need-add-t14
-add-t14 c = search needs
-
-add-t15 : tie.Need-add-t15
-add-t15 c = search needs
-
-add-t16 : tie.Need-add-t16
-add-t16 c = search needs
 
 returns : tie.Need-returns
 unfolding valuesIn answered entered counted
@@ -58,12 +34,6 @@ returns c =
           (c .before .made .given .1),
       (omega arith, rw (c .before .made .given .1), rw (c .before .made .given .1), rw (c .before .made .given .1)),
     )
-
-same-length : tie.Need-same-length
-same-length c = search needs
-
-same-length-2 : tie.Need-same-length-2
-same-length-2 c = search needs
 
 returns-2 : tie.Need-returns-2
 unfolding valuesIn answered entered counted
@@ -87,17 +57,17 @@ pub grow-spec : {M : Type 1} → statement M
 grow-spec =
     tie.close
     (tie.spec
-    enum-known-made
-    enum-known-made-2
-    mul-low
+    (λ c. search needs)
+    (λ c. search needs)
+    (λ c. search needs)
     slice-set-from-low
-    mul-high
+    (λ c. search needs)
     slice-set-from-high
-    add-t11
-    add-t14
-    add-t15
-    add-t16
+    (λ c. search needs)
+    (λ c. search needs)
+    (λ c. search needs)
+    (λ c. search needs)
     returns
-    same-length
-    same-length-2
+    (λ c. search needs)
+    (λ c. search needs)
     returns-2)

@@ -19,12 +19,6 @@ low-fits c = search needs
 high-fits : (c : lts.After-known-told2 reads.Pre reads.Post) → SFits w64 (c .before .made2 .given .0 .1 .0)
 high-fits c = search needs
 
-enum-known-made : tie.Need-enum-known-made
-enum-known-made c = search needs
-
-enum-known-made-2 : tie.Need-enum-known-made-2
-enum-known-made-2 c = search needs
-
 mul-low : tie.Need-mul-low
 mul-low c = let S = c .before .before .before in record { fits = omega (arith, S .pre .2 _ _ (c .before .made2 .given .1)) }
 
@@ -37,12 +31,6 @@ mul-high c = let S = c .before .before .before in record { fits = omega (arith, 
 slice-set-from-high : tie.Need-slice-set-from-high
 slice-set-from-high c = let S = c .before .before .before in omega (arith, S .pre .2 _ _ (c .before .made2 .given .1), S .pre .0 .highs-long)
 
-add-t11 : tie.Need-add-t11
-add-t11 c = search needs
-
-add-t14 : tie.Need-add-t14
-add-t14 c = search needs
-
 returns : tie.Need-returns
 unfolding valuesIn answered entered counted
 returns c =
@@ -52,12 +40,6 @@ returns c =
           (c .before .made .given .0 .0) _ _ (c .before .made .given .1),
       (omega arith, rw (c .before .made .given .1), rw (c .before .made .given .1), rw (c .before .made .given .1)),
     )
-
-same-length : tie.Need-same-length
-same-length c = search needs
-
-same-length-2 : tie.Need-same-length-2
-same-length-2 c = search needs
 
 returns-2 : tie.Need-returns-2
 unfolding valuesIn answered entered counted
@@ -82,15 +64,15 @@ pub narrow-spec : {M : Type 1} → statement M
 narrow-spec =
     tie.close
     (tie.spec
-    enum-known-made
-    enum-known-made-2
+    (λ c. search needs)
+    (λ c. search needs)
     mul-low
     slice-set-from-low
     mul-high
     slice-set-from-high
-    add-t11
-    add-t14
+    (λ c. search needs)
+    (λ c. search needs)
     returns
-    same-length
-    same-length-2
+    (λ c. search needs)
+    (λ c. search needs)
     returns-2)

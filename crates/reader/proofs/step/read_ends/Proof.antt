@@ -11,18 +11,6 @@ use borrow.Author.Needs.{needs}
 use Rattle.reader.proofs.step.read_ends.Statement.{statement}
 use Rattle.reader.proofs.step.read_ends.Tie as tie
 
-enum-told : tie.Need-enum-told
-enum-told c = search needs
-
-enum-told-2 : tie.Need-enum-told-2
-enum-told-2 c = search needs
-
-read-input-requires : tie.Need-read-input-requires
-read-input-requires c κs = search needs
-
-enum-told-3 : tie.Need-enum-told-3
-enum-told-3 c = search needs
-
 read-span-requires : tie.Need-read-span-requires
 unfolding isCount wordOf
 read-span-requires c κs =
@@ -30,16 +18,10 @@ read-span-requires c κs =
     let counted = count-is 4 (S .args .count) (c .enum-told3 .given .1) refl (S .pre .2) in
     (S .pre .0, omega (arith, S .pre .1), fewer (now (S .args .numbers)) counted (S .pre .4))
 
-enum-told-4 : tie.Need-enum-told-4
-enum-told-4 c = search needs
-
 read-sum-requires : tie.Need-read-sum-requires
 read-sum-requires c κs =
     let S = c .before .before in
     (S .pre .0, omega (arith, S .pre .1, S .pre .3), S .pre .3, sum-count (c .enum-told4 .given .1) (S .args .count) (S .pre .2), S .pre .4)
-
-enum-told-5 : tie.Need-enum-told-5
-enum-told-5 c = search needs
 
 read-relu-requires : tie.Need-read-relu-requires
 unfolding isCount wordOf
@@ -48,9 +30,6 @@ read-relu-requires c κs =
     let counted = count-is 3 (S .args .count) (c .enum-told5 .given .1) refl (S .pre .2) in
     (S .pre .0, omega (arith, S .pre .1), fewer (now (S .args .numbers)) counted (S .pre .4))
 
-enum-told-6 : tie.Need-enum-told-6
-enum-told-6 c = search needs
-
 read-which-requires : tie.Need-read-which-requires
 unfolding isCount wordOf
 read-which-requires c κs =
@@ -58,18 +37,12 @@ read-which-requires c κs =
     let counted = count-is 4 (S .args .count) (c .enum-told6 .given .1) refl (S .pre .2) in
     (S .pre .0, omega (arith, S .pre .1), fewer (now (S .args .numbers)) counted (S .pre .4))
 
-enum-told-7 : tie.Need-enum-told-7
-enum-told-7 c = search needs
-
 read-max-requires : tie.Need-read-max-requires
 unfolding isCount wordOf
 read-max-requires c κs =
     let S = c .before .before in
     let counted = count-is 4 (S .args .count) (c .enum-told7 .given .1) refl (S .pre .2) in
     (S .pre .0, omega (arith, S .pre .1), fewer (now (S .args .numbers)) counted (S .pre .4))
-
-enum-told-8 : tie.Need-enum-told-8
-enum-told-8 c = search needs
 
 read-root-requires : tie.Need-read-root-requires
 unfolding isCount wordOf
@@ -128,20 +101,20 @@ pub read-ends-spec : {M : Type 1} → statement M
 read-ends-spec =
     tie.close
     (tie.spec
-    enum-told
-    enum-told-2
-    read-input-requires
-    enum-told-3
+    (λ c. search needs)
+    (λ c. search needs)
+    (λ c κs. search needs)
+    (λ c. search needs)
     read-span-requires
-    enum-told-4
+    (λ c. search needs)
     read-sum-requires
-    enum-told-5
+    (λ c. search needs)
     read-relu-requires
-    enum-told-6
+    (λ c. search needs)
     read-which-requires
-    enum-told-7
+    (λ c. search needs)
     read-max-requires
-    enum-told-8
+    (λ c. search needs)
     read-root-requires
     returns
     returns-2

@@ -26,15 +26,6 @@ use borrow.Author.Needs.{needs}
 use Rattle.reader.proofs.step.step.Statement.{statement}
 use Rattle.reader.proofs.step.step.Tie as tie
 
-read-ends-requires : tie.Need-read-ends-requires
-read-ends-requires c κs = search needs
-
-line-size-requires : tie.Need-line-size-requires
-line-size-requires c κs = search needs
-
-enum-told : tie.Need-enum-told
-enum-told c = search needs
-
 grow-requires : tie.Need-grow-requires
 grow-requires c κs =
     let S = c .before .before .before .before .before .before .before in
@@ -44,12 +35,6 @@ grow-requires c κs =
     let told = c .before .before .before .before .read-ends .ensures s (seen-state (a .p) (a .counts) (now (a .lows)) (now (a .highs)) [] refl)
     ∙ told-by-word s (wordOf (a .word)) ns (not-span (a .word) (c .before .before .match .keys2)) in
     (S .pre .1, c .before .before .before .line-size .ensures .1, room (a .p) s (lineWith (wordOf (a .word)) ns) (a .counts) (now (a .lows)) (now (a .highs)) [] refl (S .pre .1) _ told)
-
-same-length : tie.Need-same-length
-same-length c = search needs
-
-same-length-2 : tie.Need-same-length-2
-same-length-2 c = search needs
 
 returns : tie.Need-returns
 unfolding counted
@@ -77,12 +62,6 @@ returns c =
       ),
     )
 
-shared-slice-copy-out-natural : tie.Need-shared-slice-copy-out-natural
-shared-slice-copy-out-natural c = search needs
-
-natural-requires : tie.Need-natural-requires
-natural-requires c κs = search needs
-
 narrow-requires : tie.Need-narrow-requires
 unfolding isCount wordOf toldBy lineTold
 narrow-requires c κs =
@@ -99,12 +78,6 @@ narrow-requires c κs =
       λ low high q. named-within (a .p) s ns (a .counts) (now (a .lows)) (now (a .highs)) [] refl (S .pre .1) _ told low high q (c .before .before .natural .result)
           (name-counted s (now (a .numbers)) (a .count) _ (omega (arith, four)) (rw (back at-fits) at (c .before .before .natural .ensures))),
     )
-
-same-length-3 : tie.Need-same-length-3
-same-length-3 c = search needs
-
-same-length-4 : tie.Need-same-length-4
-same-length-4 c = search needs
 
 returns-2 : tie.Need-returns-2
 unfolding counted isCount wordOf toldBy lineTold
@@ -139,16 +112,16 @@ pub step-spec : {M : Type 1} → statement M
 step-spec =
     tie.close
     (tie.spec
-    read-ends-requires
-    line-size-requires
-    enum-told
+    (λ c κs. search needs)
+    (λ c κs. search needs)
+    (λ c. search needs)
     grow-requires
-    same-length
-    same-length-2
+    (λ c. search needs)
+    (λ c. search needs)
     returns
-    shared-slice-copy-out-natural
-    natural-requires
+    (λ c. search needs)
+    (λ c κs. search needs)
     narrow-requires
-    same-length-3
-    same-length-4
+    (λ c. search needs)
+    (λ c. search needs)
     returns-2)

@@ -20,9 +20,6 @@ Inv-loop numbers count p i₀ i =
 abbrev μ-loop : tie.MeasureT-loop
 μ-loop numbers count p i₀ i = count - i
 
-is-ranged-requires : tie.Need-is-ranged-requires Inv-loop μ-loop
-is-ranged-requires c κs = search needs
-
 returns : tie.Need-returns Inv-loop μ-loop
 unfolding all
 returns c = rw (← c .before .is-ranged .ensures, not-true (c .before .is-ranged .result) (c .if1 .taken))
@@ -33,9 +30,6 @@ first c = sym (c .before .is-ranged .ensures) ∙ not-false (c .before .is-range
 loop-holds : tie.Need-loop-holds Inv-loop μ-loop
 loop-holds c = refl
 
-is-ranged-requires-2 : tie.Need-is-ranged-requires-2 Inv-loop μ-loop
-is-ranged-requires-2 c κs = search needs
-
 returns-2 : tie.Need-returns-2 Inv-loop μ-loop
 unfolding all
 returns-2 c =
@@ -45,12 +39,6 @@ returns-2 c =
     rw (first (at-loop .before)) (sym (at-loop .loop .inv ∙ all-fails (inRange (start .args .p)) (start .args .numbers .now)
     (start .args .count) (at-loop .loop .i) (start .pre .0) (at-test .loop-test .taken)
     (sym (c .before .is-ranged2 .ensures) ∙ not-true (c .before .is-ranged2 .result) (c .if2 .taken))))
-
-add-i : tie.Need-add-i Inv-loop μ-loop
-add-i c = search needs
-
-loop-less : tie.Need-loop-less Inv-loop μ-loop
-loop-less c = search needs
 
 loop-again : tie.Need-loop-again Inv-loop μ-loop
 loop-again c =
@@ -75,12 +63,12 @@ coefficients-ranged-spec =
     (tie.spec
     Inv-loop
     μ-loop
-    is-ranged-requires
+    (λ c κs. search needs)
     returns
     loop-holds
-    is-ranged-requires-2
+    (λ c κs. search needs)
     returns-2
-    add-i
-    loop-less
+    (λ c. search needs)
+    (λ c. search needs)
     loop-again
     returns-3)

@@ -9,9 +9,6 @@ use borrow.Author.Needs.{needs}
 use Rattle.reader.proofs.sum.constant.Statement.{statement}
 use Rattle.reader.proofs.sum.constant.Tie as tie
 
-shared-slice-copy-out-c0 : tie.Need-shared-slice-copy-out-c0
-shared-slice-copy-out-c0 c = search needs
-
 returns : tie.Need-returns
 unfolding endsSeen
 returns c =
@@ -19,4 +16,4 @@ returns c =
     rw (back f)
 
 pub constant-spec : {M : Type 1} → statement M
-constant-spec = tie.close (tie.spec shared-slice-copy-out-c0 returns)
+constant-spec = tie.close (tie.spec (λ c. search needs) returns)

@@ -8,12 +8,6 @@ use borrow.Author.Needs.{needs}
 use Rattle.reader.proofs.sum.is_within.Statement.{statement}
 use Rattle.reader.proofs.sum.is_within.Tie as tie
 
-in-range-requires : tie.Need-in-range-requires
-in-range-requires c κs = search needs
-
-in-range-requires-2 : tie.Need-in-range-requires-2
-in-range-requires-2 c κs = search needs
-
 returns : tie.Need-returns
 unfolding endsInRange endsSeen
 returns c =
@@ -31,4 +25,4 @@ returns-2 c =
     rw (← (rw (back f) at (c .before .in-range .ensures)), c .if1 .left)
 
 pub is-within-spec : {M : Type 1} → statement M
-is-within-spec = tie.close (tie.spec in-range-requires in-range-requires-2 returns returns-2)
+is-within-spec = tie.close (tie.spec (λ c κs. search needs) (λ c κs. search needs) returns returns-2)

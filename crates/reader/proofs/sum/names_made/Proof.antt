@@ -20,9 +20,6 @@ abbrev μ-loop : tie.MeasureT-loop
 loop-holds : tie.Need-loop-holds Inv-loop μ-loop
 loop-holds c = refl
 
-is-made-requires : tie.Need-is-made-requires Inv-loop μ-loop
-is-made-requires c κs = search needs
-
 returns : tie.Need-returns Inv-loop μ-loop
 returns c =
     let at-test = c .before .before in
@@ -31,12 +28,6 @@ returns c =
     sym (at-loop .loop .inv ∙ all-fails (isMade (start .args .values)) (start .args .numbers .now) (start .args .count) (at-loop .loop .i)
     (start .pre .0) (at-test .loop-test .taken)
     (sym (c .before .is-made .ensures) ∙ not-true (c .before .is-made .result) (c .if1 .taken)))
-
-add-i : tie.Need-add-i Inv-loop μ-loop
-add-i c = search needs
-
-loop-less : tie.Need-loop-less Inv-loop μ-loop
-loop-less c = search needs
 
 loop-again : tie.Need-loop-again Inv-loop μ-loop
 loop-again c =
@@ -61,9 +52,9 @@ names-made-spec =
     Inv-loop
     μ-loop
     loop-holds
-    is-made-requires
+    (λ c κs. search needs)
     returns
-    add-i
-    loop-less
+    (λ c. search needs)
+    (λ c. search needs)
     loop-again
     returns-2)

@@ -24,12 +24,6 @@ whole-product-requires-2 c κs =
     let f : SFits w64 (S .args .e .high) = search needs in
     rw (back (S .fits .c), back f) (product-fits (S .args .c) (S .args .e .high) (S .pre .0) (S .pre .1 .high-sized) tt)
 
-smaller-requires : tie.Need-smaller-requires
-smaller-requires c κs = search needs
-
-larger-requires : tie.Need-larger-requires
-larger-requires c κs = search needs
-
 returns : tie.Need-returns
 returns c =
     let S = c .before .before .before .before .before .before .before .before in
@@ -62,6 +56,6 @@ scaled-spec =
     (tie.spec
     whole-product-requires
     whole-product-requires-2
-    smaller-requires
-    larger-requires
+    (λ c κs. search needs)
+    (λ c κs. search needs)
     returns)

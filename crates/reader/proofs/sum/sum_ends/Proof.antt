@@ -56,19 +56,10 @@ made c =
     all-here (isMade (start .args .values)) (start .args .numbers .now) (start .args .count) (c .before .loop .i + 1) (start .pre .1)
     (pair c) (c .before .loop .inv .3)
 
-add-ends-named : tie.Need-add-ends-named Inv-loop μ-loop
-add-ends-named c = search needs
-
 ends-named-requires : tie.Need-ends-named-requires Inv-loop μ-loop
 ends-named-requires c κs =
     let start = c .before .before .before in
     (omega (arith, pair c, start .pre .1), ready-lows (start .pre .0), ready-highs (start .pre .0), made c .0)
-
-mul-c : tie.Need-mul-c Inv-loop μ-loop
-mul-c c = search needs
-
-shared-slice-copy-out-c : tie.Need-shared-slice-copy-out-c Inv-loop μ-loop
-shared-slice-copy-out-c c = search needs
 
 scaled-requires : tie.Need-scaled-requires Inv-loop μ-loop
 scaled-requires c κs =
@@ -118,12 +109,6 @@ returns c =
     (a .count) (at-loop .loop .i) (start .pre .1) (pair at-test)
     (next at-plus) (sym (at-is-within .is-within .ensures) ∙ not-true (at-is-within .is-within .result) (c .if1 .taken)))
 
-add-i : tie.Need-add-i Inv-loop μ-loop
-add-i c = search needs
-
-loop-less : tie.Need-loop-less Inv-loop μ-loop
-loop-less c = search needs
-
 loop-again : tie.Need-loop-again Inv-loop μ-loop
 loop-again c =
     let at-is-within = c .before in
@@ -143,9 +128,6 @@ loop-again c =
           (next at-plus) within,
     )
 
-made-of-requires : tie.Need-made-of-requires Inv-loop μ-loop
-made-of-requires c κs = search needs
-
 returns-2 : tie.Need-returns-2 Inv-loop μ-loop
 returns-2 c =
     let at-loop = c .before .before in
@@ -163,16 +145,16 @@ sum-ends-spec =
     μ-loop
     constant-requires
     loop-holds
-    add-ends-named
+    (λ c. search needs)
     ends-named-requires
-    mul-c
-    shared-slice-copy-out-c
+    (λ c. search needs)
+    (λ c. search needs)
     scaled-requires
     plus-requires
     is-within-requires
     returns
-    add-i
-    loop-less
+    (λ c. search needs)
+    (λ c. search needs)
     loop-again
-    made-of-requires
+    (λ c κs. search needs)
     returns-2)

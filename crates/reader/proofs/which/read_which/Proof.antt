@@ -35,18 +35,6 @@ made : (c : tie.After-known-told2)
     (isMade (a .values) (getD (a .numbers .now) 0 (pos 0)) ≡ true) × (isMade (a .values) (getD (a .numbers .now) 1 (pos 0)) ≡ true)
 made c = let a = c .before .before .before .before .before .args in two-made (a .values) (a .numbers .now) (begins _ _ _ _ _ _ _ _ _ _ (told-begun c) .are-made)
 
-are-made-requires : tie.Need-are-made-requires
-are-made-requires c κs = search needs
-
-begin-line-requires : tie.Need-begin-line-requires
-begin-line-requires c κs = search needs
-
-enum-known-begun : tie.Need-enum-known-begun
-enum-known-begun c = search needs
-
-enum-known-begun-2 : tie.Need-enum-known-begun-2
-enum-known-begun-2 c = search needs
-
 ends-named-requires : tie.Need-ends-named-requires
 ends-named-requires c κs =
     let start = c .before .before .before .before .before in
@@ -98,10 +86,10 @@ pub read-which-spec : {M : Type 1} → statement M
 read-which-spec =
     tie.close
     (tie.spec
-    are-made-requires
-    begin-line-requires
-    enum-known-begun
-    enum-known-begun-2
+    (λ c κs. search needs)
+    (λ c κs. search needs)
+    (λ c. search needs)
+    (λ c. search needs)
     ends-named-requires
     ends-named-requires-2
     apart-requires

@@ -16,18 +16,6 @@ abbrev μ-loop : tie.MeasureT-loop
 loop-holds : tie.Need-loop-holds Inv-loop μ-loop
 loop-holds c = together-none _ _ _
 
-mul-below : tie.Need-mul-below Inv-loop μ-loop
-mul-below c = search needs
-
-shared-slice-read-below : tie.Need-shared-slice-read-below Inv-loop μ-loop
-shared-slice-read-below c = search needs
-
-add-i : tie.Need-add-i Inv-loop μ-loop
-add-i c = search needs
-
-loop-less : tie.Need-loop-less Inv-loop μ-loop
-loop-less c = search needs
-
 loop-again : tie.Need-loop-again Inv-loop μ-loop
 unfolding isCell
 loop-again c = together-next _ _ _ _ _ (c .before .before .loop .inv) (c .before .loop-test .taken)
@@ -42,9 +30,9 @@ all-below-spec =
     Inv-loop
     μ-loop
     loop-holds
-    mul-below
-    shared-slice-read-below
-    add-i
-    loop-less
+    (λ c. search needs)
+    (λ c. search needs)
+    (λ c. search needs)
+    (λ c. search needs)
     loop-again
     returns)

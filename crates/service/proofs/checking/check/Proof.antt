@@ -8,15 +8,6 @@ use borrow.Author.Needs.{needs}
 use Rattle.service.proofs.checking.check.Statement.{statement}
 use Rattle.service.proofs.checking.check.Tie as tie
 
-survey-requires : tie.Need-survey-requires
-survey-requires c κs = search needs
-
-enum-known-found : tie.Need-enum-known-found
-enum-known-found c = search needs
-
-enum-known-found-2 : tie.Need-enum-known-found-2
-enum-known-found-2 c = search needs
-
 check-table-requires : tie.Need-check-table-requires
 check-table-requires c κs =
     survey-counted (now (c .before .before .before .before .before .before .args .list)) _ (c .before .before .before .survey .ensures .0) (c .before .before .before .survey .ensures .1) _ _ (c .before .found2 .given .1)
@@ -38,9 +29,9 @@ pub check-spec : {M : Type 1} → statement M
 check-spec =
     tie.close
     (tie.spec
-    survey-requires
-    enum-known-found
-    enum-known-found-2
+    (λ c κs. search needs)
+    (λ c. search needs)
+    (λ c. search needs)
     check-table-requires
     returns
     returns-2)

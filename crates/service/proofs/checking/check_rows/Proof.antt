@@ -22,19 +22,10 @@ loop-holds c =
     let S = c .before .before in
     checking-first (now (S .args .list)) (now (S .args .table)) (S .args .p) _ _ refl refl (S .pre)
 
-slice-aggregate-take-line : tie.Need-slice-aggregate-take-line Inv-loop μ-loop
-slice-aggregate-take-line c = search needs
-
 take-line-requires : tie.Need-take-line-requires Inv-loop μ-loop
 take-line-requires c κs =
     let w = c .before .before .loop .inv in
     (at-line w (c .before .loop-test .taken), w .numbers-long)
-
-slice-aggregate-line-rows : tie.Need-slice-aggregate-line-rows Inv-loop μ-loop
-slice-aggregate-line-rows c = search needs
-
-slice-aggregate-line-rows-2 : tie.Need-slice-aggregate-line-rows-2 Inv-loop μ-loop
-slice-aggregate-line-rows-2 c = search needs
 
 line-rows-requires : tie.Need-line-rows-requires Inv-loop μ-loop
 line-rows-requires c κs =
@@ -42,9 +33,6 @@ line-rows-requires c κs =
     let inside = c .before .before .before .before .before .loop-test .taken in
     let took = c .before .before .before .take-line .ensures (at-line w inside) in
     rows-asked w inside took
-
-enum-known-rows : tie.Need-enum-known-rows Inv-loop μ-loop
-enum-known-rows c = search needs
 
 add-t23 : tie.Need-add-t23 Inv-loop μ-loop
 add-t23 c =
@@ -64,12 +52,6 @@ returns c =
     let took = c .before .before .before .before .before .before .before .before .take-line .ensures (at-line w inside) in
     let told = c .before .before .before .before .line-rows .ensures (rows-asked w inside took) in
     checking-fails w _ _ (took .left-is) _ told _ (c .before .before .rows .given .1)
-
-enum-told : tie.Need-enum-told Inv-loop μ-loop
-enum-told c = search needs
-
-slice-aggregate-take-place : tie.Need-slice-aggregate-take-place Inv-loop μ-loop
-slice-aggregate-take-place c = search needs
 
 take-place-requires : tie.Need-take-place-requires Inv-loop μ-loop
 take-place-requires c κs =
@@ -107,16 +89,16 @@ check-rows-spec =
     Inv-loop
     μ-loop
     loop-holds
-    slice-aggregate-take-line
+    (λ c. search needs)
     take-line-requires
-    slice-aggregate-line-rows
-    slice-aggregate-line-rows-2
+    (λ c. search needs)
+    (λ c. search needs)
     line-rows-requires
-    enum-known-rows
+    (λ c. search needs)
     add-t23
     returns
-    enum-told
-    slice-aggregate-take-place
+    (λ c. search needs)
+    (λ c. search needs)
     take-place-requires
     loop-less
     loop-again

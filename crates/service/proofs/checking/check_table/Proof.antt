@@ -14,15 +14,6 @@ returns c l =
     let S = c .before .before .before .before in
     checked-wrong-length (l .last) (l .lines) (now (S .args .table)) (λ e. c .if1 .taken (e ∙ sym (cells-by (S .pre) l)))
 
-first-large-requires : tie.Need-first-large-requires
-first-large-requires c κs = search needs
-
-enum-known-found : tie.Need-enum-known-found
-enum-known-found c = search needs
-
-enum-told : tie.Need-enum-told
-enum-told c = search needs
-
 check-rows-requires : tie.Need-check-rows-requires
 check-rows-requires c κs =
     let S = c .before .before .before .before .before .before .before in
@@ -51,9 +42,9 @@ check-table-spec =
     tie.close
     (tie.spec
     returns
-    first-large-requires
-    enum-known-found
-    enum-told
+    (λ c κs. search needs)
+    (λ c. search needs)
+    (λ c. search needs)
     check-rows-requires
     returns-2
     returns-3)

@@ -16,9 +16,6 @@ Inv-loop table p i₀ i = (i < length table) × Scanned (isCell p) 0 table i
 abbrev μ-loop : tie.MeasureT-loop
 μ-loop table p i₀ i = length table - i
 
-all-below-requires : tie.Need-all-below-requires Inv-loop μ-loop
-all-below-requires c κs = search needs
-
 returns : tie.Need-returns Inv-loop μ-loop
 unfolding cellsSeen refusalAt
 returns c = ap (refusalAt 14) (all-none _ _ (sym (c .before .all-below .ensures) ∙ c .if1 .taken))
@@ -27,18 +24,6 @@ loop-holds : tie.Need-loop-holds Inv-loop μ-loop
 loop-holds c =
     let first = scanned-none _ _ _ in
     (scan-inside _ _ _ _ first (sym (c .before .all-below .ensures) ∙ c .if1 .left), first)
-
-mul-if2 : tie.Need-mul-if2 Inv-loop μ-loop
-mul-if2 c = search needs
-
-shared-slice-read-if2 : tie.Need-shared-slice-read-if2 Inv-loop μ-loop
-shared-slice-read-if2 c = search needs
-
-add-i : tie.Need-add-i Inv-loop μ-loop
-add-i c = search needs
-
-loop-less : tie.Need-loop-less Inv-loop μ-loop
-loop-less c = search needs
 
 loop-again : tie.Need-loop-again Inv-loop μ-loop
 loop-again c =
@@ -60,12 +45,12 @@ first-large-spec =
     (tie.spec
     Inv-loop
     μ-loop
-    all-below-requires
+    (λ c κs. search needs)
     returns
     loop-holds
-    mul-if2
-    shared-slice-read-if2
-    add-i
-    loop-less
+    (λ c. search needs)
+    (λ c. search needs)
+    (λ c. search needs)
+    (λ c. search needs)
     loop-again
     returns-2)

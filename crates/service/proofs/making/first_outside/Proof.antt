@@ -25,26 +25,11 @@ abbrev μ-loop : tie.MeasureT-loop
 loop-holds : tie.Need-loop-holds Inv-loop μ-loop
 loop-holds c = scanned-none _ _ _
 
-mul-t4 : tie.Need-mul-t4 Inv-loop μ-loop
-mul-t4 c = search needs
-
-shared-slice-copy-out-t7 : tie.Need-shared-slice-copy-out-t7 Inv-loop μ-loop
-shared-slice-copy-out-t7 c = search needs
-
-in-range-requires : tie.Need-in-range-requires Inv-loop μ-loop
-in-range-requires c κs = search needs
-
 returns : tie.Need-returns Inv-loop μ-loop
 unfolding inputsSeen refusalAt
 returns c =
     let f : SFits w64 (getD (now (c .before .before .before .before .before .args .inputs)) (c .before .before .before .before .loop .i) (pos 0)) = search needs in
     ap (refusalAt 17) (scan-here (inRange (c .before .before .before .before .before .args .p)) (pos 0) (now (c .before .before .before .before .before .args .inputs)) _ (c .before .before .before .before .loop .inv) (c .before .before .before .loop-test .taken) (rw (back f) at (sym (c .before .in-range .ensures) ∙ not-true _ (c .if1 .taken))))
-
-add-i : tie.Need-add-i Inv-loop μ-loop
-add-i c = search needs
-
-loop-less : tie.Need-loop-less Inv-loop μ-loop
-loop-less c = search needs
 
 loop-again : tie.Need-loop-again Inv-loop μ-loop
 loop-again c =
@@ -62,11 +47,11 @@ first-outside-spec =
     Inv-loop
     μ-loop
     loop-holds
-    mul-t4
-    shared-slice-copy-out-t7
-    in-range-requires
+    (λ c. search needs)
+    (λ c. search needs)
+    (λ c κs. search needs)
     returns
-    add-i
-    loop-less
+    (λ c. search needs)
+    (λ c. search needs)
     loop-again
     returns-2)

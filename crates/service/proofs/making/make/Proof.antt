@@ -8,15 +8,6 @@ use borrow.Author.Needs.{needs}
 use Rattle.service.proofs.making.make.Statement.{statement}
 use Rattle.service.proofs.making.make.Tie as tie
 
-survey-requires : tie.Need-survey-requires
-survey-requires c κs = search needs
-
-enum-known-found : tie.Need-enum-known-found
-enum-known-found c = search needs
-
-enum-known-found-2 : tie.Need-enum-known-found-2
-enum-known-found-2 c = search needs
-
 make-table-requires : tie.Need-make-table-requires
 make-table-requires c κs =
     survey-counted (now (c .before .before .before .before .before .before .before .args .list)) _ (c .before .before .before .before .survey .ensures .0) (c .before .before .before .before .survey .ensures .1) _ _ (c .before .before .found2 .given .1)
@@ -27,9 +18,6 @@ returns c =
     let S = c .before .before .before .before .before .before in
     makes-by (make-refused (now (S .args .list)) (now (S .args .inputs)) (now (S .args .table)) _ _
     (survey-refused _ _ (c .before .before .before .survey .ensures .0) _ _ (c .before .found .given .1)))
-
-same-length : tie.Need-same-length
-same-length c = search needs
 
 returns-2 : tie.Need-returns-2
 unfolding replySeen
@@ -42,10 +30,10 @@ pub make-spec : {M : Type 1} → statement M
 make-spec =
     tie.close
     (tie.spec
-    survey-requires
-    enum-known-found
-    enum-known-found-2
+    (λ c κs. search needs)
+    (λ c. search needs)
+    (λ c. search needs)
     make-table-requires
     returns
-    same-length
+    (λ c. search needs)
     returns-2)

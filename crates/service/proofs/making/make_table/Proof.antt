@@ -26,9 +26,6 @@ first-outside-requires c κs =
     let odd = c .before .before .before .before .before .before .pre .odd .three in
     search (needs, odd)
 
-enum-known-found : tie.Need-enum-known-found
-enum-known-found c = search needs
-
 returns-3 : tie.Need-returns-3
 unfolding replySeen
 returns-3 c l =
@@ -36,9 +33,6 @@ returns-3 c l =
     let found = outside-found (now (S .args .inputs)) (S .args .p) _ (c .before .before .before .first-outside .ensures) _ (c .before .found .given .1) in
     made-outside (l .last) (l .lines) (now (S .args .inputs)) (now (S .args .table)) (c .before .before .before .before .before .before .if1 .left ∙ cells-by (S .pre) l)
     (c .before .before .before .before .if2 .left ∙ inputs-by (S .pre) l) _ (rw (← prime-by (S .pre) l) found)
-
-enum-told : tie.Need-enum-told
-enum-told c = search needs
 
 make-true-requires : tie.Need-make-true-requires
 make-true-requires c κs =
@@ -49,9 +43,6 @@ make-true-requires c κs =
       S .pre .prime,
       c .before .before .before .before .before .before .if1 .left ∙ cells-by (S .pre) l,
     )
-
-same-length : tie.Need-same-length
-same-length c = search needs
 
 returns-4 : tie.Need-returns-4
 unfolding replySeen
@@ -69,9 +60,9 @@ make-table-spec =
     returns
     returns-2
     first-outside-requires
-    enum-known-found
+    (λ c. search needs)
     returns-3
-    enum-told
+    (λ c. search needs)
     make-true-requires
-    same-length
+    (λ c. search needs)
     returns-4)

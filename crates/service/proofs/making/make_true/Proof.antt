@@ -8,33 +8,15 @@ use borrow.Author.Needs.{needs}
 use Rattle.service.proofs.making.make_true.Statement.{statement}
 use Rattle.service.proofs.making.make_true.Tie as tie
 
-slice-aggregate-work-lines : tie.Need-slice-aggregate-work-lines
-slice-aggregate-work-lines c = search needs
-
-work-lines-requires : tie.Need-work-lines-requires
-work-lines-requires c κs = search needs
-
-enum-known-worked : tie.Need-enum-known-worked
-enum-known-worked c = search needs
-
 returns : tie.Need-returns
 unfolding replySeen
 returns c l = false-made (l .lines) (l .last) (now (c .before .before .before .before .before .before .before .before .args .inputs)) _ _ (c .before .before .before .before .work-lines .ensures .0 l) _ _ (c .before .worked .given .1)
-
-enum-told : tie.Need-enum-told
-enum-told c = search needs
-
-slice-aggregate-write-lines : tie.Need-slice-aggregate-write-lines
-slice-aggregate-write-lines c = search needs
 
 write-lines-requires : tie.Need-write-lines-requires
 write-lines-requires c κs =
     let S = c .before .before .before .before .before .before .before .before .before in
     let done = c .before .before .before .before .before .work-lines .ensures in
     write-asked (now (S .args .list)) (now (S .args .table)) (S .args .p) (now (S .args .inputs)) _ (S .pre .0) (S .pre .1) (S .pre .2) (done .1) _ (done .0 (S .pre .0 .listed)) (c .before .before .enum-told .given .1)
-
-same-length : tie.Need-same-length
-same-length c = search needs
 
 returns-2 : tie.Need-returns-2
 unfolding replySeen
@@ -50,12 +32,12 @@ pub make-true-spec : {M : Type 1} → statement M
 make-true-spec =
     tie.close
     (tie.spec
-    slice-aggregate-work-lines
-    work-lines-requires
-    enum-known-worked
+    (λ c. search needs)
+    (λ c κs. search needs)
+    (λ c. search needs)
     returns
-    enum-told
-    slice-aggregate-write-lines
+    (λ c. search needs)
+    (λ c. search needs)
     write-lines-requires
-    same-length
+    (λ c. search needs)
     returns-2)

@@ -11,33 +11,6 @@ use borrow.Author.Needs.{needs}
 use Rattle.service.proofs.showing.show.Statement.{statement}
 use Rattle.service.proofs.showing.show.Tie as tie
 
-survey-requires : tie.Need-survey-requires
-survey-requires c κs = search needs
-
-enum-told : tie.Need-enum-told
-enum-told c = search needs
-
-sub-result : tie.Need-sub-result
-sub-result c = search needs
-
-part-result-start : tie.Need-part-result-start
-part-result-start c = search needs
-
-part-result-end : tie.Need-part-result-end
-part-result-end c = search needs
-
-enum-known-found : tie.Need-enum-known-found
-enum-known-found c = search needs
-
-sub-result-2 : tie.Need-sub-result-2
-sub-result-2 c = search needs
-
-part-result-start-2 : tie.Need-part-result-start-2
-part-result-start-2 c = search needs
-
-part-result-end-2 : tie.Need-part-result-end-2
-part-result-end-2 c = search needs
-
 returns : tie.Need-returns
 returns c =
     let S = c .before .before .before .before .before .before .before .before in
@@ -103,15 +76,15 @@ pub show-spec : {M : Type 1} → statement M
 show-spec =
     tie.close
     (tie.spec
-    survey-requires
-    enum-told
-    sub-result
-    part-result-start
-    part-result-end
-    enum-known-found
-    sub-result-2
-    part-result-start-2
-    part-result-end-2
+    (λ c κs. search needs)
+    (λ c. search needs)
+    (λ c. search needs)
+    (λ c. search needs)
+    (λ c. search needs)
+    (λ c. search needs)
+    (λ c. search needs)
+    (λ c. search needs)
+    (λ c. search needs)
     returns
     stretch-of-requires
     mul-result

@@ -19,9 +19,6 @@ loop-holds c =
     let S = c .before in
     showing-first (now (S .args .list)) (S .args .line) _ refl (S .pre)
 
-slice-aggregate-take-line : tie.Need-slice-aggregate-take-line Inv-loop μ-loop
-slice-aggregate-take-line c = search needs
-
 take-line-requires : tie.Need-take-line-requires Inv-loop μ-loop
 take-line-requires c κs =
     let w = c .before .before .loop .inv in
@@ -32,9 +29,6 @@ returns c =
     let w = c .before .before .before .before .before .before .loop .inv in
     let took = c .before .before .before .take-line .ensures (at-line w (c .before .before .before .before .before .loop-test .taken)) in
     showing-line w _ _ (took .left-is) (took .next) (c .if1 .taken)
-
-add-n : tie.Need-add-n Inv-loop μ-loop
-add-n c = search needs
 
 loop-less : tie.Need-loop-less Inv-loop μ-loop
 loop-less c =
@@ -57,10 +51,10 @@ stretch-of-spec =
     Inv-loop
     μ-loop
     loop-holds
-    slice-aggregate-take-line
+    (λ c. search needs)
     take-line-requires
     returns
-    add-n
+    (λ c. search needs)
     loop-less
     loop-again
     returns-2)

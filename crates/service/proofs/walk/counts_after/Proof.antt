@@ -5,21 +5,6 @@ use borrow.Author.Needs.{needs}
 use Rattle.service.proofs.walk.counts_after.Statement.{statement}
 use Rattle.service.proofs.walk.counts_after.Tie as tie
 
-line-size-requires : tie.Need-line-size-requires
-line-size-requires c κs = search needs
-
-add-t5 : tie.Need-add-t5
-add-t5 c = search needs
-
-add-t6 : tie.Need-add-t6
-add-t6 c = search needs
-
-add-t7 : tie.Need-add-t7
-add-t7 c = search needs
-
-add-t8 : tie.Need-add-t8
-add-t8 c = search needs
-
 returns : tie.Need-returns
 returns c =
     let size = c .before .before .before .before .before .before .before .before .line-size in (
@@ -28,4 +13,4 @@ returns c =
     )
 
 pub counts-after-spec : {M : Type 1} → statement M
-counts-after-spec = tie.close (tie.spec line-size-requires add-t5 add-t6 add-t7 add-t8 returns)
+counts-after-spec = tie.close (tie.spec (λ c κs. search needs) (λ c. search needs) (λ c. search needs) (λ c. search needs) (λ c. search needs) returns)

@@ -14,20 +14,11 @@ line-of-requires c κs =
     let l = S .pre .0 .listed in
     (read-ended _ (l .lines) (l .last) (l .is-read), S .pre .0 .inside, S .pre .1)
 
-enum-known-read : tie.Need-enum-known-read
-enum-known-read c = search needs
-
-enum-told : tie.Need-enum-told
-enum-told c = search needs
-
 counts-after-requires : tie.Need-counts-after-requires
 counts-after-requires c κs =
     let at-line = c .before .before .before in
     let S = at-line .before .before .before in
     (S .pre .0 .stands .few, at-line .line-of .ensures .0 .left .kept ∙ S .pre .1)
-
-same-length : tie.Need-same-length
-same-length c = search needs
 
 returns : tie.Need-returns
 returns c =
@@ -45,4 +36,4 @@ returns c =
 pub take-line-spec : {M : Type 1} → statement M
 take-line-spec =
     tie.close
-    (tie.spec line-of-requires enum-known-read enum-told counts-after-requires same-length returns)
+    (tie.spec line-of-requires (λ c. search needs) (λ c. search needs) counts-after-requires (λ c. search needs) returns)

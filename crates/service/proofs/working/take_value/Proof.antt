@@ -10,9 +10,6 @@ use borrow.Author.Needs.{needs}
 use Rattle.service.proofs.working.take_value.Statement.{statement}
 use Rattle.service.proofs.working.take_value.Tie as tie
 
-enum-known-worked : tie.Need-enum-known-worked
-enum-known-worked c = search needs
-
 mul-z : tie.Need-mul-z
 mul-z c =
     let inside = c .before .before .before .pre _ (c .before .worked .given .1) in
@@ -22,15 +19,6 @@ slice-set-from-z : tie.Need-slice-set-from-z
 slice-set-from-z c =
     let inside = c .before .before .before .pre _ (c .before .worked .given .1) in
     search (needs, inside)
-
-enum-told : tie.Need-enum-told
-enum-told c = search needs
-
-enum-told-2 : tie.Need-enum-told-2
-enum-told-2 c = search needs
-
-same-length : tie.Need-same-length
-same-length c = search needs
 
 returns : tie.Need-returns
 unfolding withValue isTrue
@@ -58,12 +46,12 @@ pub take-value-spec : {M : Type 1} → statement M
 take-value-spec =
     tie.close
     (tie.spec
-    enum-known-worked
+    (λ c. search needs)
     mul-z
     slice-set-from-z
-    enum-told
-    enum-told-2
-    same-length
+    (λ c. search needs)
+    (λ c. search needs)
+    (λ c. search needs)
     returns
     returns-2
     returns-3)

@@ -26,19 +26,10 @@ loop-holds c =
     let S = c .before in
     working-first (now (S .args .list)) (now (S .args .inputs)) _ (now (S .args .values)) refl (S .pre .1) (S .pre .0)
 
-slice-aggregate-take-line : tie.Need-slice-aggregate-take-line Inv-loop μ-loop
-slice-aggregate-take-line c = search needs
-
 take-line-requires : tie.Need-take-line-requires Inv-loop μ-loop
 take-line-requires c κs =
     let w = c .before .before .loop .inv in
     (at-line w (c .before .loop-test .taken), w .numbers-long)
-
-input-at-requires : tie.Need-input-at-requires Inv-loop μ-loop
-input-at-requires c κs = search needs
-
-slice-aggregate-line-works : tie.Need-slice-aggregate-line-works Inv-loop μ-loop
-slice-aggregate-line-works c = search needs
 
 line-works-requires : tie.Need-line-works-requires Inv-loop μ-loop
 line-works-requires c κs =
@@ -56,9 +47,6 @@ take-value-requires c κs z value =
     let fits : SFits w64 (c .before .before .before .before .input-at .result) = search needs in
     let told = rw (back fits, c .before .before .before .before .input-at .ensures) at (c .before .line-works .ensures (values-asked w inside took)) in
     value-inside w _ _ (took .left-is) _ told (ap isTrue value) (took .kept) z value
-
-same-length : tie.Need-same-length Inv-loop μ-loop
-same-length c = search needs
 
 returns : tie.Need-returns Inv-loop μ-loop
 returns c =
@@ -97,9 +85,6 @@ loop-again c =
     let answer = sym (c .before .before .before .take-value .ensures .0) ∙ not-false _ (c .before .if1 .left) in
     rw (c .before .before .before .take-value .ensures .1) (working-next w _ _ (took .left-is) _ told answer (took .kept) _ (took .next) (took .long))
 
-same-length-2 : tie.Need-same-length-2 Inv-loop μ-loop
-same-length-2 c = search needs
-
 returns-2 : tie.Need-returns-2 Inv-loop μ-loop
 returns-2 c = (working-end (c .before .loop .inv) (c .loop-test .left), c .before .loop .inv .values-long)
 
@@ -110,16 +95,16 @@ work-lines-spec =
     Inv-loop
     μ-loop
     loop-holds
-    slice-aggregate-take-line
+    (λ c. search needs)
     take-line-requires
-    input-at-requires
-    slice-aggregate-line-works
+    (λ c κs. search needs)
+    (λ c. search needs)
     line-works-requires
     take-value-requires
-    same-length
+    (λ c. search needs)
     returns
     add-n
     loop-less
     loop-again
-    same-length-2
+    (λ c. search needs)
     returns-2)

@@ -19,16 +19,10 @@ loop-holds c =
     let S = c .before .before in
     writing-first (now (S .args .list)) (S .args .p) (now (S .args .values)) (now (S .args .table)) _ refl (S .pre)
 
-slice-aggregate-take-line : tie.Need-slice-aggregate-take-line Inv-loop μ-loop
-slice-aggregate-take-line c = search needs
-
 take-line-requires : tie.Need-take-line-requires Inv-loop μ-loop
 take-line-requires c κs =
     let w = c .before .before .loop .inv in
     (at-line w (c .before .loop-test .taken), w .numbers-long)
-
-slice-aggregate-line-cells : tie.Need-slice-aggregate-line-cells Inv-loop μ-loop
-slice-aggregate-line-cells c = search needs
 
 mul-line-cells : tie.Need-mul-line-cells Inv-loop μ-loop
 mul-line-cells c =
@@ -53,9 +47,6 @@ part-line-cells-start c =
     let took = c .before .before .take-line .ensures (at-line w inside) in
     let first = first-inside w inside took in
     search (needs, first)
-
-part-line-cells-end : tie.Need-part-line-cells-end Inv-loop μ-loop
-part-line-cells-end c = search needs
 
 line-cells-requires : tie.Need-line-cells-requires Inv-loop μ-loop
 line-cells-requires c κs =
@@ -96,13 +87,13 @@ write-lines-spec =
     Inv-loop
     μ-loop
     loop-holds
-    slice-aggregate-take-line
+    (λ c. search needs)
     take-line-requires
-    slice-aggregate-line-cells
+    (λ c. search needs)
     mul-line-cells
     sub-line-cells
     part-line-cells-start
-    part-line-cells-end
+    (λ c. search needs)
     line-cells-requires
     loop-less
     loop-again

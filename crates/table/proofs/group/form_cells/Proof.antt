@@ -9,15 +9,6 @@ use borrow.Author.Needs.{needs}
 use Rattle.table.proofs.group.form_cells.Statement.{statement}
 use Rattle.table.proofs.group.form_cells.Tie as tie
 
-apart-requires : tie.Need-apart-requires
-apart-requires c κs = search needs
-
-group-cells-requires : tie.Need-group-cells-requires
-group-cells-requires c κs = search needs
-
-same-length : tie.Need-same-length
-same-length c = search needs
-
 returns : tie.Need-returns
 unfolding groupCells
 returns c =
@@ -28,4 +19,4 @@ returns c =
     ∙ ap (λ n. digits (a .b) (a .k) n ++ drop (a .k) (a .out .now)) (rw (back (s .fits .form), back (s .fits .shift)) at (g .before .apart .ensures))
 
 pub form-cells-spec : {M : Type 1} → statement M
-form-cells-spec = tie.close (tie.spec apart-requires group-cells-requires same-length returns)
+form-cells-spec = tie.close (tie.spec (λ c κs. search needs) (λ c κs. search needs) (λ c. search needs) returns)

@@ -26,21 +26,6 @@ loop-holds c =
     let s = c .before .args in
     (search needs, seen-none (s .table .now) (s .at .0) (s .b) (s .k), λ p. digits-start p (s .table .now) (s .first) (s .at .0) (s .b) (s .k))
 
-add-loop : tie.Need-add-loop Inv-loop μ-loop
-add-loop c = search needs
-
-add-low : tie.Need-add-low Inv-loop μ-loop
-add-low c = search needs
-
-mul-low : tie.Need-mul-low Inv-loop μ-loop
-mul-low c = search needs
-
-shared-slice-read-low : tie.Need-shared-slice-read-low Inv-loop μ-loop
-shared-slice-read-low c = search needs
-
-add-t18 : tie.Need-add-t18 Inv-loop μ-loop
-add-t18 c = search needs
-
 returns : tie.Need-returns Inv-loop μ-loop
 unfolding rowsSeen
 returns c p f L h e =
@@ -49,24 +34,6 @@ returns c p f L h e =
     let s = at-test .before .before .before .args in
     group-fails p (s .table .now) f L (s .first) (s .at .0) (s .b) (s .k)
     (sym (now .inv .2 p ∙ digit-fails p (s .table .now) (s .first) (s .at .0) (s .b) (s .k) (now .i) (omega arith) (omega arith)))
-
-add-high : tie.Need-add-high Inv-loop μ-loop
-add-high c = search needs
-
-add-high-2 : tie.Need-add-high-2 Inv-loop μ-loop
-add-high-2 c = search needs
-
-mul-high : tie.Need-mul-high Inv-loop μ-loop
-mul-high c = search needs
-
-shared-slice-read-high : tie.Need-shared-slice-read-high Inv-loop μ-loop
-shared-slice-read-high c = search needs
-
-add-t21 : tie.Need-add-t21 Inv-loop μ-loop
-add-t21 c = search needs
-
-add-t22 : tie.Need-add-t22 Inv-loop μ-loop
-add-t22 c = search needs
 
 returns-2 : tie.Need-returns-2 Inv-loop μ-loop
 unfolding rowsSeen
@@ -135,12 +102,6 @@ mul-part c =
 mul-part-2 : tie.Need-mul-part-2 Inv-loop μ-loop
 mul-part-2 c = omega (arith, most c)
 
-add-i : tie.Need-add-i Inv-loop μ-loop
-add-i c = search needs
-
-loop-less : tie.Need-loop-less Inv-loop μ-loop
-loop-less c = search needs
-
 loop-again : tie.Need-loop-again Inv-loop μ-loop
 loop-again c =
     let at-low = c .before .before .before in
@@ -152,18 +113,6 @@ loop-again c =
       λ p. now .inv .2 p
           ∙ two-pass p (s .table .now) (s .first) (s .at .0) (s .b) (s .k) (now .i) (at-test .loop-test .taken) (at-low .if1 .left) (c .if2 .left),
     )
-
-add-digit : tie.Need-add-digit Inv-loop μ-loop
-add-digit c = search needs
-
-mul-digit : tie.Need-mul-digit Inv-loop μ-loop
-mul-digit c = search needs
-
-shared-slice-read-digit : tie.Need-shared-slice-read-digit Inv-loop μ-loop
-shared-slice-read-digit c = search needs
-
-add-t31 : tie.Need-add-t31 Inv-loop μ-loop
-add-t31 c = search needs
 
 returns-3 : tie.Need-returns-3 Inv-loop μ-loop
 unfolding rowsSeen
@@ -200,12 +149,6 @@ mul-value-3 c = omega (arith, seen-last c .below, last-most c)
 add-value-3 : tie.Need-add-value-3 Inv-loop μ-loop
 add-value-3 c = omega (arith, seen-last c .below, last-most c)
 
-add-row-before : tie.Need-add-row-before Inv-loop μ-loop
-add-row-before c = search needs
-
-row-before-requires : tie.Need-row-before-requires Inv-loop μ-loop
-row-before-requires c κs = search needs
-
 returns-4 : tie.Need-returns-4 Inv-loop μ-loop
 unfolding rowsSeen
 returns-4 c p f L h e =
@@ -230,18 +173,18 @@ group-rows-spec =
     Inv-loop
     μ-loop
     loop-holds
-    add-loop
-    add-low
-    mul-low
-    shared-slice-read-low
-    add-t18
+    (λ c. search needs)
+    (λ c. search needs)
+    (λ c. search needs)
+    (λ c. search needs)
+    (λ c. search needs)
     returns
-    add-high
-    add-high-2
-    mul-high
-    shared-slice-read-high
-    add-t21
-    add-t22
+    (λ c. search needs)
+    (λ c. search needs)
+    (λ c. search needs)
+    (λ c. search needs)
+    (λ c. search needs)
+    (λ c. search needs)
     returns-2
     mul-value
     add-value
@@ -249,16 +192,16 @@ group-rows-spec =
     add-value-2
     mul-part
     mul-part-2
-    add-i
-    loop-less
+    (λ c. search needs)
+    (λ c. search needs)
     loop-again
-    add-digit
-    mul-digit
-    shared-slice-read-digit
-    add-t31
+    (λ c. search needs)
+    (λ c. search needs)
+    (λ c. search needs)
+    (λ c. search needs)
     returns-3
     mul-value-3
     add-value-3
-    add-row-before
-    row-before-requires
+    (λ c. search needs)
+    (λ c κs. search needs)
     returns-4)

@@ -7,18 +7,6 @@ use Rattle.table.proofs.group.power_of.Statement.{statement}
 use Rattle.table.proofs.group.power_of.Tie as tie
 use Rattle.table.specs.Cells.{powerBound}
 
-cast-capped-power : tie.Need-cast-capped-power
-cast-capped-power c = search needs
-
-capped-power-requires : tie.Need-capped-power-requires
-capped-power-requires c κs = search needs
-
-enum-known-c : tie.Need-enum-known-c
-enum-known-c c = search needs
-
-enum-told : tie.Need-enum-told
-enum-told c = search needs
-
 returns : tie.Need-returns
 returns c =
     let s = c .before .before .before .before in
@@ -33,4 +21,4 @@ returns-2 c =
 pub power-of-spec : {M : Type 1} → statement M
 power-of-spec =
     tie.close
-    (tie.spec cast-capped-power capped-power-requires enum-known-c enum-told returns returns-2)
+    (tie.spec (λ c. search needs) (λ c κs. search needs) (λ c. search needs) (λ c. search needs) returns returns-2)

@@ -10,27 +10,6 @@ use borrow.Author.Needs.{needs}
 use Rattle.table.proofs.group.two_groups.Statement.{statement}
 use Rattle.table.proofs.group.two_groups.Tie as tie
 
-form-cells-requires : tie.Need-form-cells-requires
-form-cells-requires c κs = search needs
-
-mul-form-cells : tie.Need-mul-form-cells
-mul-form-cells c = search needs
-
-sub-form-cells : tie.Need-sub-form-cells
-sub-form-cells c = search needs
-
-part-form-cells-start : tie.Need-part-form-cells-start
-part-form-cells-start c = search needs
-
-part-form-cells-end : tie.Need-part-form-cells-end
-part-form-cells-end c = search needs
-
-form-cells-requires-2 : tie.Need-form-cells-requires-2
-form-cells-requires-2 c κs = search needs
-
-same-length : tie.Need-same-length
-same-length c = search needs
-
 returns : tie.Need-returns
 returns c =
     let second = c .before .before in
@@ -49,11 +28,11 @@ pub two-groups-spec : {M : Type 1} → statement M
 two-groups-spec =
     tie.close
     (tie.spec
-    form-cells-requires
-    mul-form-cells
-    sub-form-cells
-    part-form-cells-start
-    part-form-cells-end
-    form-cells-requires-2
-    same-length
+    (λ c κs. search needs)
+    (λ c. search needs)
+    (λ c. search needs)
+    (λ c. search needs)
+    (λ c. search needs)
+    (λ c κs. search needs)
+    (λ c. search needs)
     returns)

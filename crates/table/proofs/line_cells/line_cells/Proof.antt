@@ -29,59 +29,35 @@ module _ (s : tie.Start) {v : Coded} {w : Word} {n : ℕ} (kind : Kind v w (s .a
       (λ u m. CellsTold (s .args .p) u (s .args .numbers .now) m (s .args .values .now) (s .args .known) (s .args .part .now) after)
       (s .args .word) is (s .pre .asked .kept .counted) t
 
-enum-told : tie.Need-enum-told
-enum-told c = search needs
-
-enum-told-2 : tie.Need-enum-told-2
-enum-told-2 c = search needs
-
 input-line-cells-requires : tie.Need-input-line-cells-requires
 input-line-cells-requires c κs =
     let s = c .before .before .before .before in
     (s .args .numbers .now, asked s input-kind (c .before .enum-told2 .given .1))
-
-enum-told-3 : tie.Need-enum-told-3
-enum-told-3 c = search needs
 
 span-line-cells-requires : tie.Need-span-line-cells-requires
 span-line-cells-requires c κs =
     let s = c .before .before .before .before in
     (s .args .p, s .args .known, asked s span-kind (c .before .enum-told3 .given .1))
 
-enum-told-4 : tie.Need-enum-told-4
-enum-told-4 c = search needs
-
 sum-line-cells-requires : tie.Need-sum-line-cells-requires
 sum-line-cells-requires c κs =
     let s = c .before .before .before .before in
     (s .args .numbers .now, s .args .count, asked s sum-kind (c .before .enum-told4 .given .1))
-
-enum-told-5 : tie.Need-enum-told-5
-enum-told-5 c = search needs
 
 relu-line-cells-requires : tie.Need-relu-line-cells-requires
 relu-line-cells-requires c κs =
     let s = c .before .before .before .before in
     (s .args .known, asked s relu-kind (c .before .enum-told5 .given .1))
 
-enum-told-6 : tie.Need-enum-told-6
-enum-told-6 c = search needs
-
 which-line-cells-requires : tie.Need-which-line-cells-requires
 which-line-cells-requires c κs =
     let s = c .before .before .before .before in
     (s .args .known, asked s which-kind (c .before .enum-told6 .given .1))
 
-enum-told-7 : tie.Need-enum-told-7
-enum-told-7 c = search needs
-
 max-line-cells-requires : tie.Need-max-line-cells-requires
 max-line-cells-requires c κs =
     let s = c .before .before .before .before in
     (s .args .known, asked s max-kind (c .before .enum-told7 .given .1))
-
-enum-told-8 : tie.Need-enum-told-8
-enum-told-8 c = search needs
 
 root-line-cells-requires : tie.Need-root-line-cells-requires
 root-line-cells-requires c κs =
@@ -92,17 +68,11 @@ returns : tie.Need-returns
 returns c =
     told (c .before .before .before) field-kind (c .enum-told .given .1) _ (field-cells-told _ _ _ _ _)
 
-same-length : tie.Need-same-length
-same-length c = search needs
-
 returns-2 : tie.Need-returns-2
 returns-2 c =
     let last = c .before .before in
     let kind = last .before .before in
     told (kind .before .before .before) input-kind (kind .enum-told2 .given .1) _ (last .input-line-cells .ensures _)
-
-same-length-2 : tie.Need-same-length-2
-same-length-2 c = search needs
 
 returns-3 : tie.Need-returns-3
 returns-3 c =
@@ -110,17 +80,11 @@ returns-3 c =
     let kind = last .before .before in
     told (kind .before .before .before) span-kind (kind .enum-told3 .given .1) _ (last .span-line-cells .ensures _ _)
 
-same-length-3 : tie.Need-same-length-3
-same-length-3 c = search needs
-
 returns-4 : tie.Need-returns-4
 returns-4 c =
     let last = c .before .before in
     let kind = last .before .before in
     told (kind .before .before .before) sum-kind (kind .enum-told4 .given .1) _ (last .sum-line-cells .ensures _ _)
-
-same-length-4 : tie.Need-same-length-4
-same-length-4 c = search needs
 
 returns-5 : tie.Need-returns-5
 returns-5 c =
@@ -128,26 +92,17 @@ returns-5 c =
     let kind = last .before .before in
     told (kind .before .before .before) relu-kind (kind .enum-told5 .given .1) _ (last .relu-line-cells .ensures _)
 
-same-length-5 : tie.Need-same-length-5
-same-length-5 c = search needs
-
 returns-6 : tie.Need-returns-6
 returns-6 c =
     let last = c .before .before in
     let kind = last .before .before in
     told (kind .before .before .before) which-kind (kind .enum-told6 .given .1) _ (last .which-line-cells .ensures _)
 
-same-length-6 : tie.Need-same-length-6
-same-length-6 c = search needs
-
 returns-7 : tie.Need-returns-7
 returns-7 c =
     let last = c .before .before in
     let kind = last .before .before in
     told (kind .before .before .before) max-kind (kind .enum-told7 .given .1) _ (last .max-line-cells .ensures _)
-
-same-length-7 : tie.Need-same-length-7
-same-length-7 c = search needs
 
 returns-8 : tie.Need-returns-8
 returns-8 c =
@@ -159,33 +114,33 @@ pub line-cells-spec : {M : Type 1} → statement M
 line-cells-spec =
     tie.close
     (tie.spec
-    enum-told
-    enum-told-2
+    (λ c. search needs)
+    (λ c. search needs)
     input-line-cells-requires
-    enum-told-3
+    (λ c. search needs)
     span-line-cells-requires
-    enum-told-4
+    (λ c. search needs)
     sum-line-cells-requires
-    enum-told-5
+    (λ c. search needs)
     relu-line-cells-requires
-    enum-told-6
+    (λ c. search needs)
     which-line-cells-requires
-    enum-told-7
+    (λ c. search needs)
     max-line-cells-requires
-    enum-told-8
+    (λ c. search needs)
     root-line-cells-requires
     returns
-    same-length
+    (λ c. search needs)
     returns-2
-    same-length-2
+    (λ c. search needs)
     returns-3
-    same-length-3
+    (λ c. search needs)
     returns-4
-    same-length-4
+    (λ c. search needs)
     returns-5
-    same-length-5
+    (λ c. search needs)
     returns-6
-    same-length-6
+    (λ c. search needs)
     returns-7
-    same-length-7
+    (λ c. search needs)
     returns-8)

@@ -30,44 +30,20 @@ module _ (s : tie.Start) {v : Coded} {w : Word} {n : ℕ} (kind : Kind v w (s .a
       by-word kind (λ u m. RowsTold (s .args .p) u (s .args .numbers .now) m (s .args .table .now) (s .args .at .0) (s .args .places .now) r)
       (s .args .word) is (s .pre .kept .counted) t
 
-enum-told : tie.Need-enum-told
-enum-told c = search needs
-
-enum-told-2 : tie.Need-enum-told-2
-enum-told-2 c = search needs
-
-enum-told-3 : tie.Need-enum-told-3
-enum-told-3 c = search needs
-
 span-line-rows-requires : tie.Need-span-line-rows-requires
 span-line-rows-requires c κs = asked (c .before .before .before .before) span-kind (c .enum-told3 .given .1)
-
-enum-told-4 : tie.Need-enum-told-4
-enum-told-4 c = search needs
 
 sum-line-rows-requires : tie.Need-sum-line-rows-requires
 sum-line-rows-requires c κs = asked (c .before .before .before .before) sum-kind (c .enum-told4 .given .1)
 
-enum-told-5 : tie.Need-enum-told-5
-enum-told-5 c = search needs
-
 relu-line-rows-requires : tie.Need-relu-line-rows-requires
 relu-line-rows-requires c κs = asked (c .before .before .before .before) relu-kind (c .enum-told5 .given .1)
-
-enum-told-6 : tie.Need-enum-told-6
-enum-told-6 c = search needs
 
 which-line-rows-requires : tie.Need-which-line-rows-requires
 which-line-rows-requires c κs = asked (c .before .before .before .before) which-kind (c .enum-told6 .given .1)
 
-enum-told-7 : tie.Need-enum-told-7
-enum-told-7 c = search needs
-
 max-line-rows-requires : tie.Need-max-line-rows-requires
 max-line-rows-requires c κs = asked (c .before .before .before .before) max-kind (c .enum-told7 .given .1)
-
-enum-told-8 : tie.Need-enum-told-8
-enum-told-8 c = search needs
 
 root-line-rows-requires : tie.Need-root-line-rows-requires
 root-line-rows-requires c κs = asked (c .before .before .before .before) root-kind (c .enum-told8 .given .1)
@@ -102,19 +78,19 @@ pub line-rows-spec : {M : Type 1} → statement M
 line-rows-spec =
     tie.close
     (tie.spec
-    enum-told
-    enum-told-2
-    enum-told-3
+    (λ c. search needs)
+    (λ c. search needs)
+    (λ c. search needs)
     span-line-rows-requires
-    enum-told-4
+    (λ c. search needs)
     sum-line-rows-requires
-    enum-told-5
+    (λ c. search needs)
     relu-line-rows-requires
-    enum-told-6
+    (λ c. search needs)
     which-line-rows-requires
-    enum-told-7
+    (λ c. search needs)
     max-line-rows-requires
-    enum-told-8
+    (λ c. search needs)
     root-line-rows-requires
     returns
     returns-2

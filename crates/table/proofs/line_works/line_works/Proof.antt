@@ -26,47 +26,20 @@ module _ (s : tie.Start) {v : Coded} {w : Word} {n : ℕ} (kind : Kind v w (s .a
       by-word kind (λ u m. WorkTold u (s .args .numbers .now) m (s .args .values .now) (s .args .next) r) (s .args .word) is
       (s .pre .kept .counted) t
 
-enum-told : tie.Need-enum-told
-enum-told c = search needs
-
-enum-told-2 : tie.Need-enum-told-2
-enum-told-2 c = search needs
-
-input-line-works-requires : tie.Need-input-line-works-requires
-input-line-works-requires c κs = search needs
-
-enum-told-3 : tie.Need-enum-told-3
-enum-told-3 c = search needs
-
 span-line-works-requires : tie.Need-span-line-works-requires
 span-line-works-requires c κs = asked (c .before .before) span-kind (c .enum-told3 .given .1)
-
-enum-told-4 : tie.Need-enum-told-4
-enum-told-4 c = search needs
 
 sum-line-works-requires : tie.Need-sum-line-works-requires
 sum-line-works-requires c κs = asked (c .before .before) sum-kind (c .enum-told4 .given .1)
 
-enum-told-5 : tie.Need-enum-told-5
-enum-told-5 c = search needs
-
 relu-line-works-requires : tie.Need-relu-line-works-requires
 relu-line-works-requires c κs = asked (c .before .before) relu-kind (c .enum-told5 .given .1)
-
-enum-told-6 : tie.Need-enum-told-6
-enum-told-6 c = search needs
 
 which-line-works-requires : tie.Need-which-line-works-requires
 which-line-works-requires c κs = asked (c .before .before) which-kind (c .enum-told6 .given .1)
 
-enum-told-7 : tie.Need-enum-told-7
-enum-told-7 c = search needs
-
 max-line-works-requires : tie.Need-max-line-works-requires
 max-line-works-requires c κs = asked (c .before .before) max-kind (c .enum-told7 .given .1)
-
-enum-told-8 : tie.Need-enum-told-8
-enum-told-8 c = search needs
 
 root-line-works-requires : tie.Need-root-line-works-requires
 root-line-works-requires c κs = asked (c .before .before) root-kind (c .enum-told8 .given .1)
@@ -102,20 +75,20 @@ pub line-works-spec : {M : Type 1} → statement M
 line-works-spec =
     tie.close
     (tie.spec
-    enum-told
-    enum-told-2
-    input-line-works-requires
-    enum-told-3
+    (λ c. search needs)
+    (λ c. search needs)
+    (λ c κs. search needs)
+    (λ c. search needs)
     span-line-works-requires
-    enum-told-4
+    (λ c. search needs)
     sum-line-works-requires
-    enum-told-5
+    (λ c. search needs)
     relu-line-works-requires
-    enum-told-6
+    (λ c. search needs)
     which-line-works-requires
-    enum-told-7
+    (λ c. search needs)
     max-line-works-requires
-    enum-told-8
+    (λ c. search needs)
     root-line-works-requires
     returns
     returns-2

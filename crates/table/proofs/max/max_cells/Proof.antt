@@ -32,21 +32,6 @@ first-fits s = difference-fits _ (s .args .u) (larger-bounded (s .pre .3) (s .pr
 second-fits : (s : tie.Start) → SFits w64 (larger (s .args .u) (s .args .v) -ℤ s .args .v)
 second-fits s = difference-fits _ (s .args .v) (larger-bounded (s .pre .3) (s .pre .4)) (s .pre .4) tt
 
-max-value-requires : tie.Need-max-value-requires
-max-value-requires c κs = search needs
-
-value-cell-requires : tie.Need-value-cell-requires
-value-cell-requires c κs = search needs
-
-sub-two-groups : tie.Need-sub-two-groups
-sub-two-groups c = search needs
-
-part-two-groups-start : tie.Need-part-two-groups-start
-part-two-groups-start c = search needs
-
-part-two-groups-end : tie.Need-part-two-groups-end
-part-two-groups-end c = search needs
-
 sub-two-groups-2 : tie.Need-sub-two-groups-2
 sub-two-groups-2 c =
     let y = c .before .before .before .before .before in
@@ -70,9 +55,6 @@ two-groups-requires c κs =
       rw (value y, back (s .fits .v), back (second-fits s)) (bounded-more (bounded-difference small (s .pre .4)) (lit≤ tt)),
     )
 
-same-length : tie.Need-same-length
-same-length c = search needs
-
 returns : tie.Need-returns
 unfolding maxCells
 returns c =
@@ -94,13 +76,13 @@ pub max-cells-spec : {M : Type 1} → statement M
 max-cells-spec =
     tie.close
     (tie.spec
-    max-value-requires
-    value-cell-requires
-    sub-two-groups
-    part-two-groups-start
-    part-two-groups-end
+    (λ c κs. search needs)
+    (λ c κs. search needs)
+    (λ c. search needs)
+    (λ c. search needs)
+    (λ c. search needs)
     sub-two-groups-2
     sub-two-groups-3
     two-groups-requires
-    same-length
+    (λ c. search needs)
     returns)

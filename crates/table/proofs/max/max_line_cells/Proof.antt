@@ -51,9 +51,6 @@ max-cells-requires c κs =
       rw (second (base .before)) (named-bounded (a .asked) (two-second (a .asked .kept) word) late),
     )
 
-same-length : tie.Need-same-length
-same-length c = search needs
-
 returns : tie.Need-returns
 returns c known =
     let last = c .before .before in
@@ -71,5 +68,5 @@ max-line-cells-spec =
     base-at-requires
     size-at-requires
     max-cells-requires
-    same-length
+    (λ c. search needs)
     returns)

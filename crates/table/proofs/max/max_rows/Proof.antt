@@ -9,12 +9,6 @@ use Rattle.table.proofs.RowsMax.{max-rows-are, max-answer}
 use Rattle.table.proofs.max.max_rows.Statement.{statement}
 use Rattle.table.proofs.max.max_rows.Tie as tie
 
-residue-at-requires : tie.Need-residue-at-requires
-residue-at-requires c κs = search needs
-
-residue-at-requires-2 : tie.Need-residue-at-requires-2
-residue-at-requires-2 c κs = search needs
-
 -- y, u and v
 y-is : (c : tie.After-residue-at) → let a = c .before .before .args in
     Leaves (a .p) (a .table .now) (c .residue-at .result .0) (cell (a .at .0))
@@ -40,38 +34,8 @@ v-is c =
 difference-requires : tie.Need-difference-requires
 difference-requires c κs = (y-is (c .before) .below, u-is c .below)
 
-residue-at-requires-3 : tie.Need-residue-at-requires-3
-residue-at-requires-3 c κs = search needs
-
 difference-requires-2 : tie.Need-difference-requires-2
 difference-requires-2 c κs = (y-is (c .before .before .before) .below, v-is c .below)
-
-product-requires : tie.Need-product-requires
-product-requires c κs = search needs
-
-add-group-rows : tie.Need-add-group-rows
-add-group-rows c = search needs
-
-group-rows-requires : tie.Need-group-rows-requires
-group-rows-requires c κs = search needs
-
-add-group-rows-2 : tie.Need-add-group-rows-2
-add-group-rows-2 c = search needs
-
-add-t17 : tie.Need-add-t17
-add-t17 c = search needs
-
-add-t18 : tie.Need-add-t18
-add-t18 c = search needs
-
-group-rows-requires-2 : tie.Need-group-rows-requires-2
-group-rows-requires-2 c κs = search needs
-
-rows-before-requires : tie.Need-rows-before-requires
-rows-before-requires c κs = search needs
-
-row-before-requires : tie.Need-row-before-requires
-row-before-requires c κs = search needs
 
 returns : tie.Need-returns
 returns c s u v p-is place-u-is place-v-is cells-is =
@@ -100,18 +64,18 @@ pub max-rows-spec : {M : Type 1} → statement M
 max-rows-spec =
     tie.close
     (tie.spec
-    residue-at-requires
-    residue-at-requires-2
+    (λ c κs. search needs)
+    (λ c κs. search needs)
     difference-requires
-    residue-at-requires-3
+    (λ c κs. search needs)
     difference-requires-2
-    product-requires
-    add-group-rows
-    group-rows-requires
-    add-group-rows-2
-    add-t17
-    add-t18
-    group-rows-requires-2
-    rows-before-requires
-    row-before-requires
+    (λ c κs. search needs)
+    (λ c. search needs)
+    (λ c κs. search needs)
+    (λ c. search needs)
+    (λ c. search needs)
+    (λ c. search needs)
+    (λ c κs. search needs)
+    (λ c κs. search needs)
+    (λ c κs. search needs)
     returns)

@@ -22,9 +22,6 @@ apart-requires c κs = (
 distance : (c : tie.After-apart) → c .apart .result ≡ natAbs (c .before .args .u -ℤ c .before .args .v)
 distance c = rw (back (c .before .fits .u), back (c .before .fits .v)) at (c .apart .ensures)
 
-max-value-requires : tie.Need-max-value-requires
-max-value-requires c κs = search needs
-
 returns : tie.Need-returns
 returns c b k e =
     let s = c .before .before .before in
@@ -42,4 +39,4 @@ returns-2 c b k e =
     false-worked _ _ (false-ltb d (b ^ k) h)
 
 pub max-works-spec : {M : Type 1} → statement M
-max-works-spec = tie.close (tie.spec apart-requires max-value-requires returns returns-2)
+max-works-spec = tie.close (tie.spec apart-requires (λ c κs. search needs) returns returns-2)

@@ -9,12 +9,6 @@ use Rattle.table.proofs.Whole.{cast-fits}
 use Rattle.table.proofs.numbers.size_at.Statement.{statement}
 use Rattle.table.proofs.numbers.size_at.Tie as tie
 
-mul-number : tie.Need-mul-number
-mul-number c = search needs
-
-shared-slice-copy-out-number : tie.Need-shared-slice-copy-out-number
-shared-slice-copy-out-number c = search needs
-
 cast-result : tie.Need-cast-result
 cast-result c =
     let start = c .before in
@@ -22,8 +16,5 @@ cast-result c =
     let fits : SFits w64 z = search needs in
     rw (back fits) (cast-fits z fits (start .pre .1))
 
-returns : tie.Need-returns
-returns c = search needs
-
 pub size-at-spec : {M : Type 1} → statement M
-size-at-spec = tie.close (tie.spec mul-number shared-slice-copy-out-number cast-result returns)
+size-at-spec = tie.close (tie.spec (λ c. search needs) (λ c. search needs) cast-result (λ c. search needs))

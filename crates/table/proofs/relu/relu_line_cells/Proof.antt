@@ -45,9 +45,6 @@ relu-cells-requires c κs =
       rw (value (base .before)) (named-bounded (a .asked) (one-name (a .asked .kept) word) late),
     )
 
-same-length : tie.Need-same-length
-same-length c = search needs
-
 returns : tie.Need-returns
 returns c known =
     let last = c .before .before in
@@ -65,5 +62,5 @@ relu-line-cells-spec =
     size-at-requires
     power-of-requires
     relu-cells-requires
-    same-length
+    (λ c. search needs)
     returns)

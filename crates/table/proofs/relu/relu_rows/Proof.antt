@@ -11,12 +11,6 @@ use Rattle.table.proofs.RowsSign.{sign-number, relu-rows-are}
 use Rattle.table.proofs.relu.relu_rows.Statement.{statement}
 use Rattle.table.proofs.relu.relu_rows.Tie as tie
 
-residue-at-requires : tie.Need-residue-at-requires
-residue-at-requires c κs = search needs
-
-top-part-requires : tie.Need-top-part-requires
-top-part-requires c κs = search needs
-
 -- v
 value-is : (c : tie.After-residue-at) → let a = c .before .before .args in
     Leaves (a .p) (a .table .now) (c .residue-at .result .0) (cell (a .place .0))
@@ -35,27 +29,6 @@ top c =
 
 sum-requires : tie.Need-sum-requires
 sum-requires c κs = (value-is (c .before) .below, top c .below)
-
-add-t13 : tie.Need-add-t13
-add-t13 c = search needs
-
-add-t14 : tie.Need-add-t14
-add-t14 c = search needs
-
-residue-at-requires-2 : tie.Need-residue-at-requires-2
-residue-at-requires-2 c κs = search needs
-
-product-requires : tie.Need-product-requires
-product-requires c κs = search needs
-
-residue-at-requires-3 : tie.Need-residue-at-requires-3
-residue-at-requires-3 c κs = search needs
-
-add-t13-2 : tie.Need-add-t13-2
-add-t13-2 c = search needs
-
-sign-rows-requires : tie.Need-sign-rows-requires
-sign-rows-requires c κs = search needs
 
 returns : tie.Need-returns
 returns c s v p-is place-is cells-is =
@@ -80,14 +53,14 @@ pub relu-rows-spec : {M : Type 1} → statement M
 relu-rows-spec =
     tie.close
     (tie.spec
-    residue-at-requires
-    top-part-requires
+    (λ c κs. search needs)
+    (λ c κs. search needs)
     sum-requires
-    add-t13
-    add-t14
-    residue-at-requires-2
-    product-requires
-    residue-at-requires-3
-    add-t13-2
-    sign-rows-requires
+    (λ c. search needs)
+    (λ c. search needs)
+    (λ c κs. search needs)
+    (λ c κs. search needs)
+    (λ c κs. search needs)
+    (λ c. search needs)
+    (λ c κs. search needs)
     returns)

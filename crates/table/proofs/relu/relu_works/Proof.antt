@@ -10,12 +10,6 @@ use borrow.Author.Needs.{needs}
 use Rattle.table.proofs.relu.relu_works.Statement.{statement}
 use Rattle.table.proofs.relu.relu_works.Tie as tie
 
-sign-works-requires : tie.Need-sign-works-requires
-sign-works-requires c κs = search needs
-
-relu-value-requires : tie.Need-relu-value-requires
-relu-value-requires c κs = search needs
-
 -- what `sign_works` answered
 tested : (c : tie.After-sign-works) (k : ℕ) → 1 ≤ k → c .before .args .c ≡ c .before .args .b ^ k
     → signStatement (c .before .args .b) k (c .before .args .v) ≡ c .sign-works .result
@@ -32,4 +26,4 @@ returns-2 : tie.Need-returns-2
 returns-2 c k h e = false-worked _ _ (tested (c .before) k h e ∙ c .if1 .left)
 
 pub relu-works-spec : {M : Type 1} → statement M
-relu-works-spec = tie.close (tie.spec sign-works-requires relu-value-requires returns returns-2)
+relu-works-spec = tie.close (tie.spec (λ c κs. search needs) (λ c κs. search needs) returns returns-2)

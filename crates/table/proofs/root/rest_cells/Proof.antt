@@ -47,9 +47,6 @@ two-groups-requires c κs =
       rw (back (s .fits .r), back (s .fits .v), back q, back t, back n, back below) (below-bounded (s .pre .3) (s .pre .2)),
     )
 
-same-length : tie.Need-same-length
-same-length c = search needs
-
 returns : tie.Need-returns
 unfolding restCells
 returns c =
@@ -71,5 +68,5 @@ rest-cells-spec =
     add-below
     sub-below
     two-groups-requires
-    same-length
+    (λ c. search needs)
     returns)

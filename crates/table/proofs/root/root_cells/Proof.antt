@@ -21,9 +21,6 @@ use borrow.Author.Needs.{needs}
 use Rattle.table.proofs.root.root_cells.Statement.{statement}
 use Rattle.table.proofs.root.root_cells.Tie as tie
 
-root-value-requires : tie.Need-root-value-requires
-root-value-requires c κs = search needs
-
 -- the root, as it is handed on
 root : (c : tie.After-root-value) → toZ w64 (ofZ w64 (c .root-value .result)) ≡ rootValue (c .before .before .args .v)
 root c =
@@ -36,15 +33,6 @@ square-cells-requires c κs =
     let s = c .before .before .before in
     (s .pre .0, search needs, rw (root (c .before)) (root-bounded (s .pre .3)))
 
-sub-two-groups : tie.Need-sub-two-groups
-sub-two-groups c = search needs
-
-part-two-groups-start : tie.Need-part-two-groups-start
-part-two-groups-start c = search needs
-
-part-two-groups-end : tie.Need-part-two-groups-end
-part-two-groups-end c = search needs
-
 two-groups-requires : tie.Need-two-groups-requires
 two-groups-requires c κs =
     let r = c .before .before .before .before .before in
@@ -55,32 +43,11 @@ two-groups-requires c κs =
       rw (root r) (bounded-more (root-bounded (s .pre .3)) (lit≤ tt)),
     )
 
-mul-at : tie.Need-mul-at
-mul-at c = search needs
-
-add-at : tie.Need-add-at
-add-at c = search needs
-
-mul-rest-cells : tie.Need-mul-rest-cells
-mul-rest-cells c = search needs
-
-sub-rest-cells : tie.Need-sub-rest-cells
-sub-rest-cells c = search needs
-
-part-rest-cells-start : tie.Need-part-rest-cells-start
-part-rest-cells-start c = search needs
-
-part-rest-cells-end : tie.Need-part-rest-cells-end
-part-rest-cells-end c = search needs
-
 rest-cells-requires : tie.Need-rest-cells-requires
 rest-cells-requires c κs =
     let r = c .before .before .before .before .before .before .before .before .before in
     let s = r .before .before in
     (s .pre .1, search needs, rw (back (s .fits .v)) (s .pre .3), rw (root r) (root-bounded (s .pre .3)))
-
-same-length : tie.Need-same-length
-same-length c = search needs
 
 returns : tie.Need-returns
 returns c =
@@ -114,18 +81,18 @@ pub root-cells-spec : {M : Type 1} → statement M
 root-cells-spec =
     tie.close
     (tie.spec
-    root-value-requires
+    (λ c κs. search needs)
     square-cells-requires
-    sub-two-groups
-    part-two-groups-start
-    part-two-groups-end
+    (λ c. search needs)
+    (λ c. search needs)
+    (λ c. search needs)
     two-groups-requires
-    mul-at
-    add-at
-    mul-rest-cells
-    sub-rest-cells
-    part-rest-cells-start
-    part-rest-cells-end
+    (λ c. search needs)
+    (λ c. search needs)
+    (λ c. search needs)
+    (λ c. search needs)
+    (λ c. search needs)
+    (λ c. search needs)
     rest-cells-requires
-    same-length
+    (λ c. search needs)
     returns)

@@ -42,9 +42,6 @@ root-cells-requires c κs =
       rw (value (base .before)) (named-bounded (a .asked) (one-name (a .asked .kept) word) late),
     )
 
-same-length : tie.Need-same-length
-same-length c = search needs
-
 returns : tie.Need-returns
 returns c known =
     let last = c .before .before in
@@ -61,5 +58,5 @@ root-line-cells-spec =
     base-at-requires
     size-at-requires
     root-cells-requires
-    same-length
+    (λ c. search needs)
     returns)

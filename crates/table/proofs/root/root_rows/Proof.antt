@@ -11,21 +11,6 @@ use Rattle.table.proofs.RowsRoot.{root-rows-are, twice}
 use Rattle.table.proofs.root.root_rows.Statement.{statement}
 use Rattle.table.proofs.root.root_rows.Tie as tie
 
-residue-at-requires : tie.Need-residue-at-requires
-residue-at-requires c κs = search needs
-
-residue-at-requires-2 : tie.Need-residue-at-requires-2
-residue-at-requires-2 c κs = search needs
-
-add-t15 : tie.Need-add-t15
-add-t15 c = search needs
-
-residue-at-requires-3 : tie.Need-residue-at-requires-3
-residue-at-requires-3 c κs = search needs
-
-product-requires : tie.Need-product-requires
-product-requires c κs = search needs
-
 -- v, y and q
 value-is : (c : tie.After-residue-at) → let a = c .before .before .args in
     Leaves (a .p) (a .table .now) (c .residue-at .result .0) (cell (a .place .0))
@@ -65,12 +50,6 @@ add-t15-2 c =
     let start = c .before .before .before .before .before .before .before .before .before .before .before in
     omega (arith, start .pre .3)
 
-four-groups-requires : tie.Need-four-groups-requires
-four-groups-requires c κs = search needs
-
-row-before-requires : tie.Need-row-before-requires
-row-before-requires c κs = search needs
-
 returns : tie.Need-returns
 returns c s v p-is place-is cells-is =
     let at-later = c .before .before .before in
@@ -103,16 +82,16 @@ pub root-rows-spec : {M : Type 1} → statement M
 root-rows-spec =
     tie.close
     (tie.spec
-    residue-at-requires
-    residue-at-requires-2
-    add-t15
-    residue-at-requires-3
-    product-requires
+    (λ c κs. search needs)
+    (λ c κs. search needs)
+    (λ c. search needs)
+    (λ c κs. search needs)
+    (λ c κs. search needs)
     difference-requires
     sum-requires
     sum-requires-2
     difference-requires-2
     add-t15-2
-    four-groups-requires
-    row-before-requires
+    (λ c κs. search needs)
+    (λ c κs. search needs)
     returns)

@@ -18,9 +18,6 @@ use Rattle.table.specs.Cells.{formBound, valueBound}
 apart-requires : tie.Need-apart-requires
 apart-requires c κs = (rw (back (c .fits .v)) (bounded-more (c .pre) (lit≤ tt)), pos-bounded 0 formBound (lit≤ tt))
 
-square-root-requires : tie.Need-square-root-requires
-square-root-requires c κs = search needs
-
 -- the size, and its root
 size : (c : tie.After-apart) → c .apart .result ≡ natAbs (c .before .args .v)
 size c = (rw (back (c .before .fits .v)) at (c .apart .ensures)) ∙ natAbs-from-zero (c .before .args .v)
@@ -39,4 +36,4 @@ unfolding rootValue
 returns c = small (c .square-root .result) (omega (arith, root-small c)) ∙ ap pos (root c)
 
 pub root-value-spec : {M : Type 1} → statement M
-root-value-spec = tie.close (tie.spec apart-requires square-root-requires cast-result returns)
+root-value-spec = tie.close (tie.spec apart-requires (λ c κs. search needs) cast-result returns)

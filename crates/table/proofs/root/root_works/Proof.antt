@@ -13,9 +13,6 @@ use borrow.Author.Needs.{needs}
 use Rattle.table.proofs.root.root_works.Statement.{statement}
 use Rattle.table.proofs.root.root_works.Tie as tie
 
-cast-top : tie.Need-cast-top
-cast-top c = search needs
-
 sub-top : tie.Need-sub-top
 sub-top c = one-less-fits (c .args .c) (omega arith)
 
@@ -26,12 +23,6 @@ tested c b k e =
     let s = c .before in
     sym (c .within .ensures ∙ rw (one-less-is (s .args .c) (omega arith), back (s .fits .v))
     (ap (λ n. between (pos 0) (s .args .v) (pos n -ℤ pos 1)) e))
-
-within-requires : tie.Need-within-requires
-within-requires c κs = search needs
-
-root-value-requires : tie.Need-root-value-requires
-root-value-requires c κs = search needs
 
 returns : tie.Need-returns
 returns c b k e =
@@ -45,4 +36,4 @@ returns-2 c b k e = false-worked _ _ (tested (c .before) b k e ∙ c .if1 .left)
 
 pub root-works-spec : {M : Type 1} → statement M
 root-works-spec =
-    tie.close (tie.spec cast-top sub-top within-requires root-value-requires returns returns-2)
+    tie.close (tie.spec (λ c. search needs) sub-top (λ c κs. search needs) (λ c κs. search needs) returns returns-2)

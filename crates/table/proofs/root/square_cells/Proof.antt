@@ -10,28 +10,10 @@ use borrow.Author.Needs.{needs}
 use Rattle.table.proofs.root.square_cells.Statement.{statement}
 use Rattle.table.proofs.root.square_cells.Tie as tie
 
-value-cell-requires : tie.Need-value-cell-requires
-value-cell-requires c κs = search needs
-
-sub-value-cell : tie.Need-sub-value-cell
-sub-value-cell c = search needs
-
-part-value-cell-start : tie.Need-part-value-cell-start
-part-value-cell-start c = search needs
-
-part-value-cell-end : tie.Need-part-value-cell-end
-part-value-cell-end c = search needs
-
 mul-value-cell : tie.Need-mul-value-cell
 mul-value-cell c =
     let s = c .before .before .before .before .before .before in
     rw (back (s .fits .r)) (square-fits (s .pre .2))
-
-value-cell-requires-2 : tie.Need-value-cell-requires-2
-value-cell-requires-2 c κs = search needs
-
-same-length : tie.Need-same-length
-same-length c = search needs
 
 returns : tie.Need-returns
 returns c =
@@ -51,11 +33,11 @@ pub square-cells-spec : {M : Type 1} → statement M
 square-cells-spec =
     tie.close
     (tie.spec
-    value-cell-requires
-    sub-value-cell
-    part-value-cell-start
-    part-value-cell-end
+    (λ c κs. search needs)
+    (λ c. search needs)
+    (λ c. search needs)
+    (λ c. search needs)
     mul-value-cell
-    value-cell-requires-2
-    same-length
+    (λ c κs. search needs)
+    (λ c. search needs)
     returns)

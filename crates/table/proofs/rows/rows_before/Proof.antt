@@ -5,12 +5,6 @@ use Rattle.table.specs.Rows.{rowsSeen, firstOf}
 use Rattle.table.proofs.rows.rows_before.Statement.{statement}
 use Rattle.table.proofs.rows.rows_before.Tie as tie
 
-enum-told : tie.Need-enum-told
-enum-told c = search needs
-
-enum-known-earlier : tie.Need-enum-known-earlier
-enum-known-earlier c = search needs
-
 returns : tie.Need-returns
 unfolding rowsSeen firstOf
 returns c = rw (c .enum-told .given .1) refl
@@ -20,4 +14,4 @@ unfolding rowsSeen firstOf
 returns-2 c = rw (c .before .earlier .given .1) refl
 
 pub rows-before-spec : {M : Type 1} → statement M
-rows-before-spec = tie.close (tie.spec enum-told enum-known-earlier returns returns-2)
+rows-before-spec = tie.close (tie.spec (λ c. search needs) (λ c. search needs) returns returns-2)

@@ -15,15 +15,6 @@ use borrow.Author.Needs.{needs}
 use Rattle.table.proofs.sign.flag_cells.Statement.{statement}
 use Rattle.table.proofs.sign.flag_cells.Tie as tie
 
-cast-t7 : tie.Need-cast-t7
-cast-t7 c = search needs
-
-sub-t8 : tie.Need-sub-t8
-sub-t8 c = search needs
-
-cast-t9 : tie.Need-cast-t9
-cast-t9 c = search needs
-
 sub-t10 : tie.Need-sub-t10
 sub-t10 c =
     let a = c .before .args in
@@ -37,15 +28,6 @@ top c =
     let a = c .before .before .args in
     rw (back (sub-t10 (c .before)), small (a .digit) (omega arith), small (a .b - 1) (omega arith)) at (c .remainder-of .ensures)
 
-remainder-of-requires : tie.Need-remainder-of-requires
-remainder-of-requires c κs = search needs
-
-slice-write-out : tie.Need-slice-write-out
-slice-write-out c = search needs
-
-slice-write-out-2 : tie.Need-slice-write-out-2
-slice-write-out-2 c = search needs
-
 inverse-of-requires : tie.Need-inverse-of-requires
 inverse-of-requires c κs =
     let r = c .before .before in
@@ -53,23 +35,11 @@ inverse-of-requires c κs =
     let below : r .remainder-of .result .0 < s .args .p = rw (top r) (remainder-below (s .args .p) _ (positive (s .pre .0))) in
     (s .pre .0 .prime, pos-of-ne-zero (c .if1 .left), below)
 
-slice-write-out-3 : tie.Need-slice-write-out-3
-slice-write-out-3 c = search needs
-
-slice-write-out-4 : tie.Need-slice-write-out-4
-slice-write-out-4 c = search needs
-
-same-length : tie.Need-same-length
-same-length c = search needs
-
 returns : tie.Need-returns
 returns c =
     let r = c .before .before in
     let s = r .before .before in
     flag-zero (s .args .p) _ (s .args .out .now) (s .pre .2) (sym (top r) ∙ c .if1 .taken)
-
-same-length-2 : tie.Need-same-length-2
-same-length-2 c = search needs
 
 returns-2 : tie.Need-returns-2
 returns-2 c =
@@ -82,17 +52,17 @@ pub flag-cells-spec : {M : Type 1} → statement M
 flag-cells-spec =
     tie.close
     (tie.spec
-    cast-t7
-    sub-t8
-    cast-t9
+    (λ c. search needs)
+    (λ c. search needs)
+    (λ c. search needs)
     sub-t10
-    remainder-of-requires
-    slice-write-out
-    slice-write-out-2
+    (λ c κs. search needs)
+    (λ c. search needs)
+    (λ c. search needs)
     inverse-of-requires
-    slice-write-out-3
-    slice-write-out-4
-    same-length
+    (λ c. search needs)
+    (λ c. search needs)
+    (λ c. search needs)
     returns
-    same-length-2
+    (λ c. search needs)
     returns-2)

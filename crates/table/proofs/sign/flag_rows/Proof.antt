@@ -5,39 +5,6 @@ use Rattle.table.proofs.RowsSign.{flag-answer}
 use Rattle.table.proofs.sign.flag_rows.Statement.{statement}
 use Rattle.table.proofs.sign.flag_rows.Tie as tie
 
-difference-requires : tie.Need-difference-requires
-difference-requires c κs = search needs
-
-product-requires : tie.Need-product-requires
-product-requires c κs = search needs
-
-product-requires-2 : tie.Need-product-requires-2
-product-requires-2 c κs = search needs
-
-product-requires-3 : tie.Need-product-requires-3
-product-requires-3 c κs = search needs
-
-add-row-before : tie.Need-add-row-before
-add-row-before c = search needs
-
-row-before-requires : tie.Need-row-before-requires
-row-before-requires c κs = search needs
-
-add-row-before-2 : tie.Need-add-row-before-2
-add-row-before-2 c = search needs
-
-row-before-requires-2 : tie.Need-row-before-requires-2
-row-before-requires-2 c κs = search needs
-
-add-row-before-3 : tie.Need-add-row-before-3
-add-row-before-3 c = search needs
-
-row-before-requires-3 : tie.Need-row-before-requires-3
-row-before-requires-3 c κs = search needs
-
-row-before-requires-4 : tie.Need-row-before-requires-4
-row-before-requires-4 c κs = search needs
-
 returns : tie.Need-returns
 unfolding rowsSeen
 returns c t T F W x top-is flag-is witness-is last-is =
@@ -57,15 +24,15 @@ pub flag-rows-spec : {M : Type 1} → statement M
 flag-rows-spec =
     tie.close
     (tie.spec
-    difference-requires
-    product-requires
-    product-requires-2
-    product-requires-3
-    add-row-before
-    row-before-requires
-    add-row-before-2
-    row-before-requires-2
-    add-row-before-3
-    row-before-requires-3
-    row-before-requires-4
+    (λ c κs. search needs)
+    (λ c κs. search needs)
+    (λ c κs. search needs)
+    (λ c κs. search needs)
+    (λ c. search needs)
+    (λ c κs. search needs)
+    (λ c. search needs)
+    (λ c κs. search needs)
+    (λ c. search needs)
+    (λ c κs. search needs)
+    (λ c κs. search needs)
     returns)

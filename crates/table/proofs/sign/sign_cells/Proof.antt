@@ -35,9 +35,6 @@ divided-requires c κs = base (c .before)
 sub-shift : tie.Need-sub-shift
 sub-shift c = rw (c .divided .ensures) (div-le-self (c .before .before .args .c) (c .before .before .args .b))
 
-cast-shift : tie.Need-cast-shift
-cast-shift c = search needs
-
 sub-shift-2 : tie.Need-sub-shift-2
 sub-shift-2 c = negation-fits _ (rest-small c)
 
@@ -55,9 +52,6 @@ number c =
     (rw (negation-is _ (rest-small (c .before)), back (s .fits .x), c .before .divided .ensures) at (c .apart .ensures))
     ∙ ap (λ z. natAbs (s .args .x -ℤ z)) (rest-shift _ _ _ (base s) (g .some-digit) (g .power))
 
-group-cells-requires : tie.Need-group-cells-requires
-group-cells-requires c κs = search needs
-
 -- the top digit, as it was written
 top : (c : tie.After-group-cells) → let a = c .before .before .before .before .before .args in
     getD (c .group-cells .last .0) (a .k - 1) 0 ≡ c .before .before .apart .result / a .b ^ (a .k - 1) % a .b
@@ -74,37 +68,13 @@ top-below : (c : tie.After-group-cells) → let a = c .before .before .before .b
     getD (c .group-cells .last .0) (a .k - 1) 0 < a .b
 top-below c = rw (top c) (mod-lt _ (base (c .before .before .before .before .before)))
 
-sub-digit : tie.Need-sub-digit
-sub-digit c = search needs
-
-mul-digit : tie.Need-mul-digit
-mul-digit c = search needs
-
-slice-read-digit : tie.Need-slice-read-digit
-slice-read-digit c = search needs
-
 cast-digit : tie.Need-cast-digit
 cast-digit c = omega (arith, top-below (c .before .before .before))
-
-mul-flag-cells : tie.Need-mul-flag-cells
-mul-flag-cells c = search needs
-
-sub-flag-cells : tie.Need-sub-flag-cells
-sub-flag-cells c = search needs
-
-part-flag-cells-start : tie.Need-part-flag-cells-start
-part-flag-cells-start c = search needs
-
-part-flag-cells-end : tie.Need-part-flag-cells-end
-part-flag-cells-end c = search needs
 
 flag-cells-requires : tie.Need-flag-cells-requires
 flag-cells-requires c κs =
     let at-cells = c .before .before .before .before in
     (at-cells .before .before .before .before .before .pre .0, top-below at-cells, search needs)
-
-same-length : tie.Need-same-length
-same-length c = search needs
 
 returns : tie.Need-returns
 returns c =
@@ -128,18 +98,18 @@ sign-cells-spec =
     (tie.spec
     divided-requires
     sub-shift
-    cast-shift
+    (λ c. search needs)
     sub-shift-2
     apart-requires
-    group-cells-requires
-    sub-digit
-    mul-digit
-    slice-read-digit
+    (λ c κs. search needs)
+    (λ c. search needs)
+    (λ c. search needs)
+    (λ c. search needs)
     cast-digit
-    mul-flag-cells
-    sub-flag-cells
-    part-flag-cells-start
-    part-flag-cells-end
+    (λ c. search needs)
+    (λ c. search needs)
+    (λ c. search needs)
+    (λ c. search needs)
     flag-cells-requires
-    same-length
+    (λ c. search needs)
     returns)

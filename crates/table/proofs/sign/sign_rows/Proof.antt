@@ -11,18 +11,6 @@ use Rattle.table.proofs.RowsSign.{greatest-digit-below, sign-answer}
 use Rattle.table.proofs.sign.sign_rows.Statement.{statement}
 use Rattle.table.proofs.sign.sign_rows.Tie as tie
 
-sub-t13 : tie.Need-sub-t13
-sub-t13 c = search needs
-
-add-t14 : tie.Need-add-t14
-add-t14 c = search needs
-
-residue-at-requires : tie.Need-residue-at-requires
-residue-at-requires c κs = search needs
-
-sub-t16 : tie.Need-sub-t16
-sub-t16 c = search needs
-
 -- the top digit
 digit-is : (c : tie.After-residue-at) → let a = c .before .before .before .args in
     Leaves (a .p) (a .table .now) (c .residue-at .result .0) (cell (a .at .0 + (a .k - 1)))
@@ -38,24 +26,6 @@ full-below c = let start = c .before .before .before in omega (arith, greatest-d
 difference-requires : tie.Need-difference-requires
 difference-requires c κs = (digit-is c .below, full-below c)
 
-add-t13 : tie.Need-add-t13
-add-t13 c = search needs
-
-residue-at-requires-2 : tie.Need-residue-at-requires-2
-residue-at-requires-2 c κs = search needs
-
-add-t14-2 : tie.Need-add-t14-2
-add-t14-2 c = search needs
-
-add-t13-2 : tie.Need-add-t13-2
-add-t13-2 c = search needs
-
-residue-at-requires-3 : tie.Need-residue-at-requires-3
-residue-at-requires-3 c κs = search needs
-
-add-flag-rows : tie.Need-add-flag-rows
-add-flag-rows c = search needs
-
 -- f
 flag-is : (c : tie.After-residue-at2) → let a = c .before .before .before .before .before .before .args in
     Leaves (a .p) (a .table .now) (c .residue-at2 .result .0) (cell (a .at .0 + a .k))
@@ -69,12 +39,6 @@ flag-rows-requires c κs =
     let at-flag = c .before .before in
     let start = at-flag .before .before .before .before .before .before in
     (start .pre .0, flag-is at-flag .below, omega arith)
-
-group-rows-requires : tie.Need-group-rows-requires
-group-rows-requires c κs = search needs
-
-rows-before-requires : tie.Need-rows-before-requires
-rows-before-requires c κs = search needs
 
 returns : tie.Need-returns
 returns c form row number-is last-is =
@@ -100,18 +64,18 @@ pub sign-rows-spec : {M : Type 1} → statement M
 sign-rows-spec =
     tie.close
     (tie.spec
-    sub-t13
-    add-t14
-    residue-at-requires
-    sub-t16
+    (λ c. search needs)
+    (λ c. search needs)
+    (λ c κs. search needs)
+    (λ c. search needs)
     difference-requires
-    add-t13
-    residue-at-requires-2
-    add-t14-2
-    add-t13-2
-    residue-at-requires-3
-    add-flag-rows
+    (λ c. search needs)
+    (λ c κs. search needs)
+    (λ c. search needs)
+    (λ c. search needs)
+    (λ c κs. search needs)
+    (λ c. search needs)
     flag-rows-requires
-    group-rows-requires
-    rows-before-requires
+    (λ c κs. search needs)
+    (λ c κs. search needs)
     returns)

@@ -13,17 +13,11 @@ use borrow.Author.Needs.{needs}
 use Rattle.table.proofs.sign.sign_works.Statement.{statement}
 use Rattle.table.proofs.sign.sign_works.Tie as tie
 
-divided-requires : tie.Need-divided-requires
-divided-requires c κs = search needs
-
 part-most : (c : tie.After-divided) → c .divided .result ≤ c .before .args .c
 part-most c = rw (c .divided .ensures) (div-le-self (c .before .args .c) (c .before .args .b))
 
 sub-low : tie.Need-sub-low
 sub-low c = part-most c
-
-cast-low : tie.Need-cast-low
-cast-low c = search needs
 
 sub-low-2 : tie.Need-sub-low-2
 sub-low-2 c = negation-fits (c .before .args .c - c .divided .result) (omega arith)
@@ -33,9 +27,6 @@ cast-high c = record { sfits = omega (arith, part-most c) }
 
 sub-high : tie.Need-sub-high
 sub-high c = one-less-fits (c .divided .result) (omega (arith, part-most c))
-
-within-requires : tie.Need-within-requires
-within-requires c κs = search needs
 
 returns : tie.Need-returns
 unfolding signStatement
@@ -52,4 +43,4 @@ returns c k h e =
 pub sign-works-spec : {M : Type 1} → statement M
 sign-works-spec =
     tie.close
-    (tie.spec divided-requires sub-low cast-low sub-low-2 cast-high sub-high within-requires returns)
+    (tie.spec (λ c κs. search needs) sub-low (λ c. search needs) sub-low-2 cast-high sub-high (λ c κs. search needs) returns)

@@ -10,21 +10,12 @@ use Rattle.table.proofs.RowsSign.{top-below}
 use Rattle.table.proofs.sign.top_part.Statement.{statement}
 use Rattle.table.proofs.sign.top_part.Tie as tie
 
-sub-power-of : tie.Need-sub-power-of
-sub-power-of c = search needs
-
 power-of-requires : tie.Need-power-of-requires
 power-of-requires c κs =
     let a = c .args in
     let h : 0 < a .b = omega (arith, c .pre .base) in
     let l : a .b ^ (a .k - 1) ≤ a .b ^ a .k = pow-le-pow-right h (omega arith) in
     (omega (arith, c .pre .few), omega (arith, c .pre .small))
-
-sub-top : tie.Need-sub-top
-sub-top c = search needs
-
-cast-top : tie.Need-cast-top
-cast-top c = search needs
 
 -- B, and that it is below b^k
 is : (c : tie.After-power-of) → (c .before .args .b - 1) * c .power-of .result ≡ topPart (c .before .args .b) (c .before .args .k)
@@ -44,4 +35,4 @@ returns : tie.Need-returns
 returns c p h = is c ∙ sym (remainder-of-residue p _ (omega (arith, below c)))
 
 pub top-part-spec : {M : Type 1} → statement M
-top-part-spec = tie.close (tie.spec sub-power-of power-of-requires sub-top cast-top mul-top cast-t6 returns)
+top-part-spec = tie.close (tie.spec (λ c. search needs) power-of-requires (λ c. search needs) (λ c. search needs) mul-top cast-t6 returns)

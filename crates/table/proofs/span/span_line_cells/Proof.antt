@@ -26,9 +26,6 @@ base-at-requires c κs = let s = c .before .before in base-asked (s .pre .2 .ask
 size-at-requires : tie.Need-size-at-requires
 size-at-requires c κs = let s = c .before .before .before in count-asked (s .pre .2 .asked .kept) 1 (span-word (s .args .numbers .now) .has-digits)
 
-shared-slice-copy-out-shift : tie.Need-shared-slice-copy-out-shift
-shared-slice-copy-out-shift c = search needs
-
 value : (c : tie.After-value-named)
     → let s = c .before .before .args in
     toZ w64 (ofZ w64 (c .value-named .result)) ≡ named (s .numbers .now) 0 (s .values .now)
@@ -54,9 +51,6 @@ form-cells-requires c κs =
       rw (shift (c .before)) (bounded-more (span-shift (a .asked .kept)) (lit≤ tt)),
     )
 
-same-length : tie.Need-same-length
-same-length c = search needs
-
 returns : tie.Need-returns
 returns c p known =
     let last = c .before .before in
@@ -72,7 +66,7 @@ span-line-cells-spec =
     value-named-requires
     base-at-requires
     size-at-requires
-    shared-slice-copy-out-shift
+    (λ c. search needs)
     form-cells-requires
-    same-length
+    (λ c. search needs)
     returns)

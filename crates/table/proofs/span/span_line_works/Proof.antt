@@ -36,9 +36,6 @@ group c =
     group-read (s .pre .kept) 1 (span-word (s .args .numbers .now) .has-digits) (c .before .before .base-at .ensures) (c .before .size-at .ensures)
     (c .power-of .ensures)
 
-shared-slice-copy-out-shift : tie.Need-shared-slice-copy-out-shift
-shared-slice-copy-out-shift c = search needs
-
 value : (c : tie.After-value-named)
     → let s = c .before .args in
     toZ w64 (ofZ w64 (c .value-named .result)) ≡ named (s .numbers .now) 0 (s .values .now)
@@ -86,7 +83,7 @@ span-line-works-spec =
     base-at-requires
     size-at-requires
     power-of-requires
-    shared-slice-copy-out-shift
+    (λ c. search needs)
     span-works-requires
     returns
     returns-2)

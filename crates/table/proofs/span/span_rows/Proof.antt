@@ -8,12 +8,6 @@ use Rattle.table.proofs.RowsForm.{leaves-read, leaves-whole, leaves-⊖
 use Rattle.table.proofs.span.span_rows.Statement.{statement}
 use Rattle.table.proofs.span.span_rows.Tie as tie
 
-remainder-of-requires : tie.Need-remainder-of-requires
-remainder-of-requires c κs = search needs
-
-residue-at-requires : tie.Need-residue-at-requires
-residue-at-requires c κs = search needs
-
 -- the shift, from the bits that hold it, and the value
 lowest-is : (c : tie.After-remainder-of) → let a = c .before .before .args in
     Leaves (a .p) (a .table .now) (c .remainder-of .result .0) (constant (a .shift))
@@ -32,9 +26,6 @@ value-is c =
 difference-requires : tie.Need-difference-requires
 difference-requires c κs = (value-is c .below, lowest-is (c .before) .below)
 
-group-rows-requires : tie.Need-group-rows-requires
-group-rows-requires c κs = search needs
-
 returns : tie.Need-returns
 unfolding spanLine
 returns c s v p-is place-is cells-is =
@@ -50,8 +41,8 @@ pub span-rows-spec : {M : Type 1} → statement M
 span-rows-spec =
     tie.close
     (tie.spec
-    remainder-of-requires
-    residue-at-requires
+    (λ c κs. search needs)
+    (λ c κs. search needs)
     difference-requires
-    group-rows-requires
+    (λ c κs. search needs)
     returns)

@@ -13,20 +13,11 @@ use Rattle.table.proofs.span.span_works.Statement.{statement}
 use Rattle.table.proofs.span.span_works.Tie as tie
 use Rattle.table.specs.Cells.{powerBound}
 
-sub-top : tie.Need-sub-top
-sub-top c = search needs
-
-cast-top : tie.Need-cast-top
-cast-top c = search needs
-
 add-top : tie.Need-add-top
 add-top c =
     let n = c .args .c - 1 in
     rw (back (c .fits .shift), small n (omega arith))
     (sum-fits (c .args .shift) (pos n) (c .pre .2) (pos-bounded n powerBound (omega arith)) tt)
-
-within-requires : tie.Need-within-requires
-within-requires c κs = search needs
 
 returns : tie.Need-returns
 unfolding spanTop
@@ -38,4 +29,4 @@ returns c b k e =
     (ap (λ m. between (s .args .shift) (s .args .v) (s .args .shift +ℤ pos (m - 1))) e)
 
 pub span-works-spec : {M : Type 1} → statement M
-span-works-spec = tie.close (tie.spec sub-top cast-top add-top within-requires returns)
+span-works-spec = tie.close (tie.spec (λ c. search needs) (λ c. search needs) add-top (λ c κs. search needs) returns)

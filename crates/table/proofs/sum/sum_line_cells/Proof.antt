@@ -22,9 +22,6 @@ value-cell-requires : tie.Need-value-cell-requires
 unfolding isField
 value-cell-requires c κs = let a = c .before .before .before .pre .2 in (positive (prime-asked a refl), own-room sum-cell a)
 
-same-length : tie.Need-same-length
-same-length c = search needs
-
 returns : tie.Need-returns
 unfolding isField
 returns c numbers count =
@@ -40,5 +37,5 @@ sum-line-cells-spec =
     mul-value-cell
     shared-slice-copy-out-value-cell
     value-cell-requires
-    same-length
+    (λ c. search needs)
     returns)

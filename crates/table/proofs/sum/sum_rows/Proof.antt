@@ -23,12 +23,6 @@ Inv-loop table p at numbers count places total₀ i₀ total i =
 abbrev μ-loop : tie.MeasureT-loop
 μ-loop table p at numbers count places total₀ i₀ total i = count - i
 
-shared-slice-copy-out-t15 : tie.Need-shared-slice-copy-out-t15 Inv-loop μ-loop
-shared-slice-copy-out-t15 c = search needs
-
-remainder-of-requires : tie.Need-remainder-of-requires Inv-loop μ-loop
-remainder-of-requires c κs = search needs
-
 loop-holds : tie.Need-loop-holds Inv-loop μ-loop
 loop-holds c =
     let start = c .before .before .before .before in
@@ -41,18 +35,6 @@ loop-holds c =
       rw e (remainder-below (a .p) c0 (start .pre .0)),
       sum-start (a .p) (a .table .now) (a .numbers .now) (a .count) (a .places .now) _ (start .pre .0) (omega arith) e,
     )
-
-mul-t18 : tie.Need-mul-t18 Inv-loop μ-loop
-mul-t18 c = search needs
-
-shared-slice-copy-out-t20 : tie.Need-shared-slice-copy-out-t20 Inv-loop μ-loop
-shared-slice-copy-out-t20 c = search needs
-
-remainder-of-requires-2 : tie.Need-remainder-of-requires-2 Inv-loop μ-loop
-remainder-of-requires-2 c κs = search needs
-
-add-place-at : tie.Need-add-place-at Inv-loop μ-loop
-add-place-at c = search needs
 
 -- a pair is left: the bits of its coefficient, and the value that it names
 more : (c : tie.After-t20 Inv-loop μ-loop) → c .before .before .loop .i + 1 < c .before .before .before .before .before .before .before .args .count
@@ -90,17 +72,8 @@ inside c = rw (c .place-at .ensures) (names (c .before .before) .inside)
 residue-at-requires : tie.Need-residue-at-requires Inv-loop μ-loop
 residue-at-requires c κs = inside c
 
-product-requires : tie.Need-product-requires Inv-loop μ-loop
-product-requires c κs = search needs
-
 sum-requires : tie.Need-sum-requires Inv-loop μ-loop
 sum-requires c κs = (c .before .before .before .before .before .before .loop .inv .2, c .product .ensures .0)
-
-add-i : tie.Need-add-i Inv-loop μ-loop
-add-i c = search needs
-
-loop-less : tie.Need-loop-less Inv-loop μ-loop
-loop-less c = search needs
 
 loop-again : tie.Need-loop-again Inv-loop μ-loop
 loop-again c =
@@ -126,12 +99,6 @@ loop-again c =
           (at-part .product .ensures) (c .sum .ensures),
     )
 
-residue-at-requires-2 : tie.Need-residue-at-requires-2 Inv-loop μ-loop
-residue-at-requires-2 c κs = search needs
-
-row-before-requires : tie.Need-row-before-requires Inv-loop μ-loop
-row-before-requires c κs = search needs
-
 returns : tie.Need-returns Inv-loop μ-loop
 unfolding rowsSeen
 returns c s n p-is cells-is known named =
@@ -151,20 +118,20 @@ sum-rows-spec =
     (tie.spec
     Inv-loop
     μ-loop
-    shared-slice-copy-out-t15
-    remainder-of-requires
+    (λ c. search needs)
+    (λ c κs. search needs)
     loop-holds
-    mul-t18
-    shared-slice-copy-out-t20
-    remainder-of-requires-2
-    add-place-at
+    (λ c. search needs)
+    (λ c. search needs)
+    (λ c κs. search needs)
+    (λ c. search needs)
     place-at-requires
     residue-at-requires
-    product-requires
+    (λ c κs. search needs)
     sum-requires
-    add-i
-    loop-less
+    (λ c. search needs)
+    (λ c. search needs)
     loop-again
-    residue-at-requires-2
-    row-before-requires
+    (λ c κs. search needs)
+    (λ c κs. search needs)
     returns)

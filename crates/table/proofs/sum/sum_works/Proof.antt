@@ -22,20 +22,11 @@ Inv-loop numbers count values total₀ i₀ total i =
 abbrev μ-loop : tie.MeasureT-loop
 μ-loop numbers count values total₀ i₀ total i = count - i
 
-shared-slice-copy-out-total : tie.Need-shared-slice-copy-out-total Inv-loop μ-loop
-shared-slice-copy-out-total c = search needs
-
 loop-holds : tie.Need-loop-holds Inv-loop μ-loop
 loop-holds c =
     let s = c .before in
     let f : SFits w64 (getD (s .args .numbers .now) 0 (pos 0)) = search needs in
     λ n asked. rw (back f) (summing-start _ _ _ n asked)
-
-sub-loop : tie.Need-sub-loop Inv-loop μ-loop
-sub-loop c = search needs
-
-add-value-named : tie.Need-add-value-named Inv-loop μ-loop
-add-value-named c = search needs
 
 -- a turn
 turn : (c : tie.In-loop Inv-loop μ-loop)
@@ -49,12 +40,6 @@ value-named-requires c κs =
     let s = c .before .before .before in
     let t = turn c (s .pre .0) (s .pre .1) in
     (omega (arith, c .loop-test .taken, s .pre .1 .all-numbers), t .size, omega (arith, t .made, s .pre .1 .all-values))
-
-mul-total : tie.Need-mul-total Inv-loop μ-loop
-mul-total c = search needs
-
-shared-slice-copy-out-total-2 : tie.Need-shared-slice-copy-out-total-2 Inv-loop μ-loop
-shared-slice-copy-out-total-2 c = search needs
 
 -- the product, as the machine reads its factors
 product-fits : (c : tie.After-total2 Inv-loop μ-loop)
@@ -86,12 +71,6 @@ add-total c =
     let t = turn (c .before .before) (s .pre .0) (s .pre .1) in
     rw (product c, back (product-fits c)) (bounded-fits valueBound (t .total) tt)
 
-add-i : tie.Need-add-i Inv-loop μ-loop
-add-i c = search needs
-
-loop-less : tie.Need-loop-less Inv-loop μ-loop
-loop-less c = search needs
-
 loop-again : tie.Need-loop-again Inv-loop μ-loop
 loop-again c n asked =
     let t = turn (c .before .before) n asked in
@@ -106,16 +85,16 @@ sum-works-spec =
     (tie.spec
     Inv-loop
     μ-loop
-    shared-slice-copy-out-total
+    (λ c. search needs)
     loop-holds
-    sub-loop
-    add-value-named
+    (λ c. search needs)
+    (λ c. search needs)
     value-named-requires
-    mul-total
-    shared-slice-copy-out-total-2
+    (λ c. search needs)
+    (λ c. search needs)
     mul-total-2
     add-total
-    add-i
-    loop-less
+    (λ c. search needs)
+    (λ c. search needs)
     loop-again
     returns)

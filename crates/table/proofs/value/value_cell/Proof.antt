@@ -10,15 +10,6 @@ use borrow.Author.Needs.{needs}
 use Rattle.table.proofs.value.value_cell.Statement.{statement}
 use Rattle.table.proofs.value.value_cell.Tie as tie
 
-remainder-of-requires : tie.Need-remainder-of-requires
-remainder-of-requires c κs = search needs
-
-slice-write-out : tie.Need-slice-write-out
-slice-write-out c = search needs
-
-same-length : tie.Need-same-length
-same-length c = search needs
-
 returns : tie.Need-returns
 returns c =
     let s = c .before .before in
@@ -26,4 +17,4 @@ returns c =
     set-split (s .args .out .now) 0 (c .remainder-of .result .0) (s .pre .1) ∙ ap (λ n. n ∷ drop 1 (s .args .out .now)) e
 
 pub value-cell-spec : {M : Type 1} → statement M
-value-cell-spec = tie.close (tie.spec remainder-of-requires slice-write-out same-length returns)
+value-cell-spec = tie.close (tie.spec (λ c κs. search needs) (λ c. search needs) (λ c. search needs) returns)

@@ -10,15 +10,6 @@ use borrow.Author.Needs.{needs}
 use Rattle.table.proofs.value.value_named.Statement.{statement}
 use Rattle.table.proofs.value.value_named.Tie as tie
 
-size-at-requires : tie.Need-size-at-requires
-size-at-requires c κs = search needs
-
-mul-result : tie.Need-mul-result
-mul-result c = search needs
-
-shared-slice-copy-out-result : tie.Need-shared-slice-copy-out-result
-shared-slice-copy-out-result c = search needs
-
 returns : tie.Need-returns
 returns c =
     let values = c .before .before .args .values .now in
@@ -27,4 +18,4 @@ returns c =
 
 pub value-named-spec : {M : Type 1} → statement M
 value-named-spec =
-    tie.close (tie.spec size-at-requires mul-result shared-slice-copy-out-result returns)
+    tie.close (tie.spec (λ c κs. search needs) (λ c. search needs) (λ c. search needs) returns)

@@ -19,21 +19,6 @@ use Rattle.table.proofs.which.which_cells.Tie as tie
 apart-fits : (s : tie.Start) → SFits w64 (s .args .u -ℤ s .args .v)
 apart-fits s = difference-fits (s .args .u) (s .args .v) (s .pre .3) (s .pre .4) tt
 
-which-value-requires : tie.Need-which-value-requires
-which-value-requires c κs = search needs
-
-value-cell-requires : tie.Need-value-cell-requires
-value-cell-requires c κs = search needs
-
-sub-sign-cells : tie.Need-sub-sign-cells
-sub-sign-cells c = search needs
-
-part-sign-cells-start : tie.Need-part-sign-cells-start
-part-sign-cells-start c = search needs
-
-part-sign-cells-end : tie.Need-part-sign-cells-end
-part-sign-cells-end c = search needs
-
 sub-sign-cells-2 : tie.Need-sub-sign-cells-2
 sub-sign-cells-2 c =
     let s = c .before .before .before .before .before .before .before in
@@ -44,9 +29,6 @@ sign-cells-requires c κs =
     let s = c .before .before .before .before .before .before .before in
     let small = bounded-difference (s .pre .3) (s .pre .4) in
     (s .pre .0, s .pre .1, search needs, rw (back (s .fits .u), back (s .fits .v), back (apart-fits s)) small)
-
-same-length : tie.Need-same-length
-same-length c = search needs
 
 returns : tie.Need-returns
 returns c =
@@ -70,12 +52,12 @@ pub which-cells-spec : {M : Type 1} → statement M
 which-cells-spec =
     tie.close
     (tie.spec
-    which-value-requires
-    value-cell-requires
-    sub-sign-cells
-    part-sign-cells-start
-    part-sign-cells-end
+    (λ c κs. search needs)
+    (λ c κs. search needs)
+    (λ c. search needs)
+    (λ c. search needs)
+    (λ c. search needs)
     sub-sign-cells-2
     sign-cells-requires
-    same-length
+    (λ c. search needs)
     returns)

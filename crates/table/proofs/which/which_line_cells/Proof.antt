@@ -54,9 +54,6 @@ which-cells-requires c κs =
       rw (second (base .before)) (named-bounded (a .asked) (two-second (a .asked .kept) word) late),
     )
 
-same-length : tie.Need-same-length
-same-length c = search needs
-
 returns : tie.Need-returns
 returns c known =
     let last = c .before .before in
@@ -75,5 +72,5 @@ which-line-cells-spec =
     size-at-requires
     power-of-requires
     which-cells-requires
-    same-length
+    (λ c. search needs)
     returns)

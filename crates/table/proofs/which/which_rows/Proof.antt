@@ -11,12 +11,6 @@ use Rattle.table.proofs.RowsSign.{sign-number, which-rows-are}
 use Rattle.table.proofs.which.which_rows.Statement.{statement}
 use Rattle.table.proofs.which.which_rows.Tie as tie
 
-residue-at-requires : tie.Need-residue-at-requires
-residue-at-requires c κs = search needs
-
-residue-at-requires-2 : tie.Need-residue-at-requires-2
-residue-at-requires-2 c κs = search needs
-
 -- u and v
 u-is : (c : tie.After-residue-at) → let a = c .before .before .args in
     Leaves (a .p) (a .table .now) (c .residue-at .result .0) (cell (a .place-u .0))
@@ -35,9 +29,6 @@ v-is c =
 difference-requires : tie.Need-difference-requires
 difference-requires c κs = (u-is (c .before) .below, v-is c .below)
 
-top-part-requires : tie.Need-top-part-requires
-top-part-requires c κs = search needs
-
 -- B
 top : (c : tie.After-top-part) → let a = c .before .before .before .before .before .args in
     Leaves (a .p) (a .table .now) (c .top-part .result .0) (constant (pos (topPart (a .b) (a .k))))
@@ -48,15 +39,6 @@ top c =
 
 sum-requires : tie.Need-sum-requires
 sum-requires c κs = (c .before .difference .ensures .0, top c .below)
-
-add-t15 : tie.Need-add-t15
-add-t15 c = search needs
-
-add-t16 : tie.Need-add-t16
-add-t16 c = search needs
-
-residue-at-requires-3 : tie.Need-residue-at-requires-3
-residue-at-requires-3 c κs = search needs
 
 -- f
 flag-is : (c : tie.After-residue-at3) → let a = c .before .before .before .before .before .before .before .before .args in
@@ -69,16 +51,10 @@ flag-is c =
 difference-requires-2 : tie.Need-difference-requires-2
 difference-requires-2 c κs = (c .before .before .before .before .before .before .before .before .pre .0, flag-is c .below)
 
-residue-at-requires-4 : tie.Need-residue-at-requires-4
-residue-at-requires-4 c κs = search needs
-
 add-t15-2 : tie.Need-add-t15-2
 add-t15-2 c =
     let start = c .before .before .before .before .before .before .before .before .before .before .before .before .before in
     omega (arith, start .pre .4)
-
-sign-rows-requires : tie.Need-sign-rows-requires
-sign-rows-requires c κs = search needs
 
 returns : tie.Need-returns
 returns c s u v p-is place-u-is place-v-is cells-is =
@@ -103,16 +79,16 @@ pub which-rows-spec : {M : Type 1} → statement M
 which-rows-spec =
     tie.close
     (tie.spec
-    residue-at-requires
-    residue-at-requires-2
+    (λ c κs. search needs)
+    (λ c κs. search needs)
     difference-requires
-    top-part-requires
+    (λ c κs. search needs)
     sum-requires
-    add-t15
-    add-t16
-    residue-at-requires-3
+    (λ c. search needs)
+    (λ c. search needs)
+    (λ c κs. search needs)
     difference-requires-2
-    residue-at-requires-4
+    (λ c κs. search needs)
     add-t15-2
-    sign-rows-requires
+    (λ c κs. search needs)
     returns)

@@ -22,12 +22,6 @@ tested c k h e =
     let s = c .before in
     sym (rw (back (sub-sign-works s), back (s .fits .u), back (s .fits .v)) at (c .sign-works .ensures k h e))
 
-sign-works-requires : tie.Need-sign-works-requires
-sign-works-requires c κs = search needs
-
-which-value-requires : tie.Need-which-value-requires
-which-value-requires c κs = search needs
-
 returns : tie.Need-returns
 returns c k h e =
     let s = c .before .before .before in
@@ -40,4 +34,4 @@ returns-2 c k h e = false-worked _ _ (tested (c .before) k h e ∙ c .if1 .left)
 
 pub which-works-spec : {M : Type 1} → statement M
 which-works-spec =
-    tie.close (tie.spec sub-sign-works sign-works-requires which-value-requires returns returns-2)
+    tie.close (tie.spec sub-sign-works (λ c κs. search needs) (λ c κs. search needs) returns returns-2)

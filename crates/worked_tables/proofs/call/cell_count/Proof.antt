@@ -13,18 +13,6 @@ use Rattle.worked_tables.proofs.call.cell_count.Tie as tie
 counted : (n : ℕ) (xs : List ℕ) → n ≤ length xs → Counts n xs
 counted n xs h = (h, sym (length-take-le n xs h))
 
-read-requires : tie.Need-read-requires
-read-requires c κs = search needs
-
-enum-known-answer : tie.Need-enum-known-answer
-enum-known-answer c = search needs
-
-enum-told : tie.Need-enum-told
-enum-told c = search needs
-
-returns : tie.Need-returns
-returns c = search needs
-
 returns-2 : tie.Need-returns-2
 returns-2 c = counted _ _ (omega (arith, c .if1 .taken))
 
@@ -33,4 +21,4 @@ returns-3 c = counted _ _ (omega arith)
 
 pub cell-count-spec : {M : Type 1} → statement M
 cell-count-spec =
-    tie.close (tie.spec read-requires enum-known-answer enum-told returns returns-2 returns-3)
+    tie.close (tie.spec (λ c κs. search needs) (λ c. search needs) (λ c. search needs) (λ c. search needs) returns-2 returns-3)

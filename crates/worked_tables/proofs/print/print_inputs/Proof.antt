@@ -11,41 +11,17 @@ Inv-loop inputs i₀ i = Unit {0}
 abbrev μ-loop : tie.MeasureT-loop
 μ-loop inputs i₀ i = length inputs - i
 
-loop-holds : tie.Need-loop-holds Inv-loop μ-loop
-loop-holds c = search needs
-
-mul-print-whole : tie.Need-mul-print-whole Inv-loop μ-loop
-mul-print-whole c = search needs
-
-shared-slice-copy-out-print-whole : tie.Need-shared-slice-copy-out-print-whole Inv-loop μ-loop
-shared-slice-copy-out-print-whole c = search needs
-
-print-whole-requires : tie.Need-print-whole-requires Inv-loop μ-loop
-print-whole-requires c κs = search needs
-
-add-i : tie.Need-add-i Inv-loop μ-loop
-add-i c = search needs
-
-loop-less : tie.Need-loop-less Inv-loop μ-loop
-loop-less c = search needs
-
-loop-again : tie.Need-loop-again Inv-loop μ-loop
-loop-again c = search needs
-
-returns : tie.Need-returns Inv-loop μ-loop
-returns c = search needs
-
 pub print-inputs-spec : {M : Type 1} → statement M
 print-inputs-spec =
     tie.close
     (tie.spec
     Inv-loop
     μ-loop
-    loop-holds
-    mul-print-whole
-    shared-slice-copy-out-print-whole
-    print-whole-requires
-    add-i
-    loop-less
-    loop-again
-    returns)
+    (λ c. search needs)
+    (λ c. search needs)
+    (λ c. search needs)
+    (λ c κs. search needs)
+    (λ c. search needs)
+    (λ c. search needs)
+    (λ c. search needs)
+    (λ c. search needs))

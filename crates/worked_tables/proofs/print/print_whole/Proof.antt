@@ -12,42 +12,21 @@ use Rattle.worked_tables.proofs.print.print_whole.Tie as tie
 fits : (c : tie.Start) → SFits w64 (c .args .n)
 fits c = search needs
 
-magnitude-requires : tie.Need-magnitude-requires
-magnitude-requires c κs = search needs
-
-slice-aggregate-print : tie.Need-slice-aggregate-print
-slice-aggregate-print c = search needs
-
-print-requires : tie.Need-print-requires
-print-requires c κs = search needs
-
 add-print-decimal : tie.Need-add-print-decimal
 add-print-decimal c =
     let s = c .before .before .before in
     let told : s .magnitude .result ≡ mag (s .before .args .n) = s .magnitude .ensures ∙ ap mag (back (fits (s .before))) in
     record { fits = omega (arith, told, fits (s .before) .sfits) }
 
-print-decimal-requires : tie.Need-print-decimal-requires
-print-decimal-requires c κs = search needs
-
-print-count-requires : tie.Need-print-count-requires
-print-count-requires c κs = search needs
-
-returns : tie.Need-returns
-returns c = search needs
-
-returns-2 : tie.Need-returns-2
-returns-2 c = search needs
-
 pub print-whole-spec : {M : Type 1} → statement M
 print-whole-spec =
     tie.close
     (tie.spec
-    magnitude-requires
-    slice-aggregate-print
-    print-requires
+    (λ c κs. search needs)
+    (λ c. search needs)
+    (λ c κs. search needs)
     add-print-decimal
-    print-decimal-requires
-    print-count-requires
-    returns
-    returns-2)
+    (λ c κs. search needs)
+    (λ c κs. search needs)
+    (λ c. search needs)
+    (λ c. search needs))
