@@ -12,10 +12,11 @@ use lib.IntN.{ℤ}
 use lib.ListN.{length, getD, take, drop, length-drop, List·getD-eq-default}
 use lib.Seq.{getD-take, getD-drop, length-take-le}
 use borrow.Author.Tests.{eqb-true}
-use Rattle.meaning.specs.Line.{Line, Word, field, input, span, sum, relu, which, max, root, digitsOf}
+use Rattle.meaning.specs.Word.{Word, field, input, span, sum, relu, which, max, root, kindOf}
+use Rattle.meaning.specs.Line.{Line}
 use Rattle.meaning.specs.Known.{Known, fresh}
-use Rattle.meaning.specs.Meaning.{byWord, gadget, after}
-use Rattle.meaning.specs.Refusal.{isField, isPlaced, isRanged, rules, firstBroken, Reading, refused, read, onReading, reading}
+use Rattle.meaning.specs.Meaning.{gadget, after}
+use Rattle.meaning.specs.Refusal.{isPlaced, isRanged, rules, firstBroken, Reading, refused, read, onReading, reading}
 use Rattle.meaning.specs.Gadget.Input.{inputLine}
 use Rattle.meaning.specs.Gadget.Span.{spanLine}
 use Rattle.meaning.specs.Gadget.Sum.{sumLine}
@@ -51,10 +52,10 @@ empty-at cells start show h e = record { first = 0; count = 0; inside = omega ar
 
 -- every line but line 0 has a cell
 has-cell : (n : ℕ) (s : Known) (l : Line) → Keeps (suc n) s l → 1 ≤ gadget s l .width
-unfolding gadget byWord inputLine spanLine sumLine reluLine whichLine maxLine rootLine isPlaced isField digitsOf
+unfolding gadget kindOf inputLine spanLine sumLine reluLine whichLine maxLine rootLine isPlaced
 has-cell n s l k = by (l .word) (l .numbers) (k .placed) (k .ranged)
   where
-    by : (w : Word) (ns : List ℤ) → T (isPlaced (suc n) w) → T (isRanged (s .p) w ns) → 1 ≤ byWord w s ns .width
+    by : (w : Word) (ns : List ℤ) → T (isPlaced (suc n) w) → T (isRanged (s .p) w ns) → 1 ≤ kindOf w .gadget s ns .width
     by field ns t r = absurd t
     by input ns t r = omega arith
     by span ns t r = digits-ranged (s .p) 1 span ns refl r .1

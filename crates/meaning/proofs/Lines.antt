@@ -12,12 +12,12 @@ use lib.Signed.{_≤ℤ_, nonNeg}
 use Rattle.algebra.proofs.Test.{left, right}
 use Rattle.algebra.proofs.Integer.Linear.{linear}
 use Rattle.meaning.specs.Number.{inRange, oddPrime, OddPrime}
-use Rattle.meaning.specs.Line.{Word, field, input, span, sum, relu, which, max, root, Line, numberAt, sizeAt, alternate, withoutFirst}
-use Rattle.meaning.specs.Line.{namesOf, coefficientsOf, shiftsOf, digitsAt, digitsOf}
+use Rattle.meaning.specs.Word.{Word, field, input, span, sum, relu, which, max, root, numberAt, sizeAt, alternate, withoutFirst, digitsAt, kindOf}
+use Rattle.meaning.specs.Line.{Line}
 use Rattle.meaning.specs.Known.{Known, fresh, Ranged}
 use Rattle.meaning.specs.Gadget.Sum.{termsOf}
-use Rattle.meaning.specs.Meaning.{byWord, gadget, primeAfter, after}
-use Rattle.meaning.specs.Refusal.{all, isField, isPlaced, isOverPrime, isDigits, isRanged, isMade}
+use Rattle.meaning.specs.Meaning.{gadget, primeAfter, after}
+use Rattle.meaning.specs.Refusal.{all, isPlaced, isOverPrime, isDigits, isRanged, isMade}
 use Rattle.meaning.proofs.Number.{odd-prime}
 use Rattle.meaning.proofs.Law.{Law}
 use Rattle.meaning.specs.Kept.{Keeps, Sound}
@@ -41,12 +41,12 @@ size-at-least n (pos m) h = omega linear
 size-at-least n (negsuc m) h = omega linear
 
 -- "2 ≤ b; 1 ≤ k", where the base and the digit count are the numbers from place i on
-pub digits-ranged : (p i : ℕ) (w : Word) (ns : List ℤ) → digitsOf w ns ≡ digitsAt ns i → T (isRanged p w ns)
+pub digits-ranged : (p i : ℕ) (w : Word) (ns : List ℤ) → kindOf w .digits ns ≡ digitsAt ns i → T (isRanged p w ns)
     → (2 ≤ sizeAt ns i) × (1 ≤ sizeAt ns (suc i))
 unfolding isRanged isDigits digitsAt sizeAt all
 digits-ranged p i w ns e t =
-    let given = left (all isDigits (digitsOf w ns)) (all (inRange p) (shiftsOf w ns))
-    (left (all isDigits (digitsOf w ns) && all (inRange p) (shiftsOf w ns)) (all (inRange p) (coefficientsOf w ns)) t) in
+    let given = left (all isDigits (kindOf w .digits ns)) (all (inRange p) (kindOf w .shifts ns))
+    (left (all isDigits (kindOf w .digits ns) && all (inRange p) (kindOf w .shifts ns)) (all (inRange p) (kindOf w .coefficients ns)) t) in
     let good : T (all isDigits (digitsAt ns i)) = rw e at given in (
       size-at-least 2 (numberAt ns i) (record { le = search (left, right) }),
       size-at-least 1 (numberAt ns (suc i)) (record { le = search (left, right) }),
@@ -75,18 +75,18 @@ terms-named s (c ∷ (v ∷ (d ∷ ns))) t =
 
 -- ---- a line that is not a field line comes after line 0
 
-pub after-field : (n : ℕ) (w : Word) → isField w ≡ false → T (isPlaced n w) → zero < n
+pub after-field : (n : ℕ) (w : Word) → kindOf w .isField ≡ false → T (isPlaced n w) → zero < n
 unfolding isPlaced
 after-field zero w e t = absurd (subst T e t)
 after-field (suc n) w e t = omega arith
 
 first-line : (n : ℕ) → T (isPlaced n field) → n ≡ 0
-unfolding isPlaced isField
+unfolding isPlaced kindOf
 first-line zero t = refl
 first-line (suc n) t = absurd t
 
-pub field-or-not : (w : Word) (p : ℕ) (ns : List ℤ) → (w ≡ field) ⊎ ((isField w ≡ false) × (primeAfter w p ns ≡ p))
-unfolding isField primeAfter
+pub field-or-not : (w : Word) (p : ℕ) (ns : List ℤ) → (w ≡ field) ⊎ ((kindOf w .isField ≡ false) × (primeAfter w p ns ≡ p))
+unfolding kindOf primeAfter
 field-or-not field p ns = inl refl
 field-or-not input p ns = inr (refl, refl)
 field-or-not span p ns = inr (refl, refl)
@@ -97,7 +97,7 @@ field-or-not max p ns = inr (refl, refl)
 field-or-not root p ns = inr (refl, refl)
 
 field-prime : (p : ℕ) (ns : List ℤ) → T (isOverPrime field ns) → OddPrime (primeAfter field p ns)
-unfolding isOverPrime primeAfter sizeAt
+unfolding isOverPrime primeAfter sizeAt kindOf
 field-prime p ns t = odd-prime (natAbs (numberAt ns 0)) (right (nonNeg (numberAt ns 0)) (oddPrime (natAbs (numberAt ns 0))) t)
 
 -- ---- the law, by word
@@ -107,15 +107,15 @@ module _ (n : ℕ) (s : Known) (sound : Sound n s) where
   abbrev line : Word → List ℤ → Line
   line w ns = record { word = w; numbers = ns }
 
-  prime-at : (w : Word) (ns : List ℤ) → isField w ≡ false → Keeps n s (line w ns) → OddPrime (s .p)
+  prime-at : (w : Word) (ns : List ℤ) → kindOf w .isField ≡ false → Keeps n s (line w ns) → OddPrime (s .p)
   prime-at w ns e k = sound .prime (after-field n w e (k .placed))
 
   nothing-ranged : (p : ℕ) → Ranged p (fresh .known)
   unfolding fresh
   nothing-ranged p = tt
 
-  by-word : (w : Word) (ns : List ℤ) → Keeps n s (line w ns) → Law (primeAfter w (s .p) ns) s (byWord w s ns)
-  unfolding byWord primeAfter isField gadget namesOf digitsOf
+  by-word : (w : Word) (ns : List ℤ) → Keeps n s (line w ns) → Law (primeAfter w (s .p) ns) s (kindOf w .gadget s ns)
+  unfolding kindOf primeAfter gadget
   by-word field ns k =
       field-law (sizeAt ns 0) s (subst (λ (q : Known). Ranged (sizeAt ns 0) (q .known)) (sym (sound .start (first-line n (k .placed)))) (nothing-ranged (sizeAt ns 0)))
   by-word input ns k = input-law s (prime-at input ns refl k) (sound .ranged)

@@ -11,11 +11,12 @@ use lib.ListN.{length}
 use lib.IntN.{ℤ, pos}
 use Rattle.algebra.proofs.Test.{false-not}
 use Rattle.meaning.specs.Text.{sameBytes}
-use Rattle.meaning.specs.Line.{Word, field, input, span, sum, relu, which, max, root, Line, spelling, words}
+use Rattle.meaning.specs.Word.{Word, field, input, span, sum, relu, which, max, root, words, kindOf}
+use Rattle.meaning.specs.Line.{Line}
 use Rattle.meaning.specs.Known.{Known, fresh}
 use Rattle.meaning.specs.Gadget.Field.{fieldLine}
-use Rattle.meaning.specs.Meaning.{byWord, gadget, after}
-use Rattle.meaning.specs.Refusal.{all, isField, isPlaced, read, reading}
+use Rattle.meaning.specs.Meaning.{gadget, after}
+use Rattle.meaning.specs.Refusal.{all, isPlaced, read, reading}
 use Rattle.meaning.specs.Row.{Row}
 use Rattle.meaning.specs.Work.{true-table, work}
 use Rattle.meaning.specs.Reply.{reply, rowsFrom, rowsOf, checkReply}
@@ -33,7 +34,7 @@ use Rattle.meaning.proofs.Induction.{valuesIn, cellsIn}
 
 unfoldable pub occurs : List Line → Word → Bool
 occurs [] w = false
-occurs (l ∷ ls) w = sameBytes (spelling (l .word)) (spelling w) || occurs ls w
+occurs (l ∷ ls) w = sameBytes (kindOf (l .word) .spelling) (kindOf w .spelling) || occurs ls w
 
 -- over p there is a read list with each word, and a column that it is worked from without a false statement
 pub record HasTrueTable (p : ℕ) : Type 0 where
@@ -102,15 +103,15 @@ true-table-101 = over 101 refl refl refl refl
 module _ (s : Known) (l : Line) (keeps : Keeps 0 s l) where
   field-first : l .word ≡ field
   unfolding isPlaced
-  field-first = ⊎-elim (λ e. e) (λ h. absurd (false-not (isField (l .word)) (h .0) (keeps .placed))) (field-or-not (l .word) 0 (l .numbers))
+  field-first = ⊎-elim (λ e. e) (λ h. absurd (false-not (kindOf (l .word) .isField) (h .0) (keeps .placed))) (field-or-not (l .word) 0 (l .numbers))
 
   no-cell : gadget s l .width ≡ 0
-  unfolding gadget byWord fieldLine
-  no-cell = ap (λ (w : Word). byWord w s (l .numbers) .width) field-first
+  unfolding gadget kindOf fieldLine
+  no-cell = ap (λ (w : Word). kindOf w .gadget s (l .numbers) .width) field-first
 
   no-row : gadget s l .rows ≡ []
-  unfolding gadget byWord fieldLine
-  no-row = ap (λ (w : Word). byWord w s (l .numbers) .rows) field-first
+  unfolding gadget kindOf fieldLine
+  no-row = ap (λ (w : Word). kindOf w .gadget s (l .numbers) .rows) field-first
 
 empty : (t : List ℕ) → length t ≡ 0 → t ≡ []
 empty [] h = refl

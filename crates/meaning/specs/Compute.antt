@@ -5,7 +5,8 @@ use Rattle.algebra.specs.Digits.{digits}
 use Rattle.algebra.specs.Root.{rootUpTo, squareRoot}
 use Rattle.meaning.specs.Number.{half, lowest, highest, between, inRange, signed, noDivisor, oddPrime}
 use Rattle.meaning.specs.Text.{bytes, sameBytes, onFirst, split, withoutLast, linesOf, isEnded, fieldsOf, isDigit, allDigits, decimal, isPlain, sized, number, decimalBefore, decimalOf, numberText}
-use Rattle.meaning.specs.Line.{spelling, words, isCount, wordAmong, consNumber, numbersOf, assemble, lineOfFields, lineOf, numberAt, sizeAt, alternate, withoutFirst, namesOf, coefficientsOf, shiftsOf, digitsAt, digitsOf}
+use Rattle.meaning.specs.Word.{words, numberAt, sizeAt, alternate, withoutFirst, digitsAt, kindOf}
+use Rattle.meaning.specs.Line.{wordAmong, consNumber, numbersOf, assemble, lineOfFields, lineOf}
 use Rattle.meaning.specs.Known.{larger, smaller, fresh, endsOf, placeOf, topPart, digitRule, apart, above}
 use Rattle.meaning.specs.Row.{eval, holds, digitRows, placeValues, group}
 use Rattle.meaning.specs.Gadget.Digits.{groupCells, valueAt}
@@ -18,8 +19,8 @@ use Rattle.meaning.specs.Gadget.Relu.{reluLine}
 use Rattle.meaning.specs.Gadget.Which.{whichValue, whichLine}
 use Rattle.meaning.specs.Gadget.Max.{maxLine}
 use Rattle.meaning.specs.Gadget.Root.{rootValue, rootLine}
-use Rattle.meaning.specs.Meaning.{byWord, gadget, primeAfter, placesFrom, after}
-use Rattle.meaning.specs.Refusal.{all, onSome, isField, isPlaced, isOverPrime, isDigits, isRanged, isMade, rulesWith, rulesWithin, rules, firstBroken, onReading, consLine, readLine, readFrom, readingBy}
+use Rattle.meaning.specs.Meaning.{gadget, primeAfter, placesFrom, after}
+use Rattle.meaning.specs.Refusal.{all, onSome, isPlaced, isOverPrime, isDigits, isRanged, isMade, rulesWith, rulesWithin, rules, firstBroken, onReading, consLine, readLine, readFrom, readingBy}
 use Rattle.meaning.specs.Work.{withCells, workFrom, work}
 use Rattle.meaning.specs.Reply.{readReply, firstFail, rowsFrom, rowsOf, isCell, checked, checkReply, filled, made, makeReply, stretch, shown}
 use Rattle.meaning.specs.Program.{tabbed, refusalText, cellsText, tableText, makingText, consPart, partsOf, joined, isSome, orNone, answerParts, onParts, respond}
@@ -34,7 +35,7 @@ computing-numbers = tt
 
 -- texts and lines
 unfoldable pub computing-lines : Unit {0}
-unfolding bytes sameBytes onFirst split withoutLast linesOf isEnded fieldsOf isDigit allDigits decimal isPlain sized number decimalBefore decimalOf numberText spelling words isCount wordAmong consNumber numbersOf assemble lineOfFields lineOf numberAt sizeAt alternate withoutFirst namesOf coefficientsOf shiftsOf digitsAt digitsOf
+unfolding bytes sameBytes onFirst split withoutLast linesOf isEnded fieldsOf isDigit allDigits decimal isPlain sized number decimalBefore decimalOf numberText kindOf words wordAmong consNumber numbersOf assemble lineOfFields lineOf numberAt sizeAt alternate withoutFirst digitsAt
 computing-lines = tt
 
 -- what is known, and rows
@@ -44,12 +45,12 @@ computing-rows = tt
 
 -- what each line does
 unfoldable pub computing-gadgets : Unit {0}
-unfolding groupCells valueAt signShift signStatement signRows signTop signCells fieldLine inputLine spanTop shared spanLine termsOf scaled added sumEnds endsInRange sumFits sumForm sumValue sumLine reluLine whichValue whichLine maxLine rootValue rootLine byWord gadget primeAfter placesFrom after
+unfolding groupCells valueAt signShift signStatement signRows signTop signCells fieldLine inputLine spanTop shared spanLine termsOf scaled added sumEnds endsInRange sumFits sumForm sumValue sumLine reluLine whichValue whichLine maxLine rootValue rootLine kindOf gadget primeAfter placesFrom after
 computing-gadgets = tt
 
 -- reading, working, the replies and the program
 unfoldable pub computing-replies : Unit {0}
-unfolding all onSome isField isPlaced isOverPrime isDigits isRanged isMade rulesWith rulesWithin rules firstBroken onReading consLine readLine readFrom readingBy withCells workFrom work readReply firstFail rowsFrom rowsOf isCell checked checkReply filled made makeReply stretch shown tabbed refusalText cellsText tableText makingText consPart partsOf joined isSome orNone answerParts onParts respond
+unfolding all onSome kindOf isPlaced isOverPrime isDigits isRanged isMade rulesWith rulesWithin rules firstBroken onReading consLine readLine readFrom readingBy withCells workFrom work readReply firstFail rowsFrom rowsOf isCell checked checkReply filled made makeReply stretch shown tabbed refusalText cellsText tableText makingText consPart partsOf joined isSome orNone answerParts onParts respond
 computing-replies = tt
 
 -- the rows of the worked tables

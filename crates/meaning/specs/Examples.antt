@@ -10,7 +10,8 @@ use lib.ListN.{replicate}
 use lib.IntN.{ℤ, pos, negℤ}
 use lib.Signed.{leZ}
 use Rattle.meaning.specs.Text.{bytes, sameBytes, numberText}
-use Rattle.meaning.specs.Line.{Word, field, input, span, sum, relu, which, max, root, Line}
+use Rattle.meaning.specs.Word.{Word, field, input, span, sum, relu, which, max, root}
+use Rattle.meaning.specs.Line.{Line}
 use Rattle.meaning.specs.Refusal.{onReading, reading}
 use Rattle.meaning.specs.Reply.{Reply, reply, Answer, counts, refusal, readReply, checkReply, Making, makeReply}
 use Rattle.meaning.specs.Program.{refusalText, tableText, respond}

@@ -7,7 +7,8 @@ use mathlib.Core.Option.{none}
 use lib.Dec.{T, leb}
 use lib.ListN.{length}
 use Rattle.meaning.specs.Number.{OddPrime}
-use Rattle.meaning.specs.Line.{Line, namesOf}
+use Rattle.meaning.specs.Word.{kindOf}
+use Rattle.meaning.specs.Line.{Line}
 use Rattle.meaning.specs.Known.{Known, fresh, Ranged}
 use Rattle.meaning.specs.Meaning.{gadget}
 use Rattle.meaning.specs.Refusal.{valueLimit, cellLimit, all, isPlaced, isOverPrime, isRanged, isMade, firstBroken, Way, plain}
@@ -17,7 +18,7 @@ pub record Keeps (n : ℕ) (s : Known) (l : Line) : Type 0 where
   pub placed : T (isPlaced n (l .word))
   pub over-prime : T (isOverPrime (l .word) (l .numbers))
   pub ranged : T (isRanged (s .p) (l .word) (l .numbers))
-  pub names-made : T (all (isMade (length (s .known))) (namesOf (l .word) (l .numbers)))
+  pub names-made : T (all (isMade (length (s .known))) (kindOf (l .word) .names (l .numbers)))
   pub values-fit : T (leb (length (s .known) + length (gadget s l .made)) valueLimit)
   pub cells-fit : T (leb (s .cells + gadget s l .width) cellLimit)
   pub unambiguous : T (gadget s l .unambiguous)

@@ -1,10 +1,11 @@
 pub mod Number
 pub mod Text
-pub mod Line
-pub mod Write
 pub mod Known
 pub mod Row
 pub mod Gadget
+pub mod Word
+pub mod Line
+pub mod Write
 pub mod Meaning
 pub mod Refusal
 pub mod Kept

@@ -9,25 +9,8 @@ use lib.IntN.{ℤ, pos, natAbs}
 use lib.Signed.{leZ, nonNeg}
 use Rattle.meaning.specs.Number.{inRange, oddPrime}
 use Rattle.meaning.specs.Text.{linesOf, isEnded}
-use Rattle.meaning.specs.Line.{
-  Word,
-  field,
-  input,
-  span,
-  sum,
-  relu,
-  which,
-  max,
-  root,
-  Line,
-  lineOf,
-  numberAt,
-  namesOf,
-  coefficientsOf,
-  shiftsOf,
-  Digits,
-  digitsOf,
-}
+use Rattle.meaning.specs.Word.{Word, numberAt, Digits, kindOf}
+use Rattle.meaning.specs.Line.{Line, lineOf}
 use Rattle.meaning.specs.Known.{Known, fresh}
 use Rattle.meaning.specs.Meaning.{gadget, after}
 
@@ -63,30 +46,14 @@ unfoldable pub orRefused : {A : Type 0} → (number : ℕ) → Option A → Resu
 orRefused r none = refusedBy r
 orRefused r (some x) = value x
 
-unfoldable pub isField : Word → Bool
-isField field = true
-isField input = false
-isField span = false
-isField sum = false
-isField relu = false
-isField which = false
-isField max = false
-isField root = false
-
 -- "first line, only there"
 unfoldable pub isPlaced : (line : ℕ) → Word → Bool
-isPlaced zero w = isField w
-isPlaced (suc n) w = not (isField w)
+isPlaced zero w = kindOf w .isField
+isPlaced (suc n) w = not (kindOf w .isField)
 
+-- p is an odd prime
 unfoldable pub isOverPrime : Word → List ℤ → Bool
-isOverPrime field ns = nonNeg (numberAt ns 0) && oddPrime (natAbs (numberAt ns 0))
-isOverPrime input ns = true
-isOverPrime span ns = true
-isOverPrime sum ns = true
-isOverPrime relu ns = true
-isOverPrime which ns = true
-isOverPrime max ns = true
-isOverPrime root ns = true
+isOverPrime w ns = cond (kindOf w .isField) (nonNeg (numberAt ns 0) && oddPrime (natAbs (numberAt ns 0))) true
 
 -- "2 ≤ b; 1 ≤ k ≤ 31"
 unfoldable pub isDigits : Digits → Bool
@@ -94,7 +61,7 @@ isDigits d = leZ (pos 2) (d .b) && leZ (pos 1) (d .k) && leZ (d .k) (pos 31)
 
 -- "L, c0 and each coefficient lie in -M..M"
 unfoldable pub isRanged : ℕ → Word → List ℤ → Bool
-isRanged p w ns = all isDigits (digitsOf w ns) && all (inRange p) (shiftsOf w ns) && all (inRange p) (coefficientsOf w ns)
+isRanged p w ns = all isDigits (kindOf w .digits ns) && all (inRange p) (kindOf w .shifts ns) && all (inRange p) (kindOf w .coefficients ns)
 
 -- does v name one of the n values that are made?
 unfoldable pub isMade : (n : ℕ) (v : ℤ) → Bool
@@ -120,7 +87,7 @@ rulesWith before9 cells =
     rule 4 (λ n s l. isPlaced n (l .word))
     ∷ rule 5 (λ n s l. isOverPrime (l .word) (l .numbers))
     ∷ rule 6 (λ n s l. isRanged (s .p) (l .word) (l .numbers))
-    ∷ rule 7 (λ n s l. all (isMade (length (s .known))) (namesOf (l .word) (l .numbers)))
+    ∷ rule 7 (λ n s l. all (isMade (length (s .known))) (kindOf (l .word) .names (l .numbers)))
     ∷ rule 8 (λ n s l. leb (length (s .known) + length (gadget s l .made)) valueLimit)
     ∷ before9
     ++ rule 9 (λ n s l. leb (s .cells + gadget s l .width) cells)

@@ -3,7 +3,8 @@ use Prim.Native.Nat.{ℕ}
 use mathlib.Core.List.{List, [], _∷_, _++_}
 use lib.IntN.{ℤ}
 use Rattle.meaning.specs.Text.{numberText}
-use Rattle.meaning.specs.Line.{Line, spelling}
+use Rattle.meaning.specs.Word.{kindOf}
+use Rattle.meaning.specs.Line.{Line}
 
 -- each number after a tab, then the byte that ends the line
 unfoldable pub numbersText : List ℤ → List ℕ
@@ -12,4 +13,4 @@ numbersText (n ∷ ns) = 9 ∷ numberText n ++ numbersText ns
 
 unfoldable pub listText : List Line → List ℕ
 listText [] = []
-listText (l ∷ ls) = spelling (l .word) ++ numbersText (l .numbers) ++ listText ls
+listText (l ∷ ls) = kindOf (l .word) .spelling ++ numbersText (l .numbers) ++ listText ls

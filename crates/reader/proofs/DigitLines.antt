@@ -10,7 +10,7 @@ use lib.ListN.{length, getD, take}
 use lib.Seq.{getD-take}
 use lib.IntN.{ℤ, pos, natAbs}
 use Rattle.meaning.specs.Number.{inRange}
-use Rattle.meaning.specs.Line.{Word, span, relu, which, max, root, numberAt, sizeAt, namesOf, coefficientsOf, shiftsOf, digitsAt, digitsOf}
+use Rattle.meaning.specs.Word.{Word, span, relu, which, max, root, numberAt, sizeAt, digitsAt, kindOf}
 use Rattle.meaning.specs.Known.{Known, Ends, ends, endsOf, larger, apart, above, digitRule}
 use Rattle.meaning.specs.Gadget.Sign.{signShift}
 use Rattle.meaning.specs.Gadget.Span.{shared, spanLine}
@@ -18,8 +18,8 @@ use Rattle.meaning.specs.Gadget.Relu.{reluLine}
 use Rattle.meaning.specs.Gadget.Which.{whichLine}
 use Rattle.meaning.specs.Gadget.Max.{maxLine}
 use Rattle.meaning.specs.Gadget.Root.{rootLine}
-use Rattle.meaning.specs.Meaning.{byWord, gadget}
-use Rattle.meaning.specs.Refusal.{all, isField, isRanged, isMade, isDigits}
+use Rattle.meaning.specs.Meaning.{gadget}
+use Rattle.meaning.specs.Refusal.{all, isRanged, isMade, isDigits}
 use Rattle.reader.specs.declared.rule.Begun.{Begun}
 use Rattle.reader.specs.declared.rule.Begun.the-variants.{Digits, Stops}
 use Rattle.reader.specs.declared.rule.Ends.{Ends as ReadEnds}
@@ -39,11 +39,11 @@ begunAt ns at ranged named values new cells each more =
 -- a word's line has so many numbers, its base at a place and its digit count after it; what else rule 6 asks of it, how its names are
 -- tested, how many values it makes and how its cells are counted
 pub record Shape (w : Word) (count at : ℕ) (ranged : ℕ → List ℤ → Bool) (named : ℕ → List ℤ → Bool) (new each more : ℕ) : Type 0 where
-  pub plain : isField w ≡ false
+  pub plain : kindOf w .isField ≡ false
   pub ranges : (p : ℕ) (ns : List ℤ) → isRanged p w (take count ns) ≡ isDigits (record { b = getD ns at (pos 0); k = getD ns (at + 1) (pos 0) }) && ranged p ns
-  pub names : (n : ℕ) (ns : List ℤ) → all (isMade n) (namesOf w (take count ns)) ≡ named n ns
-  pub makes-so-many : (s : Known) (ns : List ℤ) → length (byWord w s ns .made) ≡ new
-  pub cells : (s : Known) (ns : List ℤ) → byWord w s (take count ns) .width ≡ each * natAbs (getD ns (at + 1) (pos 0)) + more
+  pub names : (n : ℕ) (ns : List ℤ) → all (isMade n) (kindOf w .names (take count ns)) ≡ named n ns
+  pub makes-so-many : (s : Known) (ns : List ℤ) → length (kindOf w .gadget s ns .made) ≡ new
+  pub cells : (s : Known) (ns : List ℤ) → kindOf w .gadget s (take count ns) .width ≡ each * natAbs (getD ns (at + 1) (pos 0)) + more
 
 -- a line that begins well: its base and its digit count, and that its names are made
 pub record Begins (x y : ℤ) (named : Bool) (b k : ℕ) : Type 0 where
@@ -106,7 +106,7 @@ module _ {w : Word} {count at : ℕ} {ranged named : ℕ → List ℤ → Bool} 
   ranged-is = rw (seen .prime) (shape .ranges p numbers)
 
   early-is : earlyBroken (named values numbers) values new cells width ≡ earlyBroken (areNamed s w (take count numbers)) (length (s .known))
-      (length (byWord w s (take count numbers) .made)) (s .cells) (byWord w s (take count numbers) .width)
+      (length (kindOf w .gadget s (take count numbers) .made)) (s .cells) (kindOf w .gadget s (take count numbers) .width)
   early-is = rw (shape .makes-so-many s (take count numbers), shape .cells s numbers, known-count ready seen, seen .cells-are, shape .names values numbers) refl
 
   pub digits-stop : {n : ℕ} → Stops n ≡ begunAt numbers at (ranged p numbers) (named values numbers) values new cells each more
@@ -122,7 +122,7 @@ module _ {w : Word} {count at : ℕ} {ranged named : ℕ → List ℤ → Bool} 
           told-early s w (take count numbers) es (shape .plain) (ranged-is ∙ inside) (is ∙ early-is) (λ z. some-broken (sym is ∙ z))
 
   pub digits-go : {b k : ℕ} → Digits b k ≡ begunAt numbers at (ranged p numbers) (named values numbers) values new cells each more
-      → toldWith s (lineWith w (take count numbers)) es ≡ late (byWord w s (take count numbers)) es
+      → toldWith s (lineWith w (take count numbers)) es ≡ late (kindOf w .gadget s (take count numbers)) es
   digits-go {b} {k} q =
       let g = goes x y (ranged p numbers) (named values numbers) values new cells width b k q in
       told-late s w (take count numbers) es (shape .plain) (ranged-is ∙ g .1) {n = 0} (sym (g .2) ∙ early-is) refl
@@ -155,7 +155,7 @@ pub two-made : (n : ℕ) (ns : List ℤ) → twoNames n ns ≡ true → (isMade 
 two-made n ns e = both-true (isMade n (getD ns 0 (pos 0))) (isMade n (getD ns 1 (pos 0))) e
 
 pub relu-shape : Shape relu 3 1 always oneName 1 1 3
-unfolding isField isRanged all namesOf coefficientsOf shiftsOf digitsAt digitsOf byWord reluLine
+unfolding kindOf isRanged all digitsAt reluLine
 relu-shape = record {
   plain = refl;
   ranges = λ p ns. rw (number-taken 3 ns 1 (omega arith), number-taken 3 ns 2 (omega arith)) (simp and-true);
@@ -165,7 +165,7 @@ relu-shape = record {
 }
 
 pub root-shape : Shape root 3 1 always oneName 1 4 2
-unfolding isField isRanged all namesOf coefficientsOf shiftsOf digitsAt digitsOf byWord rootLine
+unfolding kindOf isRanged all digitsAt rootLine
 root-shape = record {
   plain = refl;
   ranges = λ p ns. rw (number-taken 3 ns 1 (omega arith), number-taken 3 ns 2 (omega arith)) (simp and-true);
@@ -175,7 +175,7 @@ root-shape = record {
 }
 
 pub which-shape : Shape which 4 2 always twoNames 1 1 3
-unfolding isField isRanged all namesOf coefficientsOf shiftsOf digitsAt digitsOf byWord whichLine
+unfolding kindOf isRanged all digitsAt whichLine
 which-shape = record {
   plain = refl;
   ranges = λ p ns. rw (number-taken 4 ns 2 (omega arith), number-taken 4 ns 3 (omega arith)) (simp and-true);
@@ -185,7 +185,7 @@ which-shape = record {
 }
 
 pub max-shape : Shape max 4 2 always twoNames 1 2 1
-unfolding isField isRanged all namesOf coefficientsOf shiftsOf digitsAt digitsOf byWord maxLine
+unfolding kindOf isRanged all digitsAt maxLine
 max-shape = record {
   plain = refl;
   ranges = λ p ns. rw (number-taken 4 ns 2 (omega arith), number-taken 4 ns 3 (omega arith)) (simp and-true);
@@ -195,7 +195,7 @@ max-shape = record {
 }
 
 pub span-shape : Shape span 4 1 shiftRanged oneName 0 1 0
-unfolding isField isRanged all namesOf coefficientsOf shiftsOf digitsAt digitsOf byWord spanLine
+unfolding kindOf isRanged all digitsAt spanLine
 span-shape = record {
   plain = refl;
   ranges = λ p ns. rw (number-taken 4 ns 1 (omega arith), number-taken 4 ns 2 (omega arith), number-taken 4 ns 3 (omega arith)) (simp and-true);
@@ -250,15 +250,15 @@ module _ {p values cells : ℕ} {lows highs : List ℤ} (ready : Ready p values 
     pub digits-told : {n : ℕ} → Stops n ≡ begunAt numbers at (ranged p numbers) (named values numbers) values new cells each more
         → toldOf s (lineWith w (take count numbers)) ≡ refuses n
     unfolding toldOf gadget
-    digits-told q = digits-stop shape ready numbers seen (byWord w s (take count numbers) .made) q
+    digits-told q = digits-stop shape ready numbers seen (kindOf w .gadget s (take count numbers) .made) q
 
     digits-late : {b k : ℕ} → Digits b k ≡ begunAt numbers at (ranged p numbers) (named values numbers) values new cells each more
-        → toldOf s (lineWith w (take count numbers)) ≡ late (byWord w s (take count numbers)) (byWord w s (take count numbers) .made)
+        → toldOf s (lineWith w (take count numbers)) ≡ late (kindOf w .gadget s (take count numbers)) (kindOf w .gadget s (take count numbers) .made)
     unfolding toldOf gadget
-    digits-late q = digits-go shape ready numbers seen (byWord w s (take count numbers) .made) q
+    digits-late q = digits-go shape ready numbers seen (kindOf w .gadget s (take count numbers) .made) q
 
   pub root-late : {b k : ℕ} → Digits b k ≡ begunAt numbers 1 true (oneName values numbers) values 1 cells 4 2 → toldOf s (lineWith root (take 3 numbers)) ≡ rootTold p (b ^ k)
-  unfolding byWord
+  unfolding kindOf
   root-late q =
       let r = begins _ _ _ _ _ _ _ _ _ _ q .read in
       digits-late root-shape q
@@ -270,7 +270,7 @@ module _ {p values cells : ℕ} {lows highs : List ℤ} (ready : Ready p values 
         → toldOf s (lineWith relu (take 3 numbers))
         ≡ cond (digitRule p b k (endsSeen e) (signShift b k)) (makes (ends (larger (pos 0) (e .low)) (larger (pos 0) (e .high)) ∷ []))
         (refuses 10)
-    unfolding byWord endsSeen
+    unfolding kindOf endsSeen
     relu-late q =
         let g = begins _ _ _ _ _ _ _ _ _ _ q in
         let r = g .read in
@@ -290,7 +290,7 @@ module _ {p values cells : ℕ} {lows highs : List ℤ} (ready : Ready p values 
         → spanTold s (lineWith span (take 4 numbers))
         ≡ cond (digitRule p b k (endsSeen e) (getD numbers 3 (pos 0))) (sharedTold (shared b k (getD numbers 3 (pos 0)) (endsSeen e)))
         (refuses 10)
-    unfolding spanTold byWord
+    unfolding spanTold kindOf
     span-late q =
         let g = begins _ _ _ _ _ _ _ _ _ _ q in
         let r = g .read in
@@ -311,7 +311,7 @@ module _ {p values cells : ℕ} {lows highs : List ℤ} (ready : Ready p values 
     pub which-late : {b k : ℕ} → Digits b k ≡ begunAt numbers 2 true (twoNames values numbers) values 1 cells 1 3
         → toldOf s (lineWith which (take 4 numbers))
         ≡ cond (digitRule p b k (apart (endsSeen u) (endsSeen v)) (signShift b k)) (makes (ends (pos 0) (pos 1) ∷ [])) (refuses 10)
-    unfolding byWord
+    unfolding kindOf
     which-late q =
         let g = begins _ _ _ _ _ _ _ _ _ _ q in
         let r = g .read in
@@ -334,7 +334,7 @@ module _ {p values cells : ℕ} {lows highs : List ℤ} (ready : Ready p values 
         → toldOf s (lineWith max (take 4 numbers))
         ≡ cond (digitRule p b k (above (endsSeen u) (endsSeen v)) (pos 0) && digitRule p b k (above (endsSeen v) (endsSeen u)) (pos 0))
         (makes (ends (larger (u .low) (v .low)) (larger (u .high) (v .high)) ∷ [])) (refuses 10)
-    unfolding byWord endsSeen
+    unfolding kindOf endsSeen
     max-late q =
         let g = begins _ _ _ _ _ _ _ _ _ _ q in
         let r = g .read in

@@ -15,7 +15,7 @@ use mir.Val.{Fits}
 use borrow.Author.Tests.{le-leb, lt-leb}
 use Rattle.algebra.proofs.Test.{≡-test, left, right}
 use Rattle.meaning.specs.Number.{half}
-use Rattle.meaning.specs.Line.{Digits as Meant}
+use Rattle.meaning.specs.Word.{Digits as Meant}
 use Rattle.meaning.specs.Known.{Ends, ends, digitRule, topPart}
 use Rattle.meaning.specs.Refusal.{value, refusedBy, isDigits}
 use Rattle.number.specs.Power.{cappedPower}

@@ -18,18 +18,19 @@ use Rattle.algebra.proofs.Integer.Order.{positivePart, negativePart, natAbs-par
 use Rattle.number.proofs.Word.{back, parts-fit, negative, not-negative}
 use Rattle.meaning.proofs.Lines.{field-or-not}
 use Rattle.text.specs.Word.{wordOf}
-use Rattle.text.specs.Parsed.{LineRead, mostNumbers}
+use Rattle.text.specs.Parsed.{LineRead}
 use Rattle.text.specs.declared.Word.{Word}
 use Rattle.text.specs.declared.Parsed.{Parsed}
 use Rattle.text.specs.declared.Parsed.the-variants.{Line as Spelled}
-use Rattle.text.proofs.Answers.{line-seen, line-counted, line-small}
+use Rattle.text.proofs.Answers.{line-seen, line-counted, line-taken, line-small}
 use Rattle.meaning.specs.Number.{oddPrime}
-use Rattle.meaning.specs.Line.{field, Line, lineOf, isCount, numberAt, sizeAt, digitsOf, shiftsOf, coefficientsOf, namesOf}
-use Rattle.meaning.specs.Line.{Word as Meant}
+use Rattle.meaning.specs.Word.{field, numberAt, sizeAt, kindOf, mostNumbers}
+use Rattle.meaning.specs.Line.{Line, lineOf}
+use Rattle.meaning.specs.Word.{Word as Meant}
 use Rattle.meaning.specs.Known.{fresh}
 use Rattle.meaning.specs.Gadget.Field.{fieldLine}
-use Rattle.meaning.specs.Meaning.{byWord, gadget, primeAfter, placesFrom, after}
-use Rattle.meaning.specs.Refusal.{all, onSome, isField, isPlaced, isOverPrime, isRanged, rulesWith, rulesWithin, rules, firstBroken}
+use Rattle.meaning.specs.Meaning.{gadget, primeAfter, placesFrom, after}
+use Rattle.meaning.specs.Refusal.{all, onSome, isPlaced, isOverPrime, isRanged, rulesWith, rulesWithin, rules, firstBroken}
 use Rattle.reader.specs.Told.{lineWith}
 use Rattle.reader.specs.Step.{stops, goes}
 use Rattle.reader.specs.Read.{firstOption, only}
@@ -39,17 +40,17 @@ pub first-none : (line : List ℕ) → lineOf line ≡ none → stops 3 ≡ firs
 unfolding firstOption
 first-none line e = rw e refl
 
-pub first-other : (line : List ℕ) (l : Line) → lineOf line ≡ some l → isField (l .word) ≡ false → stops 4 ≡ firstOption (lineOf line)
+pub first-other : (line : List ℕ) (l : Line) → lineOf line ≡ some l → kindOf (l .word) .isField ≡ false → stops 4 ≡ firstOption (lineOf line)
 unfolding firstOption rules rulesWith rulesWithin firstBroken onSome isPlaced
 first-other line l e f = rw (e, f) refl
 
 module _ (line : List ℕ) (ns : List ℤ) (e : lineOf line ≡ some (lineWith field ns)) where
   pub first-not-prime : isOverPrime field ns ≡ false → stops 5 ≡ firstOption (lineOf line)
-  unfolding firstOption rules rulesWith rulesWithin firstBroken onSome isPlaced isField
+  unfolding firstOption rules rulesWith rulesWithin firstBroken onSome isPlaced kindOf
   first-not-prime f = rw (e, f) refl
 
   pub first-prime : isOverPrime field ns ≡ true → goes (only (sizeAt ns 0)) ≡ firstOption (lineOf line)
-  unfolding firstOption rules rulesWith rulesWithin firstBroken onSome isPlaced isField isRanged all digitsOf shiftsOf coefficientsOf namesOf gadget byWord fieldLine fresh after primeAfter placesFrom only
+  unfolding firstOption rules rulesWith rulesWithin firstBroken onSome isPlaced kindOf isRanged all gadget fieldLine fresh after primeAfter placesFrom only
   first-prime f = rw (e, f) refl
 
 -- ---- the number of line 0, as the code has it
@@ -60,11 +61,11 @@ module _ (numbers : List ℤ) (n : ℕ) (one : n ≡ 1) where
   number-first = getD-take n numbers 0 (pos 0) (omega arith)
 
   pub negative-first : nonNeg (getD numbers 0 (pos 0)) ≡ false → isOverPrime field (take n numbers) ≡ false
-  unfolding isOverPrime
+  unfolding isOverPrime kindOf
   negative-first f = rw (number-first, f) refl
 
   pub over-prime-first : (m : ℕ) → getD numbers 0 (pos 0) ≡ pos m → isOverPrime field (take n numbers) ≡ oddPrime m
-  unfolding isOverPrime
+  unfolding isOverPrime kindOf
   over-prime-first m e = rw (number-first, e) refl
 
   pub size-first : (m : ℕ) → getD numbers 0 (pos 0) ≡ pos m → sizeAt (take n numbers) 0 ≡ m
@@ -73,9 +74,9 @@ module _ (numbers : List ℤ) (n : ℕ) (one : n ≡ 1) where
 
 -- ---- what the code knows of line 0
 
-field-word : (w : Meant) → isField w ≡ true → w ≡ field
-unfolding isField
-field-word w e = ⊎-elim (λ q. q) (λ h. absurd (false-not (isField w) (h .0) (≡-test (isField w) e))) (field-or-not w 0 [])
+field-word : (w : Meant) → kindOf w .isField ≡ true → w ≡ field
+unfolding kindOf
+field-word w e = ⊎-elim (λ q. q) (λ h. absurd (false-not (kindOf w .isField) (h .0) (≡-test (kindOf w .isField) e))) (field-or-not w 0 [])
 
 below-zero : (z : ℤ) → positivePart z ≡ 0 → negativePart z ≡ suc (mag z) → nonNeg z ≡ false
 below-zero (pos n) h k = absurd (omega arith)
@@ -83,10 +84,10 @@ below-zero (negsuc n) h k = refl
 
 module _ (line : List ℕ) {before after : List ℤ} {r : Parsed} (read : LineRead line before after r) {w : Word} {n next : ℕ} (q : r ≡ Spelled w n next)
     (long : length before ≡ mostNumbers) where
-  pub first-not-field : isField (wordOf w) ≡ false → stops 4 ≡ firstOption (lineOf line)
+  pub first-not-field : kindOf (wordOf w) .isField ≡ false → stops 4 ≡ firstOption (lineOf line)
   first-not-field f = first-other line _ (line-seen read q) f
 
-  module _ (f : isField (wordOf w) ≡ true) where
+  module _ (f : kindOf (wordOf w) .isField ≡ true) where
     word-is : wordOf w ≡ field
     word-is = field-word (wordOf w) f
 
@@ -94,8 +95,10 @@ module _ (line : List ℕ) {before after : List ℤ} {r : Parsed} (read : LineRe
     spelled = line-seen read q ∙ ap (λ (u : Meant). some (lineWith u (take n after))) word-is
 
     one : n ≡ 1
-    unfolding isCount
-    one = eqb→eq n 1 (≡-test (eqb n 1) (ap (λ (u : Meant). isCount u n) (sym word-is) ∙ line-counted read q long))
+    unfolding kindOf
+    one =
+        let counted = ap (λ (u : Meant). kindOf u .isCounted (take n after)) (sym word-is) ∙ line-counted read q in
+        omega (arith, line-taken read q long, eqb→eq (length (take n after)) 1 (≡-test (eqb (length (take n after)) 1) counted))
 
     abbrev z : ℤ
     z = getD after 0 (pos 0)

@@ -11,11 +11,11 @@ use native.Mathlib.Omega.{arith}
 use Rattle.algebra.proofs.Integer.Order.{minus, integer}
 use Rattle.number.proofs.Word.{parts-fit}
 use Rattle.meaning.specs.Number.{half, lowest, highest}
-use Rattle.meaning.specs.Line.{input, digitsOf, shiftsOf, coefficientsOf, namesOf}
+use Rattle.meaning.specs.Word.{input, kindOf}
 use Rattle.meaning.specs.Known.{ends, Known}
 use Rattle.meaning.specs.Gadget.Input.{inputLine}
-use Rattle.meaning.specs.Meaning.{byWord, gadget}
-use Rattle.meaning.specs.Refusal.{all, isField, isRanged}
+use Rattle.meaning.specs.Meaning.{gadget}
+use Rattle.meaning.specs.Refusal.{all, isRanged}
 use Rattle.reader.specs.State.{Ready, Seen}
 use Rattle.reader.specs.Told.{refuses, makes, toldOf, lineWith}
 use Rattle.reader.specs.Rule.{earlyBroken}
@@ -24,25 +24,25 @@ use Rattle.reader.proofs.Rules.{late, areNamed, told-early, told-late}
 
 module _ {p values cells : ℕ} {lows highs : List ℤ} (ready : Ready p values cells lows highs) {s : Known} (seen : Seen s p values cells lows highs)
     {n : ℕ} (early : n ≡ earlyBroken true values 1 cells 1) where
-  input-plain : isField input ≡ false
-  unfolding isField
+  input-plain : kindOf input .isField ≡ false
+  unfolding kindOf
   input-plain = refl
 
   input-ranged : isRanged (s .p) input [] ≡ true
-  unfolding isRanged all digitsOf shiftsOf coefficientsOf
+  unfolding isRanged all kindOf
   input-ranged = refl
 
-  early-too : n ≡ earlyBroken (areNamed s input []) (length (s .known)) (length (byWord input s [] .made)) (s .cells) (byWord input s [] .width)
-  unfolding byWord inputLine namesOf all
+  early-too : n ≡ earlyBroken (areNamed s input []) (length (s .known)) (length (kindOf input .gadget s [] .made)) (s .cells) (kindOf input .gadget s [] .width)
+  unfolding kindOf inputLine all
   early-too = rw (known-count ready seen, seen .cells-are) early
 
   pub input-early : (n ≡ 0 → ⊥) → toldOf s (lineWith input []) ≡ refuses n
   unfolding toldOf gadget
-  input-early h = told-early s input [] (byWord input s [] .made) input-plain input-ranged early-too h
+  input-early h = told-early s input [] (kindOf input .gadget s [] .made) input-plain input-ranged early-too h
 
   pub input-late : n ≡ 0 → toldOf s (lineWith input []) ≡ makes (ends (negℤ (pos ((p - 1) / 2))) (pos ((p - 1) / 2)) ∷ [])
-  unfolding toldOf gadget byWord late inputLine lowest highest half
-  input-late h = told-late s input [] (byWord input s [] .made) input-plain input-ranged early-too h ∙ rw (seen .prime) refl
+  unfolding toldOf gadget kindOf late inputLine lowest highest half
+  input-late h = told-late s input [] (kindOf input .gadget s [] .made) input-plain input-ranged early-too h ∙ rw (seen .prime) refl
 
 -- ---- M in a machine word
 

@@ -8,10 +8,11 @@ use native.Mathlib.Nat.{add-zero}
 use lib.ListN.{length, getD, take, set}
 use lib.Seq.{take-set-le, take-set-lt, length-take-le}
 use lib.IntN.{ℤ}
-use Rattle.meaning.specs.Line.{Line, span, sizeAt, numberAt, namesOf}
+use Rattle.meaning.specs.Word.{span, sizeAt, numberAt, kindOf}
+use Rattle.meaning.specs.Line.{Line}
 use Rattle.meaning.specs.Known.{Ends, ends, Known, endsOf}
 use Rattle.meaning.specs.Gadget.Span.{shared, spanLine}
-use Rattle.meaning.specs.Meaning.{byWord, gadget, placesFrom, primeAfter, after}
+use Rattle.meaning.specs.Meaning.{gadget, placesFrom, primeAfter, after}
 use Rattle.meaning.specs.Refusal.{rules, firstBroken, valueLimit}
 use Rattle.meaning.specs.Kept.{Keeps}
 use Rattle.meaning.proofs.Kept.{keeps-all}
@@ -60,7 +61,7 @@ module _ (p : ℕ) (s : Known) (ns : List ℤ) (c : Counts) (lows highs : List �
     module _ (at : ℕ) (at-is : Keeps 1 s line → sizeAt ns 0 ≡ at) where
       -- a value that is not made is refused by the line's own rules
       pub named : at < c .values
-      unfolding namesOf
+      unfolding kindOf
       named = omega (arith, first-named (length (s .known)) 0 ns [] (kept .names-made), values-are p lows highs places is sized, at-is kept)
 
       pub named-within : at < valueLimit
@@ -79,7 +80,7 @@ module _ (p : ℕ) (s : Known) (ns : List ℤ) (c : Counts) (lows highs : List �
       pub narrowed : (size : Counts) → (Keeps 1 s line → Adds s line size)
           → stepSeen p (Next (record { values = c .values; inputs = c .inputs; cells = c .cells + size .cells; rows = c .rows + size .rows }))
           (set lows at low) (set highs at high) (placedAt c places) ≡ stepOf s line
-      unfolding stepSeen stateOf placedAt after gadget byWord spanLine primeAfter placesFrom
+      unfolding stepSeen stateOf placedAt after gadget kindOf spanLine primeAfter placesFrom
       narrowed size adds-if =
           let adds = adds-if kept in
           ap goes (same-state

@@ -7,7 +7,8 @@ use lib.IntN.{ℤ, pos}
 use lib.Signed.{_≤ℤ_, ≤ℤ-refl}
 use Rattle.algebra.proofs.Integer.Linear.{linear}
 use Rattle.meaning.specs.Number.{lowest, highest}
-use Rattle.meaning.specs.Line.{Word, field, input, span, sum, relu, which, max, root, Line, numberAt, sizeAt, withoutFirst}
+use Rattle.meaning.specs.Word.{Word, field, input, span, sum, relu, which, max, root, numberAt, sizeAt, withoutFirst, kindOf}
+use Rattle.meaning.specs.Line.{Line}
 use Rattle.meaning.specs.Known.{Ends, ends, Known, endsOf}
 use Rattle.meaning.specs.Gadget.Sum.{Term, termsOf, scaled, added, sumEnds, sumLine}
 use Rattle.meaning.specs.Gadget.Field.{fieldLine}
@@ -17,7 +18,7 @@ use Rattle.meaning.specs.Gadget.Relu.{reluLine}
 use Rattle.meaning.specs.Gadget.Which.{whichLine}
 use Rattle.meaning.specs.Gadget.Max.{maxLine}
 use Rattle.meaning.specs.Gadget.Root.{rootLine}
-use Rattle.meaning.specs.Meaning.{byWord, gadget, after}
+use Rattle.meaning.specs.Meaning.{gadget, after}
 use Rattle.meaning.proofs.Order.{larger-left, larger-keeps, smaller-left}
 use Rattle.meaning.specs.Kept.{Keeps}
 
@@ -66,8 +67,8 @@ unfolding lowest highest
 range-ordered p = omega linear
 
 module _ (n : ℕ) (s : Known) (h : Ordered (s .known)) where
-  after-word : (w : Word) (ns : List ℤ) → Keeps n s (record { word = w; numbers = ns }) → Ordered (byWord w s ns .narrowed ++ byWord w s ns .made)
-  unfolding byWord gadget fieldLine inputLine spanLine sumLine reluLine whichLine maxLine rootLine
+  after-word : (w : Word) (ns : List ℤ) → Keeps n s (record { word = w; numbers = ns }) → Ordered (kindOf w .gadget s ns .narrowed ++ kindOf w .gadget s ns .made)
+  unfolding kindOf gadget fieldLine inputLine spanLine sumLine reluLine whichLine maxLine rootLine
   after-word field ns k = ordered-append (s .known) [] h tt
   after-word input ns k = ordered-append (s .known) _ h (range-ordered (s .p), tt)
   after-word span ns k = ordered-append (set (s .known) (sizeAt ns 0) _) [] (ordered-set (s .known) (sizeAt ns 0) _ h (record { le = k .overlaps })) tt

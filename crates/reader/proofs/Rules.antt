@@ -9,31 +9,18 @@ use native.Mathlib.Omega.{arith}
 use lib.Dec.{leb}
 use lib.ListN.{length}
 use lib.IntN.{ℤ}
-use Rattle.meaning.specs.Line.{Word, field, input, span, sum, relu, which, max, root, Line, namesOf}
+use Rattle.meaning.specs.Word.{Word, field, input, span, sum, relu, which, max, root, kindOf}
+use Rattle.meaning.specs.Line.{Line}
 use Rattle.meaning.specs.Known.{Known, Ends}
 use Rattle.meaning.specs.Gadget.Interface.{Gadget}
-use Rattle.meaning.specs.Meaning.{byWord, gadget}
-use Rattle.meaning.specs.Refusal.{
-  valueLimit,
-  cellLimit,
-  onSome,
-  all,
-  isField,
-  isPlaced,
-  isOverPrime,
-  isRanged,
-  isMade,
-  rulesWith,
-  rulesWithin,
-  rules,
-  firstBroken,
-}
+use Rattle.meaning.specs.Meaning.{gadget}
+use Rattle.meaning.specs.Refusal.{valueLimit, cellLimit, onSome, all, isPlaced, isOverPrime, isRanged, isMade, rulesWith, rulesWithin, rules, firstBroken}
 use Rattle.reader.specs.Told.{Told, refuses, makes, lineWith}
 use Rattle.reader.specs.Rule.{earlyBroken, begunUnless}
 use Rattle.reader.specs.declared.rule.Begun.the-variants.{Stops}
 
-over-prime : (w : Word) (ns : List ℤ) → isField w ≡ false → isOverPrime w ns ≡ true
-unfolding isField isOverPrime
+over-prime : (w : Word) (ns : List ℤ) → kindOf w .isField ≡ false → isOverPrime w ns ≡ true
+unfolding kindOf isOverPrime
 over-prime field ns e = let z : _≡_ {A = ℕ} 0 1 = cc in absurd (omega arith)
 over-prime input ns e = refl
 over-prime span ns e = refl
@@ -78,32 +65,32 @@ late-told false b c u f o es n e h = absurd (omega arith)
 
 -- what the rules 7 to 9 test
 abbrev pub areNamed : Known → Word → List ℤ → Bool
-areNamed s w ns = all (isMade (length (s .known))) (namesOf w ns)
+areNamed s w ns = all (isMade (length (s .known))) (kindOf w .names ns)
 
 abbrev valuesFit : Known → Word → List ℤ → Bool
-valuesFit s w ns = leb (length (s .known) + length (byWord w s ns .made)) valueLimit
+valuesFit s w ns = leb (length (s .known) + length (kindOf w .gadget s ns .made)) valueLimit
 
 abbrev cellsFit : Known → Word → List ℤ → Bool
-cellsFit s w ns = leb (s .cells + byWord w s ns .width) cellLimit
+cellsFit s w ns = leb (s .cells + kindOf w .gadget s ns .width) cellLimit
 
-module _ (s : Known) (w : Word) (ns : List ℤ) (es : List Ends) (plain : isField w ≡ false) where
+module _ (s : Known) (w : Word) (ns : List ℤ) (es : List Ends) (plain : kindOf w .isField ≡ false) where
   pub told-6 : isRanged (s .p) w ns ≡ false → toldWith s (lineWith w ns) es ≡ refuses 6
   unfolding onSome firstBroken rules rulesWith rulesWithin isPlaced
   told-6 ranged = rw (plain, over-prime w ns plain, ranged)
 
   module _ (ranged : isRanged (s .p) w ns ≡ true) {n : ℕ}
-      (early : n ≡ earlyBroken (areNamed s w ns) (length (s .known)) (length (byWord w s ns .made)) (s .cells) (byWord w s ns .width)) where
+      (early : n ≡ earlyBroken (areNamed s w ns) (length (s .known)) (length (kindOf w .gadget s ns .made)) (s .cells) (kindOf w .gadget s ns .width)) where
     pub told-early : (n ≡ 0 → ⊥) → toldWith s (lineWith w ns) es ≡ refuses n
     unfolding firstBroken rules rulesWith rulesWithin isPlaced earlyBroken gadget
     told-early some-broken =
-        let g : Gadget = byWord w s ns in
+        let g : Gadget = kindOf w .gadget s ns in
         rw (plain, over-prime w ns plain, ranged)
         (early-told (areNamed s w ns) (valuesFit s w ns) (cellsFit s w ns) (g .unambiguous) (g .fits) (g .overlaps) es n early some-broken)
 
-    pub told-late : n ≡ 0 → toldWith s (lineWith w ns) es ≡ late (byWord w s ns) es
+    pub told-late : n ≡ 0 → toldWith s (lineWith w ns) es ≡ late (kindOf w .gadget s ns) es
     unfolding firstBroken rules rulesWith rulesWithin isPlaced earlyBroken gadget late
     told-late none-broken =
-        let g : Gadget = byWord w s ns in
+        let g : Gadget = kindOf w .gadget s ns in
         rw (plain, over-prime w ns plain, ranged)
         (late-told (areNamed s w ns) (valuesFit s w ns) (cellsFit s w ns) (g .unambiguous) (g .fits) (g .overlaps) es n early none-broken)
 

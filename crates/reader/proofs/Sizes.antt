@@ -6,13 +6,13 @@ use Prim.Native.Nat.{ℕ, zero, suc, _+_, _*_, _<_, _≤_}
 use native.Mathlib.Omega.{arith}
 use lib.Dec.{T, eqb, eqb→eq}
 use lib.ListN.{length, getD, take, length-append}
-use lib.Seq.{getD-take}
+use lib.Seq.{getD-take, length-take-le}
 use lib.IntN.{ℤ, pos, natAbs}
 use lib.Signed.{_≤ℤ_}
 use Rattle.algebra.proofs.Test.{left, right, ≡-test}
 use Rattle.meaning.specs.Number.{inRange}
-use Rattle.meaning.specs.Line.{field, input, span, sum, relu, which, max, root, isCount, numberAt, sizeAt, shiftsOf, coefficientsOf, digitsAt, digitsOf}
-use Rattle.meaning.specs.Line.{Word as Meant}
+use Rattle.meaning.specs.Word.{field, input, span, sum, relu, which, max, root, numberAt, sizeAt, digitsAt, kindOf}
+use Rattle.meaning.specs.Word.{Word as Meant}
 use Rattle.meaning.specs.Known.{Known}
 use Rattle.meaning.specs.Row.{Row, Form, constant, _⊖_, _≅_, digitRows, placeValues, group}
 use Rattle.meaning.specs.Gadget.Sign.{signRows, signShift}
@@ -24,7 +24,7 @@ use Rattle.meaning.specs.Gadget.Relu.{reluLine}
 use Rattle.meaning.specs.Gadget.Which.{whichLine}
 use Rattle.meaning.specs.Gadget.Max.{maxLine}
 use Rattle.meaning.specs.Gadget.Root.{rootLine}
-use Rattle.meaning.specs.Meaning.{byWord, gadget}
+use Rattle.meaning.specs.Meaning.{gadget}
 use Rattle.meaning.specs.Refusal.{all, isDigits, isRanged}
 use Rattle.meaning.specs.Kept.{Keeps}
 use Rattle.text.specs.Word.{wordOf}
@@ -75,11 +75,11 @@ four-groups f g h l L a b c d base k =
 -- ---- digit counts
 
 -- where the rules hold, the number at place i + 1 is a digit count
-module _ (p i : ℕ) (w : Meant) (ns : List ℤ) (is : digitsOf w ns ≡ digitsAt ns i) (ranged : T (isRanged p w ns)) where
+module _ (p i : ℕ) (w : Meant) (ns : List ℤ) (is : kindOf w .digits ns ≡ digitsAt ns i) (ranged : T (isRanged p w ns)) where
   pub digits-given : T (all isDigits (digitsAt ns i))
   unfolding isRanged
-  digits-given = rw is at (left (all isDigits (digitsOf w ns)) (all (inRange p) (shiftsOf w ns))
-      (left (all isDigits (digitsOf w ns) && all (inRange p) (shiftsOf w ns)) (all (inRange p) (coefficientsOf w ns)) ranged))
+  digits-given = rw is at (left (all isDigits (kindOf w .digits ns)) (all (inRange p) (kindOf w .shifts ns))
+      (left (all isDigits (kindOf w .digits ns) && all (inRange p) (kindOf w .shifts ns)) (all (inRange p) (kindOf w .coefficients ns)) ranged))
 
   count-low : pos 1 ≤ℤ numberAt ns (suc i)
   unfolding all digitsAt isDigits
@@ -91,7 +91,7 @@ module _ (p i : ℕ) (w : Meant) (ns : List ℤ) (is : digitsOf w ns ≡ digitsA
 
 -- and the code's digit count is the line's
 module _ (s : Known) (w : Meant) (numbers : List ℤ) (n i k : ℕ) (inside : suc i < n)
-    (is : digitsOf w (take n numbers) ≡ digitsAt (take n numbers) i)
+    (is : kindOf w .digits (take n numbers) ≡ digitsAt (take n numbers) i)
     (counts : pos 1 ≤ℤ getD numbers (suc i) (pos 0) → getD numbers (suc i) (pos 0) ≤ℤ pos 31 → k ≡ natAbs (getD numbers (suc i) (pos 0))) where
   number-is : numberAt (take n numbers) (suc i) ≡ getD numbers (suc i) (pos 0)
   unfolding numberAt
@@ -108,19 +108,19 @@ module _ (s : Known) (w : Meant) (numbers : List ℤ) (n i k : ℕ) (inside : su
 
 module _ (s : Known) (ns : List ℤ) (k : ℕ) where
   adds-field : Adds s (lineWith field ns) (counted 0 0 0 0)
-  unfolding gadget byWord fieldLine counted
+  unfolding gadget kindOf fieldLine counted
   adds-field = record { values-are = refl; inputs-are = refl; cells-are = refl; rows-are = refl }
 
   adds-input : Adds s (lineWith input ns) (counted 1 1 1 0)
-  unfolding gadget byWord inputLine counted
+  unfolding gadget kindOf inputLine counted
   adds-input = record { values-are = refl; inputs-are = refl; cells-are = refl; rows-are = refl }
 
   adds-sum : Adds s (lineWith sum ns) (counted 1 0 1 1)
-  unfolding gadget byWord sumLine counted
+  unfolding gadget kindOf sumLine counted
   adds-sum = record { values-are = refl; inputs-are = refl; cells-are = refl; rows-are = refl }
 
   adds-span : sizeAt ns 2 ≡ k → Adds s (lineWith span ns) (counted 0 0 k (k + 1))
-  unfolding gadget byWord spanLine counted
+  unfolding gadget kindOf spanLine counted
   adds-span e = record {
     values-are = refl;
     inputs-are = refl;
@@ -129,7 +129,7 @@ module _ (s : Known) (ns : List ℤ) (k : ℕ) where
   }
 
   adds-relu : sizeAt ns 2 ≡ k → Adds s (lineWith relu ns) (counted 1 0 (k + 3) (k + 5))
-  unfolding gadget byWord reluLine counted
+  unfolding gadget kindOf reluLine counted
   adds-relu e = record {
     values-are = refl;
     inputs-are = refl;
@@ -138,7 +138,7 @@ module _ (s : Known) (ns : List ℤ) (k : ℕ) where
   }
 
   adds-which : sizeAt ns 3 ≡ k → Adds s (lineWith which ns) (counted 1 0 (k + 3) (k + 5))
-  unfolding gadget byWord whichLine counted
+  unfolding gadget kindOf whichLine counted
   adds-which e = record {
     values-are = refl;
     inputs-are = refl;
@@ -147,7 +147,7 @@ module _ (s : Known) (ns : List ℤ) (k : ℕ) where
   }
 
   adds-max : sizeAt ns 3 ≡ k → Adds s (lineWith max ns) (counted 1 0 (2 * k + 1) (2 * k + 3))
-  unfolding gadget byWord maxLine counted
+  unfolding gadget kindOf maxLine counted
   adds-max e = record {
     values-are = refl;
     inputs-are = refl;
@@ -156,7 +156,7 @@ module _ (s : Known) (ns : List ℤ) (k : ℕ) where
   }
 
   adds-root : sizeAt ns 2 ≡ k → Adds s (lineWith root ns) (counted 1 0 (4 * k + 2) (4 * k + 5))
-  unfolding gadget byWord rootLine counted
+  unfolding gadget kindOf rootLine counted
   adds-root e = record {
     values-are = refl;
     inputs-are = refl;
@@ -166,14 +166,33 @@ module _ (s : Known) (ns : List ℤ) (k : ℕ) where
 
 -- ---- as the code counts them, from a word and numbers of which the line has the first
 
+-- so many of the first numbers are the first of that many
+take-length : (m : ℕ) (ns : List ℤ) → take m ns ≡ take (length (take m ns)) ns
+take-length zero ns = refl
+take-length (suc m) [] = refl
+take-length (suc m) (n ∷ ns) = ap (λ (ms : List ℤ). n ∷ ms) (take-length m ns)
+
 -- a word that is followed by n numbers and no other count
-pub count-is : {v w : Word} (n m : ℕ) → v ≡ w → (isCount (wordOf w) m ≡ eqb m n) → isCount (wordOf v) m ≡ true → m ≡ n
-count-is {v} {w} n m q f e = eqb→eq m n (≡-test (eqb m n) (sym f ∙ ap (λ (u : Word). isCount (wordOf u) m) (sym q) ∙ e))
+abbrev HasCount : Word → (n : ℕ) → Type 0
+HasCount w n = (ns : List ℤ) → kindOf (wordOf w) .isCounted ns ≡ eqb (length ns) n
+
+module _ {v w : Word} (numbers : List ℤ) (n m : ℕ) (q : v ≡ w) (only : HasCount w n) (e : kindOf (wordOf v) .isCounted (take m numbers) ≡ true) where
+  so-many : length (take m numbers) ≡ n
+  so-many =
+      let counted = sym (only (take m numbers)) ∙ ap (λ (u : Word). kindOf (wordOf u) .isCounted (take m numbers)) (sym q) ∙ e in
+      eqb→eq (length (take m numbers)) n (≡-test (eqb (length (take m numbers)) n) counted)
+
+  -- whatever m is, the line's numbers are the first n
+  numbers-are : take m numbers ≡ take n numbers
+  numbers-are = take-length m numbers ∙ ap (λ (i : ℕ). take i numbers) so-many
+
+  pub count-is : m ≤ length numbers → m ≡ n
+  count-is few = sym (length-take-le m numbers few) ∙ so-many
 
 -- what a count tells of the line: how much it adds, which is at most one value, one input, 126 cells and 129 rows
 abbrev pub Sizes : Word → List ℤ → Counts → Type 0
 Sizes v numbers c = (
-    (n count : ℕ) (s : Known) → isCount (wordOf v) count ≡ true → Keeps n s (lineWith (wordOf v) (take count numbers))
+    (n count : ℕ) (s : Known) → kindOf (wordOf v) .isCounted (take count numbers) ≡ true → Keeps n s (lineWith (wordOf v) (take count numbers))
     → Adds s (lineWith (wordOf v) (take count numbers)) c
     ) × FewCounts c
 
@@ -200,38 +219,38 @@ abbrev pub Counted : List ℤ → (at k : ℕ) → Type 0
 Counted numbers at k = (k ≤ 31) × (pos 1 ≤ℤ getD numbers at (pos 0) → getD numbers at (pos 0) ≤ℤ pos 31 → k ≡ natAbs (getD numbers at (pos 0)))
 
 module _ {v : Word} {c : Counts} (numbers : List ℤ) (k : ℕ) where
-  digit-sizes : (w : Word) (m i values cells rows : ℕ) → v ≡ w → c ≡ counted values 0 cells rows → suc i < m → ((j : ℕ) → isCount (wordOf w) j ≡ eqb j m)
-      → (digitsOf (wordOf w) (take m numbers) ≡ digitsAt (take m numbers) i) → Counted numbers (suc i) k → values ≤ 1 → cells ≤ 126 → rows ≤ 129
+  digit-sizes : (w : Word) (m i values cells rows : ℕ) → v ≡ w → c ≡ counted values 0 cells rows → suc i < m → HasCount w m
+      → (kindOf (wordOf w) .digits (take m numbers) ≡ digitsAt (take m numbers) i) → Counted numbers (suc i) k → values ≤ 1 → cells ≤ 126 → rows ≤ 129
       → ((s : Known) → sizeAt (take m numbers) (suc i) ≡ k → Adds s (lineWith (wordOf w) (take m numbers)) (counted values 0 cells rows)) → Sizes v numbers c
   digit-sizes w m i values cells rows q e inside only is counts few-values few-cells few-rows adds = (
     λ n count s h kept.
-        let count-m : count ≡ m = count-is m count q (only count) h in
-        let here : Keeps n s (lineWith (wordOf w) (take m numbers)) = rw (q, count-m) at kept in
-        rw (q, e, count-m) (adds s (digits-counted s (wordOf w) numbers m i k inside is (counts .1) here)),
+        let first-m : take count numbers ≡ take m numbers = numbers-are numbers m count q only h in
+        let here : Keeps n s (lineWith (wordOf w) (take m numbers)) = rw (q, first-m) at kept in
+        rw (q, e, first-m) (adds s (digits-counted s (wordOf w) numbers m i k inside is (counts .1) here)),
     few values 0 cells rows e few-values (omega arith) few-cells few-rows,
   )
 
   pub span-sizes : v ≡ Span → c ≡ counted 0 0 k (k + 1) → Counted numbers 2 k → Sizes v numbers c
-  unfolding wordOf isCount digitsOf
+  unfolding wordOf kindOf
   span-sizes q e h = digit-sizes Span 4 1 0 k (k + 1) q e (omega arith) (λ j. refl) refl h (omega arith) (omega (arith, h .0)) (omega (arith, h .0))
       (λ s. adds-span s (take 4 numbers) k)
 
   pub relu-sizes : v ≡ Relu → c ≡ counted 1 0 (k + 3) (k + 5) → Counted numbers 2 k → Sizes v numbers c
-  unfolding wordOf isCount digitsOf
+  unfolding wordOf kindOf
   relu-sizes q e h = digit-sizes Relu 3 1 1 (k + 3) (k + 5) q e (omega arith) (λ j. refl) refl h (omega arith) (omega (arith, h .0)) (omega (arith, h .0))
       (λ s. adds-relu s (take 3 numbers) k)
 
   pub which-sizes : v ≡ Which → c ≡ counted 1 0 (k + 3) (k + 5) → Counted numbers 3 k → Sizes v numbers c
-  unfolding wordOf isCount digitsOf
+  unfolding wordOf kindOf
   which-sizes q e h = digit-sizes Which 4 2 1 (k + 3) (k + 5) q e (omega arith) (λ j. refl) refl h (omega arith) (omega (arith, h .0)) (omega (arith, h .0))
       (λ s. adds-which s (take 4 numbers) k)
 
   pub max-sizes : v ≡ Max → c ≡ counted 1 0 (2 * k + 1) (2 * k + 3) → Counted numbers 3 k → Sizes v numbers c
-  unfolding wordOf isCount digitsOf
+  unfolding wordOf kindOf
   max-sizes q e h = digit-sizes Max 4 2 1 (2 * k + 1) (2 * k + 3) q e (omega arith) (λ j. refl) refl h (omega arith) (omega (arith, h .0)) (omega (arith, h .0))
       (λ s. adds-max s (take 4 numbers) k)
 
   pub root-sizes : v ≡ Root → c ≡ counted 1 0 (4 * k + 2) (4 * k + 5) → Counted numbers 2 k → Sizes v numbers c
-  unfolding wordOf isCount digitsOf
+  unfolding wordOf kindOf
   root-sizes q e h = digit-sizes Root 3 1 1 (4 * k + 2) (4 * k + 5) q e (omega arith) (λ j. refl) refl h (omega arith) (omega (arith, h .0)) (omega (arith, h .0))
       (λ s. adds-root s (take 3 numbers) k)

@@ -8,13 +8,14 @@ use Prim.Native.Nat.{ℕ, _*_, _%_, _≤_, _<_}
 use native.Mathlib.Omega.{arith}
 use lib.Dec.{T, eqb, leb, ltb, eqb→eq}
 use lib.ListN.{length, getD, take, length-set}
-use lib.Seq.{getD-take}
+use lib.Seq.{getD-take, length-take-le}
 use lib.IntN.{ℤ, pos, negsuc, natAbs}
 use lib.Signed.{_≤ℤ_, nonNeg}
 use Rattle.algebra.proofs.Integer.Linear.{linear}
 use Rattle.algebra.proofs.Test.{left, ≡-test}
-use Rattle.meaning.specs.Line.{field, input, span, sum, relu, which, max, root, Line, lineOf, isCount, numberAt, sizeAt, digitsOf, namesOf}
-use Rattle.meaning.specs.Line.{Word as Meant}
+use Rattle.meaning.specs.Word.{field, input, span, sum, relu, which, max, root, numberAt, sizeAt, kindOf, mostNumbers}
+use Rattle.meaning.specs.Line.{Line, lineOf}
+use Rattle.meaning.specs.Word.{Word as Meant}
 use Rattle.meaning.specs.Known.{Known}
 use Rattle.meaning.specs.Gadget.Interface.{Gadget}
 use Rattle.meaning.specs.Gadget.Field.{fieldLine}
@@ -25,8 +26,8 @@ use Rattle.meaning.specs.Gadget.Relu.{reluLine}
 use Rattle.meaning.specs.Gadget.Which.{whichLine}
 use Rattle.meaning.specs.Gadget.Max.{maxLine}
 use Rattle.meaning.specs.Gadget.Root.{rootLine}
-use Rattle.meaning.specs.Meaning.{byWord, gadget, primeAfter, after}
-use Rattle.meaning.specs.Refusal.{all, onSome, isMade, isField, isPlaced, rulesWith, rulesWithin, rules, firstBroken}
+use Rattle.meaning.specs.Meaning.{gadget, primeAfter, after}
+use Rattle.meaning.specs.Refusal.{all, onSome, isMade, isPlaced, rulesWith, rulesWithin, rules, firstBroken}
 use Rattle.meaning.specs.Kept.{Keeps}
 use Rattle.meaning.proofs.Lines.{digits-ranged}
 use Rattle.text.specs.Word.{wordOf}
@@ -41,7 +42,6 @@ use Rattle.reader.specs.Size.{Adds}
 use Rattle.reader.specs.Step.{Step, stops, Grows, stepOf, stepOption, stepBytes}
 use Rattle.reader.specs.declared.state.Counts.{Counts}
 use Rattle.reader.proofs.Sizes.{length-groupRows, length-signRows, two-groups, four-groups}
-use Rattle.text.specs.Parsed.{mostNumbers}
 
 -- ---- the arguments of a line's reader
 
@@ -65,7 +65,7 @@ at-word s numbers x q e h = h ∙ ap₂ (λ (u : Word) (i : ℕ). lineTold s (li
 -- ---- a field line that comes later
 
 pub field-later : {v : Word} (s : Known) (ns : List ℤ) → v ≡ Field → refuses 4 ≡ lineTold s (lineWith (wordOf v) ns)
-unfolding lineTold toldBy toldOf rules rulesWith rulesWithin firstBroken onSome isPlaced isField wordOf
+unfolding lineTold toldBy toldOf rules rulesWith rulesWithin firstBroken onSome isPlaced kindOf wordOf
 field-later s ns q = rw q refl
 
 -- ---- the lines that narrow no ends
@@ -111,7 +111,7 @@ told-by-word s root ns h = refl
 
 pub grows-by-word : (s : Known) (size : Counts) (w : Meant) (ns : List ℤ) → NotSpan w → Keeps 1 s (lineWith w ns) → Adds s (lineWith w ns) size
     → Grows s (lineWith w ns) size
-unfolding gadget byWord inputLine sumLine reluLine whichLine maxLine rootLine after primeAfter isPlaced isField
+unfolding gadget kindOf inputLine sumLine reluLine whichLine maxLine rootLine after primeAfter isPlaced
 grows-by-word s size field ns h k a = absurd (k .placed)
 grows-by-word s size input ns h k a = record { adds = a; narrowed-is = refl; prime-is = refl }
 grows-by-word s size span ns h k a = absurd h
@@ -123,11 +123,13 @@ grows-by-word s size root ns h k a = record { adds = a; narrowed-is = refl; prim
 
 -- ---- a sum, whose count is odd; a span, which names a value
 
-pub sum-count : {v : Word} → v ≡ Sum → (m : ℕ) → isCount (wordOf v) m ≡ true → m % 2 ≡ 1
-unfolding isCount wordOf
-sum-count q m e =
-    let counted : isCount sum m ≡ true = ap (λ (u : Word). isCount (wordOf u) m) (sym q) ∙ e in
-    eqb→eq (m % 2) 1 (left (eqb (m % 2) 1) (leb m mostNumbers) (≡-test (isCount sum m) counted))
+pub sum-count : {v : Word} → v ≡ Sum → (numbers : List ℤ) (m : ℕ) → m ≤ length numbers → kindOf (wordOf v) .isCounted (take m numbers) ≡ true → m % 2 ≡ 1
+unfolding kindOf wordOf
+sum-count q numbers m few e =
+    let counted : kindOf sum .isCounted (take m numbers) ≡ true = ap (λ (u : Word). kindOf (wordOf u) .isCounted (take m numbers)) (sym q) ∙ e in
+    let n : ℕ = length (take m numbers) in
+    let odd : n % 2 ≡ 1 = eqb→eq (n % 2) 1 (left (eqb (n % 2) 1) (leb n mostNumbers) (≡-test (kindOf sum .isCounted (take m numbers)) counted)) in
+    rw (length-take-le m numbers few) at odd
 
 pub span-word : {v : Word} → v ≡ Span → wordOf v ≡ span
 unfolding wordOf
@@ -139,7 +141,7 @@ not-below (negsuc n) t = absurd t
 
 pub name-counted : {m : ℕ} (s : Known) (numbers : List ℤ) (n r : ℕ) → 0 < n → (pos 0 ≤ℤ getD numbers 0 (pos 0) → r ≡ natAbs (getD numbers 0 (pos 0)))
     → Keeps m s (lineWith span (take n numbers)) → sizeAt (take n numbers) 0 ≡ r
-unfolding sizeAt numberAt namesOf all isMade
+unfolding sizeAt numberAt kindOf all isMade
 name-counted s numbers n r h told kept =
     let is : getD (take n numbers) 0 (pos 0) ≡ getD numbers 0 (pos 0) = getD-take n numbers 0 (pos 0) h in
     let m : ℕ = length (s .known) in
@@ -166,8 +168,8 @@ abbrev pub Few : Known → Gadget → Type 0
 Few s g = (g .inputs ≤ length (g .made)) × (length (g .rows) ≤ 2 * g .width) × (length (g .narrowed) ≡ length (s .known))
 
 module _ (n : ℕ) (s : Known) where
-  few-by-word : (w : Meant) (ns : List ℤ) → Keeps n s (lineWith w ns) → Few s (byWord w s ns)
-  unfolding byWord fieldLine inputLine spanLine sumLine reluLine whichLine maxLine rootLine digitsOf sizeAt
+  few-by-word : (w : Meant) (ns : List ℤ) → Keeps n s (lineWith w ns) → Few s (kindOf w .gadget s ns)
+  unfolding kindOf fieldLine inputLine spanLine sumLine reluLine whichLine maxLine rootLine sizeAt
   few-by-word field ns k = (omega arith, omega arith, refl)
   few-by-word input ns k = (omega arith, omega arith, refl)
   few-by-word span ns k =

@@ -8,12 +8,12 @@ use lib.ListN.{length, getD, take, drop, drop-of-length-le}
 use lib.Seq.{drop-cons, length-take-le, getD-take}
 use lib.IntN.{ℤ, pos, natAbs}
 use Rattle.algebra.proofs.Test.{≡-test}
-use Rattle.meaning.specs.Line.{sum, numberAt, alternate, withoutFirst, namesOf, coefficientsOf, shiftsOf, digitsOf}
+use Rattle.meaning.specs.Word.{sum, numberAt, alternate, withoutFirst, kindOf}
 use Rattle.meaning.specs.Number.{half, lowest, highest, between, inRange}
 use Rattle.meaning.specs.Known.{Known, Ends, ends}
 use Rattle.meaning.specs.Gadget.Sum.{Term, termsOf, scaled, added, sumEnds, endsInRange, sumFits, sumLine}
-use Rattle.meaning.specs.Meaning.{byWord, gadget}
-use Rattle.meaning.specs.Refusal.{all, isField, isRanged, isMade}
+use Rattle.meaning.specs.Meaning.{gadget}
+use Rattle.meaning.specs.Refusal.{all, isRanged, isMade}
 use Rattle.meaning.proofs.Order.{between-iff}
 use Rattle.number.specs.Bounded.{Bounded}
 use Rattle.number.proofs.Bounded.{bounded-range, bounded-more}
@@ -174,25 +174,25 @@ module _ {p values cells : ℕ} {lows highs : List ℤ} (ready : Ready p values 
       (sum-step next (termsOf ns) (endsInRange p next) refl (λ q. sum-over ns (w .1) next q))
 
   module _ (numbers : List ℤ) (count : ℕ) (some : 0 < count) where
-    sum-plain : isField sum ≡ false
-    unfolding isField
+    sum-plain : kindOf sum .isField ≡ false
+    unfolding kindOf
     sum-plain = refl
 
     sum-ranged : isRanged (s .p) sum (take count numbers) ≡ all (inRange p)
         (getD numbers 0 (pos 0) ∷ alternate (drop 1 (take count numbers)))
-    unfolding isRanged all digitsOf shiftsOf coefficientsOf
+    unfolding isRanged all kindOf
     sum-ranged = rw (seen .prime, number-taken count numbers 0 some, without-drop (take count numbers) 0)
 
     pub sum-6 : all (inRange p) (getD numbers 0 (pos 0) ∷ alternate (drop 1 (take count numbers))) ≡ false
         → toldOf s (lineWith sum (take count numbers)) ≡ refuses 6
     unfolding toldOf gadget
-    sum-6 out = told-6 s sum (take count numbers) (byWord sum s (take count numbers) .made) sum-plain (sum-ranged ∙ out)
+    sum-6 out = told-6 s sum (take count numbers) (kindOf sum .gadget s (take count numbers) .made) sum-plain (sum-ranged ∙ out)
 
     module _ (ranged : all (inRange p) (getD numbers 0 (pos 0) ∷ alternate (drop 1 (take count numbers))) ≡ true) {n : ℕ}
         (early : n ≡ earlyBroken (all (isMade values) (alternate (drop 2 (take count numbers)))) values 1 cells 1) where
       early-too : n ≡ earlyBroken (areNamed s sum (take count numbers)) (length (s .known))
-          (length (byWord sum s (take count numbers) .made)) (s .cells) (byWord sum s (take count numbers) .width)
-      unfolding byWord sumLine namesOf
+          (length (kindOf sum .gadget s (take count numbers) .made)) (s .cells) (kindOf sum .gadget s (take count numbers) .width)
+      unfolding kindOf sumLine
       early-too = rw (
         known-count ready seen,
         seen .cells-are,
@@ -203,18 +203,18 @@ module _ {p values cells : ℕ} {lows highs : List ℤ} (ready : Ready p values 
 
       pub sum-early : (n ≡ 0 → ⊥) → toldOf s (lineWith sum (take count numbers)) ≡ refuses n
       unfolding toldOf gadget
-      sum-early h = told-early s sum (take count numbers) (byWord sum s (take count numbers) .made) sum-plain
+      sum-early h = told-early s sum (take count numbers) (kindOf sum .gadget s (take count numbers) .made) sum-plain
           (sum-ranged ∙ ranged) early-too h
 
       pub sum-late : n ≡ 0 → toldOf s (lineWith sum (take count numbers))
           ≡ sumTold p lows highs (ends (getD numbers 0 (pos 0)) (getD numbers 0 (pos 0))) (termsOf (drop 1 (take count numbers)))
-      unfolding toldOf gadget byWord endsInRange
+      unfolding toldOf gadget kindOf endsInRange
       sum-late none =
           let ns : List ℤ = take count numbers in
           let c0 : ℤ = getD numbers 0 (pos 0) in
           let first = all-first (inRange p) c0 (alternate (drop 1 ns)) ranged in
           let named = early-named (all (isMade values) (alternate (drop 2 ns))) values 1 cells 1 early none in
-          told-late s sum ns (byWord sum s ns .made) sum-plain (sum-ranged ∙ ranged) early-too none
+          told-late s sum ns (kindOf sum .gadget s ns .made) sum-plain (sum-ranged ∙ ranged) early-too none
           ∙ sum-gadget s (numberAt ns 0) (termsOf (withoutFirst ns))
           ∙ rw (number-taken count numbers 0 some, without-drop ns 0)
           (sum-over (drop 1 ns) (rw (without-drop ns 1) named) (ends c0 c0) (rw first))

@@ -35,7 +35,7 @@ use Rattle.reader.proofs.Values.{known-long}
 use Rattle.reader.proofs.Ordered.{Ordered, ordered-after}
 use Rattle.reader.proofs.Steps.{few}
 use Rattle.reader.proofs.Stopping.{stopped-at, gone-at, step-later}
-use Rattle.text.specs.Parsed.{mostNumbers}
+use Rattle.meaning.specs.Word.{mostNumbers}
 
 -- what holds before line n, which starts at `at`
 pub record Walked (list : List ℕ) (start p : ℕ) (numbers lows highs : List ℤ) (places : List ℕ) (c : Counts) (at n : ℕ) : Type 0 where

@@ -7,7 +7,7 @@ use lib.Dec.{leb}
 use lib.ListN.{getD}
 use lib.IntN.{ℤ, pos, natAbs, _-ℤ_}
 use lib.Signed.{leZ}
-use Rattle.meaning.specs.Line.{Digits as Meant}
+use Rattle.meaning.specs.Word.{Digits as Meant}
 use Rattle.meaning.specs.Known.{ends, larger, smaller}
 use Rattle.meaning.specs.Known.{Ends as KnownEnds}
 use Rattle.meaning.specs.Number.{half}

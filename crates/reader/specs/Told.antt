@@ -2,7 +2,8 @@
 use Prim.Native.Nat.{ℕ}
 use mathlib.Core.List.{List, [], _∷_}
 use lib.IntN.{ℤ}
-use Rattle.meaning.specs.Line.{Word, field, input, span, sum, relu, which, max, root, Line, numberAt, sizeAt}
+use Rattle.meaning.specs.Word.{Word, field, input, span, sum, relu, which, max, root, numberAt, sizeAt}
+use Rattle.meaning.specs.Line.{Line}
 use Rattle.meaning.specs.Known.{Ends, ends, Known, endsOf}
 use Rattle.meaning.specs.Gadget.Span.{shared}
 use Rattle.meaning.specs.Meaning.{gadget}

@@ -3,7 +3,7 @@ use super::rule::Made;
 use super::rule::early_broken;
 ghost use mathlib.Core.Path.{_≡_};
 ghost use mathlib.Core.List.{[]};
-ghost use Rattle.meaning.specs.Line.{input};
+ghost use Rattle.meaning.specs.Word.{input};
 ghost use Rattle.meaning.specs.Known.{Known};
 ghost use Rattle.reader.specs.State.{Ready, Seen};
 ghost use Rattle.reader.specs.Told.{toldOf, madeSeen, lineWith};

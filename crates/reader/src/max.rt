@@ -18,7 +18,7 @@ ghost use mathlib.Core.List.{[], _∷_};
 ghost use Prim.Native.Nat.{_≤_};
 ghost use lib.IntN.{pos};
 ghost use lib.ListN.{length, take};
-ghost use Rattle.meaning.specs.Line.{max};
+ghost use Rattle.meaning.specs.Word.{max};
 ghost use Rattle.meaning.specs.Known.{Known, ends, larger, above, digitRule};
 ghost use Rattle.reader.specs.State.{Small, Ready, Seen, greatest};
 ghost use Rattle.reader.specs.Told.{toldOf, madeSeen, makes, lineWith};

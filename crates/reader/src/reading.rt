@@ -13,14 +13,14 @@ ghost use lib.ListN.{length};
 ghost use Rattle.meaning.specs.Line.{lineOf};
 ghost use mathlib.Core.Bool.{true};
 ghost use Rattle.meaning.specs.Text.{isEnded};
-ghost use Rattle.meaning.specs.Refusal.{isField, plain, readFrom, reading};
+ghost use Rattle.meaning.specs.Word.{kindOf, mostNumbers};
+ghost use Rattle.meaning.specs.Refusal.{plain, readFrom, reading};
 ghost use Rattle.meaning.specs.Number.{OddPrime};
 ghost use Rattle.text.specs.Place.{lineAt, linesFrom};
 ghost use Rattle.meaning.specs.Reply.{readReply};
 ghost use Rattle.text.specs.Word.{wordOf};
 ghost use Rattle.reader.specs.State.{greatest};
 ghost use Rattle.reader.specs.Read.{only, surveyOf, surveySeen, PrimeFound, primeIn, firstOption, firstSeen, SecondLine, answerSeen, Exact};
-ghost use Rattle.text.specs.Parsed.{mostNumbers};
 
 // p of line 0 and where line 1 starts, or the number of its refusal.
 enum First {
@@ -41,7 +41,7 @@ pub enum Answer {
 }
 
 fn is_field(word: Word) -> bool
-    ensures { λ r. ⌜ r ≡ isField (wordOf word) ⌝ }
+    ensures { λ r. ⌜ r ≡ kindOf (wordOf word) .isField ⌝ }
 {
     match word {
         Word::Field => true,

@@ -13,7 +13,7 @@ ghost use mathlib.Core.List.{[], _∷_};
 ghost use Prim.Native.Nat.{_≤_};
 ghost use lib.IntN.{pos};
 ghost use lib.ListN.{length, take};
-ghost use Rattle.meaning.specs.Line.{relu};
+ghost use Rattle.meaning.specs.Word.{relu};
 ghost use Rattle.meaning.specs.Known.{Known, ends, larger};
 ghost use Rattle.reader.specs.State.{Small, Ready, Seen};
 ghost use Rattle.reader.specs.Told.{toldOf, madeSeen, makes, lineWith};

@@ -8,7 +8,7 @@ use number::power::capped_power;
 ghost use mathlib.Core.Path.{_≡_};
 ghost use Prim.Native.Nat.{_^_, _≤_};
 ghost use lib.ListN.{length, take};
-ghost use Rattle.meaning.specs.Line.{root};
+ghost use Rattle.meaning.specs.Word.{root};
 ghost use Rattle.meaning.specs.Known.{Known};
 ghost use Rattle.reader.specs.State.{Small, Ready, Seen};
 ghost use Rattle.reader.specs.Told.{toldOf, madeSeen, lineWith};

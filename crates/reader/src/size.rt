@@ -8,13 +8,12 @@ ghost use Prim.Native.Nat.{ℕ, _≤_};
 ghost use lib.ListN.{length, take};
 ghost use lib.IntN.{pos, natAbs};
 ghost use lib.Signed.{_≤ℤ_};
-ghost use Rattle.meaning.specs.Line.{isCount};
+ghost use Rattle.meaning.specs.Word.{kindOf, mostNumbers};
 ghost use Rattle.meaning.specs.Known.{Known};
 ghost use Rattle.meaning.specs.Kept.{Keeps};
 ghost use Rattle.text.specs.Word.{wordOf};
 ghost use Rattle.reader.specs.Told.{lineWith};
 ghost use Rattle.reader.specs.Size.{counted, Adds};
-ghost use Rattle.text.specs.Parsed.{mostNumbers};
 
 // A number that is not negative, as a count: 0 where it is negative.
 pub fn natural(z: i64) -> usize
@@ -48,7 +47,7 @@ fn counts_of(values: usize, inputs: usize, cells: usize, rows: usize) -> Counts
 // How much a line adds to the counts of a list: its values, inputs, cells and rows. The walks over a list that was read go by it.
 pub fn line_size(word: Word, numbers: &[i64]) -> Counts
     requires { ⌜ length (now numbers) ≡ mostNumbers ⌝ }
-    ensures told { λ r. ⌜ ((n count : ℕ) (s : Known) → isCount (wordOf word) count ≡ true
+    ensures told { λ r. ⌜ ((n count : ℕ) (s : Known) → kindOf (wordOf word) .isCounted (take count (now (numbers .entry))) ≡ true
         → Keeps n s (lineWith (wordOf word) (take count (now (numbers .entry)))) → Adds s (lineWith (wordOf word) (take count (now (numbers .entry)))) r) ⌝ }
     ensures small { λ r. ⌜ (r .values ≤ 1) × (r .inputs ≤ 1) × (r .cells ≤ 126) × (r .rows ≤ 129) ⌝ }
 {

@@ -17,7 +17,7 @@ ghost use mathlib.Core.Bool.{cond};
 ghost use Prim.Native.Nat.{_-_, _≤_};
 ghost use lib.IntN.{pos, _+ℤ_};
 ghost use lib.ListN.{length, take};
-ghost use Rattle.meaning.specs.Line.{span};
+ghost use Rattle.meaning.specs.Word.{span};
 ghost use Rattle.meaning.specs.Known.{Known, ends, larger, smaller, digitRule};
 ghost use Rattle.meaning.specs.Gadget.Span.{shared};
 ghost use Rattle.number.specs.Bounded.{Bounded};

@@ -20,13 +20,12 @@ ghost use mathlib.Core.Bool.{true};
 ghost use Prim.Native.Nat.{ℕ, _≤_};
 ghost use mathlib.Core.List.{List};
 ghost use lib.ListN.{length, take};
-ghost use Rattle.meaning.specs.Line.{isCount};
+ghost use Rattle.meaning.specs.Word.{kindOf, mostNumbers};
 ghost use Rattle.meaning.specs.Known.{Known};
 ghost use Rattle.text.specs.Word.{wordOf};
 ghost use Rattle.reader.specs.State.{Small, Ready, Seen, stateOf};
 ghost use Rattle.reader.specs.Told.{lineTold, madeSeen, lineWith};
 ghost use Rattle.reader.specs.Step.{WithinLimits, Left, placedAt, valuesIn, stepSeen, stepOf};
-ghost use Rattle.text.specs.Parsed.{mostNumbers};
 ghost use Rattle.meaning.specs.Refusal.{valueLimit};
 
 // The ends of the value that a line makes, or narrows, or the number of the first rule that it breaks.
@@ -40,7 +39,7 @@ fn read_ends(
     lows: &[i64],
     highs: &[i64],
 ) -> Made
-    requires { ⌜ Ready p values cells (now lows) (now highs) × (length (now numbers) ≡ mostNumbers) × (isCount (wordOf word) count ≡ true) × (count ≤ mostNumbers)
+    requires { ⌜ Ready p values cells (now lows) (now highs) × (length (now numbers) ≡ mostNumbers) × (kindOf (wordOf word) .isCounted (take count (now numbers)) ≡ true) × (count ≤ mostNumbers)
         × Small count (now numbers) ⌝ }
     ensures { λ r. ⌜ ((s : Known) → Seen s p values cells (now (lows .entry)) (now (highs .entry))
         → madeSeen r ≡ lineTold s (lineWith (wordOf word) (take count (now (numbers .entry))))) ⌝ }
@@ -68,7 +67,7 @@ pub fn step(
     highs: &mut [i64],
 ) -> Stepped
     requires { ⌜ Ready p (counts .values) (counts .cells) (now lows) (now highs) × WithinLimits counts (length (now lows)) (length (now highs))
-        × (length (now numbers) ≡ mostNumbers) × (isCount (wordOf word) count ≡ true) × (count ≤ mostNumbers) × Small count (now numbers) ⌝ }
+        × (length (now numbers) ≡ mostNumbers) × (kindOf (wordOf word) .isCounted (take count (now numbers)) ≡ true) × (count ≤ mostNumbers) × Small count (now numbers) ⌝ }
     ensures told { λ r. ⌜ ((s : Known) (places : List ℕ) → length places ≡ valueLimit → s ≡ stateOf p counts (now (lows .entry)) (now (highs .entry)) places
         → stepSeen p r (now (lows .exit)) (now (highs .exit)) (placedAt counts places) ≡ stepOf s (lineWith (wordOf word) (take count (now (numbers .entry))))) ⌝ }
     ensures held { λ r. ⌜ (valuesIn r ≤ valueLimit) × Left r (now (lows .entry)) (now (lows .exit)) × Left r (now (highs .entry)) (now (highs .exit)) ⌝ }

@@ -18,7 +18,7 @@ ghost use mathlib.Core.List.{_∷_};
 ghost use Prim.Native.Nat.{_%_, _≤_, _<_};
 ghost use lib.IntN.{pos};
 ghost use lib.ListN.{length, getD, take, drop};
-ghost use Rattle.meaning.specs.Line.{sum, alternate};
+ghost use Rattle.meaning.specs.Word.{sum, alternate, mostNumbers};
 ghost use Rattle.meaning.specs.Number.{inRange};
 ghost use Rattle.meaning.specs.Known.{Known, ends};
 ghost use Rattle.meaning.specs.Refusal.{all, isMade, valueLimit};
@@ -28,7 +28,6 @@ ghost use Rattle.reader.specs.State.{Small, Ready, Seen, greatestProduct
 ghost use Rattle.reader.specs.Told.{toldOf, madeSeen, lineWith};
 ghost use Rattle.reader.specs.Rule.{endsSeen, BoundedEnds};
 ghost use Rattle.reader.specs.Sum.{sumTold, Scaled, Added};
-ghost use Rattle.text.specs.Parsed.{mostNumbers};
 
 // c0, then count / 2 pairs of a coefficient and a name.
 pub fn read_sum(

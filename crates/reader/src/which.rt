@@ -9,7 +9,7 @@ use super::rule::sign_rule;
 ghost use mathlib.Core.Path.{_≡_};
 ghost use Prim.Native.Nat.{_≤_};
 ghost use lib.ListN.{length, take};
-ghost use Rattle.meaning.specs.Line.{which};
+ghost use Rattle.meaning.specs.Word.{which};
 ghost use Rattle.meaning.specs.Known.{Known};
 ghost use Rattle.reader.specs.State.{Small, Ready, Seen};
 ghost use Rattle.reader.specs.Told.{toldOf, madeSeen, lineWith};

@@ -37,7 +37,7 @@ use Rattle.service.proofs.Listed.{same-lines, same-last}
 use Rattle.service.proofs.Standing.{stands-first, nothing-left, line-kept, prime-here, cells-inside}
 use Rattle.service.proofs.Places.{placed-first, place-inside}
 use Rattle.service.proofs.Scan.{first-from, none-from, found-inside}
-use Rattle.text.specs.Parsed.{mostNumbers}
+use Rattle.meaning.specs.Word.{mostNumbers}
 
 -- ---- the cells
 

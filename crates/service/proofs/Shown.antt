@@ -18,7 +18,7 @@ use Rattle.service.specs.Show.{IsStretch}
 use Rattle.service.specs.declared.showing.Stretch.{Stretch}
 use Rattle.service.proofs.Listed.{same-lines, same-last}
 use Rattle.service.proofs.Standing.{stands-first, nothing-left}
-use Rattle.text.specs.Parsed.{mostNumbers}
+use Rattle.meaning.specs.Word.{mostNumbers}
 
 -- before line n, the line that is asked for is still to come
 pub record Showing (list : List ℕ) (line : ℕ) (numbers : List ℤ) (c : Counts) (at n : ℕ) : Type 0 where

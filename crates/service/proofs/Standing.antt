@@ -10,11 +10,12 @@ use lib.Dec.{T, leb→le}
 use lib.IntN.{ℤ}
 use lib.ListN.{length, take, length-append}
 use Rattle.meaning.specs.Text.{isEnded}
-use Rattle.meaning.specs.Line.{Line, lineOf, isCount}
-use Rattle.meaning.specs.Line.{Word as Meant}
+use Rattle.meaning.specs.Word.{kindOf, mostNumbers}
+use Rattle.meaning.specs.Line.{Line, lineOf}
+use Rattle.meaning.specs.Word.{Word as Meant}
 use Rattle.meaning.specs.Known.{Known, fresh}
 use Rattle.meaning.specs.Meaning.{gadget, after}
-use Rattle.meaning.specs.Refusal.{valueLimit, cellLimit, isField, isPlaced, read, reading}
+use Rattle.meaning.specs.Refusal.{valueLimit, cellLimit, isPlaced, read, reading}
 use Rattle.meaning.specs.Kept.{Kept, Keeps}
 use Rattle.meaning.proofs.Kept.{keeps-all}
 use Rattle.meaning.proofs.Lines.{sound-fresh, sound-after}
@@ -22,7 +23,7 @@ use Rattle.meaning.proofs.Induction.{prime-kept, cells-grow}
 use Rattle.meaning.proofs.Reading.{reads-exactly, read-kept}
 use Rattle.text.specs.Word.{wordOf}
 use Rattle.text.specs.Place.{endOf, lineAt, linesFrom}
-use Rattle.text.specs.Parsed.{LineRead, mostNumbers, NextAfter}
+use Rattle.text.specs.Parsed.{LineRead, NextAfter}
 use Rattle.text.specs.declared.Word.{Word}
 use Rattle.text.specs.declared.Parsed.{Parsed}
 use Rattle.text.specs.declared.Parsed.the-variants.{NoLine}
@@ -58,7 +59,7 @@ next-left line lines (l ∷ ls) e = (l, ls, refl, cc, cc)
 -- ---- p
 
 -- a line that is not a field line comes after line 0
-later-line : (n : ℕ) (w : Meant) → isField w ≡ false → T (isPlaced n w) → 1 ≤ n
+later-line : (n : ℕ) (w : Meant) → kindOf w .isField ≡ false → T (isPlaced n w) → 1 ≤ n
 unfolding isPlaced
 later-line zero w e t = absurd (subst T e t)
 later-line (suc n) w e t = omega arith
@@ -181,20 +182,20 @@ module _ {list : List ℕ} {c : Counts} {at : ℕ} (a : AtLine list c at) {befor
   line-is-there is = line-there (a .stands) ended (a .inside) parsed long is
 
   pub took : {word : Word} {count place : ℕ} → r ≡ Spelt word count place → NextAfter list at r → (d : Counts)
-      → ((n k : ℕ) (s : Known) → isCount (wordOf word) k ≡ true → Keeps n s (lineWith (wordOf word) (take k numbers)) → Counted s c
+      → ((n k : ℕ) (s : Known) → kindOf (wordOf word) .isCounted (take k numbers) ≡ true → Keeps n s (lineWith (wordOf word) (take k numbers)) → Counted s c
       → Counted (after s (lineWith (wordOf word) (take k numbers))) d)
       → d .values ≤ c .values + 1
       → Took a numbers (record { word = word; count = count; counts = d; next = place })
-  took is after-it d told more = let e = line-next list at after-it is in rw e (record {
+  took {count = count} is after-it d told more = let e = line-next list at after-it is in rw e (record {
     rest = rest (a .stands) ended (a .inside) parsed long;
     left-is = left-is (a .stands) ended (a .inside) parsed long is;
     kept = kept-here (a .stands) ended (a .inside) parsed long is;
     next = stands-next (a .stands) ended (a .inside) parsed long is d
-        (told _ _ _ (line-counted parsed is long) (keeps (a .stands) ended (a .inside) parsed long is) (a .stands .counted));
+        (told _ count _ (line-counted parsed is) (keeps (a .stands) ended (a .inside) parsed long is) (a .stands .counted));
     one-more = more;
     further = omega arith;
     long = parsed .left .kept ∙ long;
-    counted = line-counted parsed is long;
+    counted = line-counted parsed is;
     few = line-most parsed is;
     small = numbers-small (a .stands) ended (a .inside) parsed long is;
   })
@@ -205,7 +206,7 @@ module _ {list : List ℕ} {c : Counts} {at : ℕ} {a : AtLine list c at} {numbe
   pub keeps-rules : Keeps (a .number) (a .state) (taken numbers t)
   keeps-rules = keeps-all (a .number) (a .state) (taken numbers t) (took .kept .0)
 
-  pub prime-here : isField (wordOf (t .word)) ≡ false → a .state .p ≡ a .listed .last .p
+  pub prime-here : kindOf (wordOf (t .word)) .isField ≡ false → a .state .p ≡ a .listed .last .p
   prime-here plain =
       same-prime (a .number) (a .state) (a .listed .last) (a .left) (later-line (a .number) (wordOf (t .word)) plain (keeps-rules .placed))
       (a .stands .kept)

@@ -38,7 +38,7 @@ use Rattle.service.specs.Make.{withValue, isTrue, WorkAsked, WorkDone}
 use Rattle.service.specs.declared.working.Working.the-variants.{AllTrue, FalseAt}
 use Rattle.service.proofs.Listed.{same-lines, same-last}
 use Rattle.service.proofs.Standing.{stands-first, nothing-left, known-last, line-kept}
-use Rattle.text.specs.Parsed.{mostNumbers}
+use Rattle.meaning.specs.Word.{mostNumbers}
 
 -- ---- the value that a line makes
 

@@ -12,7 +12,8 @@ use lib.ListN.{length, getD, take, drop, length-append, length-take, length-drop
 use lib.Seq.{take-add, take-take, take-at, drop-at, getD-drop, drop-drop, length-take-le}
 use borrow.Rule.Slice.PartMut.{putMid}
 use Rattle.meaning.specs.Number.{inRange, remainder}
-use Rattle.meaning.specs.Line.{Word, field, input, span, sum, relu, which, max, root, Line}
+use Rattle.meaning.specs.Word.{Word, field, input, span, sum, relu, which, max, root, kindOf, mostNumbers}
+use Rattle.meaning.specs.Line.{Line}
 use Rattle.meaning.specs.Known.{Known, fresh, Within}
 use Rattle.meaning.specs.Gadget.Interface.{Gadget}
 use Rattle.meaning.specs.Gadget.Field.{fieldLine}
@@ -23,7 +24,7 @@ use Rattle.meaning.specs.Gadget.Relu.{reluLine}
 use Rattle.meaning.specs.Gadget.Which.{whichLine}
 use Rattle.meaning.specs.Gadget.Max.{maxLine}
 use Rattle.meaning.specs.Gadget.Root.{rootLine}
-use Rattle.meaning.specs.Meaning.{byWord, gadget, after}
+use Rattle.meaning.specs.Meaning.{gadget, after}
 use Rattle.meaning.specs.Work.{Worked, false-at, true-table, withCells, workFrom, work}
 use Rattle.meaning.specs.Kept.{Kept}
 use Rattle.meaning.proofs.Kept.{keeps-all}
@@ -39,7 +40,6 @@ use Rattle.service.specs.declared.walk.Taken.{Taken}
 use Rattle.service.specs.Make.{WriteAsked}
 use Rattle.service.proofs.Listed.{same-lines, same-last}
 use Rattle.service.proofs.Standing.{stands-first, nothing-left, known-last, line-kept, prime-here, cells-inside}
-use Rattle.text.specs.Parsed.{mostNumbers}
 use Rattle.meaning.specs.Refusal.{valueLimit}
 use Rattle.meaning.proofs.Part.{written-after}
 
@@ -60,8 +60,8 @@ values-extended (l ∷ ls) n s vs xs ws cs e =
 
 -- an input is the value of its line, and no other line looks at the next input
 module _ (s : Known) (ns vs : List ℤ) (x y : ℤ) where
-  values-as-many : (w : Word) → length (byWord w s ns .values vs x) ≡ length (byWord w s ns .values vs y)
-  unfolding byWord fieldLine inputLine spanLine sumLine reluLine whichLine maxLine rootLine
+  values-as-many : (w : Word) → length (kindOf w .gadget s ns .values vs x) ≡ length (kindOf w .gadget s ns .values vs y)
+  unfolding kindOf fieldLine inputLine spanLine sumLine reluLine whichLine maxLine rootLine
   values-as-many field = refl
   values-as-many input = refl
   values-as-many span = refl
@@ -71,8 +71,8 @@ module _ (s : Known) (ns vs : List ℤ) (x y : ℤ) where
   values-as-many max = refl
   values-as-many root = refl
 
-  cells-by-values : (w : Word) → byWord w s ns .values vs x ≡ byWord w s ns .values vs y → byWord w s ns .cells vs x ≡ byWord w s ns .cells vs y
-  unfolding byWord fieldLine inputLine spanLine sumLine reluLine whichLine maxLine rootLine
+  cells-by-values : (w : Word) → kindOf w .gadget s ns .values vs x ≡ kindOf w .gadget s ns .values vs y → kindOf w .gadget s ns .cells vs x ≡ kindOf w .gadget s ns .cells vs y
+  unfolding kindOf fieldLine inputLine spanLine sumLine reluLine whichLine maxLine rootLine
   cells-by-values field e = refl
   cells-by-values input e = ap (λ (zs : List ℤ). remainder (s .p) (getD zs 0 (pos 0)) ∷ []) e
   cells-by-values span e = refl

@@ -8,7 +8,8 @@ use lib.Dec.{ltb}
 use lib.IntN.{ℤ}
 use lib.ListN.{length, take, set}
 use Rattle.algebra.specs.Digits.{Below}
-use Rattle.meaning.specs.Line.{Line, lineOf, isCount}
+use Rattle.meaning.specs.Word.{kindOf, mostNumbers}
+use Rattle.meaning.specs.Line.{Line, lineOf}
 use Rattle.meaning.specs.Known.{Known}
 use Rattle.meaning.specs.Meaning.{after}
 use Rattle.meaning.specs.Refusal.{read, reading, cellLimit, valueLimit}
@@ -20,7 +21,6 @@ use Rattle.reader.specs.State.{greatest, Small}
 use Rattle.reader.specs.Told.{lineWith}
 use Rattle.reader.specs.declared.state.Counts.{Counts}
 use Rattle.service.specs.declared.walk.Taken.{Taken}
-use Rattle.text.specs.Parsed.{mostNumbers}
 
 -- the counts are those of what is known
 pub record Counted (s : Known) (c : Counts) : Type 0 where
@@ -85,7 +85,7 @@ pub record Took {list : List ℕ} {c : Counts} {at : ℕ} (a : AtLine list c at)
   pub one-more : t .counts .values ≤ c .values + 1
   pub further : at < t .next
   pub long : length numbers ≡ mostNumbers
-  pub counted : isCount (wordOf (t .word)) (t .count) ≡ true
+  pub counted : kindOf (wordOf (t .word)) .isCounted (take (t .count) numbers) ≡ true
   pub few : t .count ≤ mostNumbers
   pub small : Small (t .count) numbers
 

@@ -9,14 +9,13 @@ ghost use mathlib.Core.Path.{_≡_};
 ghost use mathlib.Core.Bool.{true};
 ghost use Prim.Native.Nat.{ℕ, _+_, _≤_};
 ghost use lib.ListN.{length, take};
-ghost use Rattle.meaning.specs.Line.{isCount};
+ghost use Rattle.meaning.specs.Word.{kindOf, mostNumbers};
 ghost use Rattle.meaning.specs.Known.{Known};
 ghost use Rattle.meaning.specs.Meaning.{after};
 ghost use Rattle.meaning.specs.Kept.{Keeps};
 ghost use Rattle.text.specs.Word.{wordOf};
 ghost use Rattle.reader.specs.Told.{lineWith};
 ghost use Rattle.service.specs.Walk.{Counted, Few, AtLine, Took, withPlace};
-ghost use Rattle.text.specs.Parsed.{mostNumbers};
 ghost use Rattle.meaning.specs.Refusal.{valueLimit};
 
 // A line of the list: its word, how many numbers it has, the counts after it, and where the next line starts.
@@ -52,7 +51,7 @@ pub fn take_line(list: &[u8], at: usize, counts: Counts, numbers: &mut [i64]) ->
 // The counts after a line.
 fn counts_after(counts: Counts, word: Word, numbers: &[i64]) -> Counts
     requires { ⌜ Few counts × (length (now numbers) ≡ mostNumbers) ⌝ }
-    ensures told { λ r. ⌜ ((n count : ℕ) (s : Known) → isCount (wordOf word) count ≡ true
+    ensures told { λ r. ⌜ ((n count : ℕ) (s : Known) → kindOf (wordOf word) .isCounted (take count (now (numbers .entry))) ≡ true
         → Keeps n s (lineWith (wordOf word) (take count (now (numbers .entry)))) → Counted s counts
         → Counted (after s (lineWith (wordOf word) (take count (now (numbers .entry))))) r) ⌝ }
     ensures more { λ r. ⌜ (counts .values ≤ r .values) × (r .values ≤ counts .values + 1) ⌝ }

@@ -7,11 +7,10 @@ use native.Mathlib.Omega.{arith}
 use lib.IntN.{ℤ, pos, _-ℤ_}
 use lib.ListN.{length, getD, take, drop}
 use lib.Seq.{drop-cons}
-use Rattle.meaning.specs.Line.{Word, field, input, span, sum, relu, which, max, root}
+use Rattle.meaning.specs.Word.{Word, field, input, span, sum, relu, which, max, root, kindOf}
 use Rattle.meaning.specs.Number.{remainder, OddPrime}
 use Rattle.meaning.specs.Known.{Known, larger}
-use Rattle.meaning.specs.Meaning.{byWord, gadget}
-use Rattle.meaning.specs.Refusal.{isField}
+use Rattle.meaning.specs.Meaning.{gadget}
 use Rattle.meaning.specs.Gadget.Interface.{Gadget}
 use Rattle.meaning.specs.Gadget.Digits.{groupCells, valueAt}
 use Rattle.meaning.specs.Gadget.Field.{fieldLine}
@@ -33,7 +32,7 @@ use Rattle.table.proofs.LineValues.{named, value-named}
 
 module _ {p : ℕ} {w : Word} {numbers : List ℤ} {count : ℕ} {values : List ℤ} {known : ℕ} {part : List ℕ}
     (a : CellsAsked p w numbers count values known part) where
-  pub prime-asked : isField w ≡ false → OddPrime p
+  pub prime-asked : kindOf w .isField ≡ false → OddPrime p
   prime-asked e = subst OddPrime (a .prime e) (prime-is (a .asked .kept) e)
 
   name-known : {i : ℕ} → NameAt (knownCount (a .asked .kept)) numbers i → size numbers i < known
@@ -102,7 +101,7 @@ module _ {numbers values : List ℤ} {u v : ℤ} {b k : ℕ} (first : u ≡ name
 -- ---- lines without a digit group
 
 pub field-cells-told : (p : ℕ) (numbers values : List ℤ) (known : ℕ) (part : List ℕ) → CellsTold p field numbers 1 values known part part
-unfolding gadget byWord fieldLine
+unfolding gadget kindOf fieldLine
 field-cells-told p numbers values known part a next made = refl
 
 -- a gadget that makes one value, whose cell is the line's only one
@@ -114,11 +113,11 @@ pub record OneCell (p : ℕ) (g : Gadget) : Type 0 where
   pub cells-are : (vs : List ℤ) (next : ℤ) → g .cells vs next ≡ remainder p (value vs next) ∷ []
 
 pub input-cell : {numbers : List ℤ} (l : KeptLine input numbers 0) → OneCell (l .state .p) (gadgetOf l)
-unfolding gadget byWord inputLine
+unfolding gadget kindOf inputLine
 input-cell l = record { one-made = refl; one-wide = refl; value = λ vs next. next; values-are = λ vs next. refl; cells-are = λ vs next. refl }
 
 pub sum-cell : {numbers : List ℤ} {count : ℕ} (l : KeptLine sum numbers count) → OneCell (l .state .p) (gadgetOf l)
-unfolding gadget byWord sumLine
+unfolding gadget kindOf sumLine
 sum-cell {numbers} {count} l = record {
   one-made = refl;
   one-wide = refl;
@@ -136,7 +135,7 @@ module _ {p : ℕ} {w : Word} {numbers : List ℤ} {count : ℕ} {values : List 
   pub own-room : CellsAsked p w numbers count values known part → 0 < length part
   own-room a = omega (arith, a .room, cell (a .asked .kept) .one-wide)
 
-  pub own-cell-told : {after : List ℕ} {x : ℤ} → isField w ≡ false → x ≡ getD values known (pos 0) → after ≡ remainder p x ∷ drop 1 part
+  pub own-cell-told : {after : List ℕ} {x : ℤ} → kindOf w .isField ≡ false → x ≡ getD values known (pos 0) → after ≡ remainder p x ∷ drop 1 part
       → CellsTold p w numbers count values known part after
   own-cell-told late e h a next made =
       let c = cell (a .asked .kept) in

@@ -9,7 +9,7 @@ use lib.IntN.{ℤ, pos}
 use lib.ListN.{length, getD, take}
 use lib.Seq.{getD-take}
 use lib.Signed.{_≤ℤ_}
-use Rattle.meaning.specs.Line.{Word, span, relu, which, max, root, numberAt, sizeAt, namesOf, digitsAt, digitsOf}
+use Rattle.meaning.specs.Word.{Word, span, relu, which, max, root, numberAt, sizeAt, digitsAt, kindOf}
 use Rattle.meaning.specs.Known.{Known}
 use Rattle.meaning.specs.Gadget.Interface.{Gadget}
 use Rattle.meaning.specs.Gadget.Span.{spanLine}
@@ -17,43 +17,42 @@ use Rattle.meaning.specs.Gadget.Relu.{reluLine}
 use Rattle.meaning.specs.Gadget.Which.{whichLine}
 use Rattle.meaning.specs.Gadget.Max.{maxLine}
 use Rattle.meaning.specs.Gadget.Root.{rootLine}
-use Rattle.meaning.specs.Meaning.{byWord, gadget}
-use Rattle.meaning.specs.Refusal.{isField}
+use Rattle.meaning.specs.Meaning.{gadget}
 use Rattle.reader.specs.State.{greatest}
 use Rattle.table.specs.Line.{KeptLine, gadgetOf, knownCount}
 use Rattle.table.proofs.LineNumbers.{size, NameAt, first-name, second-name, DigitsFrom, digits-from, size-is}
 
 -- a base stands at place i and its digit count after it
 pub record DigitWord (w : Word) (numbers : List ℤ) (count i : ℕ) : Type 0 where
-  pub late : isField w ≡ false
+  pub late : kindOf w .isField ≡ false
   pub long : suc i < count
-  pub digits : digitsOf w (take count numbers) ≡ digitsAt (take count numbers) i
+  pub digits : kindOf w .digits (take count numbers) ≡ digitsAt (take count numbers) i
 
 -- before it one value is named
 pub record OneWord (w : Word) (numbers : List ℤ) (count : ℕ) (line : Known → (v b k : ℕ) → Gadget) : Type 0 where
   pub has-digits : DigitWord w numbers count 1
-  pub names : namesOf w (take count numbers) ≡ numberAt (take count numbers) 0 ∷ []
-  pub is : (s : Known) → byWord w s (take count numbers)
+  pub names : kindOf w .names (take count numbers) ≡ numberAt (take count numbers) 0 ∷ []
+  pub is : (s : Known) → kindOf w .gadget s (take count numbers)
       ≡ line s (sizeAt (take count numbers) 0) (sizeAt (take count numbers) 1) (sizeAt (take count numbers) 2)
 
 -- or two
 pub record TwoWord (w : Word) (numbers : List ℤ) (count : ℕ) (line : Known → (u v b k : ℕ) → Gadget) : Type 0 where
   pub has-digits : DigitWord w numbers count 2
-  pub names : namesOf w (take count numbers) ≡ numberAt (take count numbers) 0 ∷ numberAt (take count numbers) 1 ∷ []
-  pub is : (s : Known) → byWord w s (take count numbers)
+  pub names : kindOf w .names (take count numbers) ≡ numberAt (take count numbers) 0 ∷ numberAt (take count numbers) 1 ∷ []
+  pub is : (s : Known) → kindOf w .gadget s (take count numbers)
       ≡ line s (sizeAt (take count numbers) 0) (sizeAt (take count numbers) 1) (sizeAt (take count numbers) 2) (sizeAt (take count numbers) 3)
 
 module _ (numbers : List ℤ) where
   pub relu-word : OneWord relu numbers 3 reluLine
-  unfolding isField digitsOf namesOf byWord
+  unfolding kindOf
   relu-word = record { has-digits = record { late = refl; long = omega arith; digits = refl }; names = refl; is = λ s. refl }
 
   pub root-word : OneWord root numbers 3 rootLine
-  unfolding isField digitsOf namesOf byWord
+  unfolding kindOf
   root-word = record { has-digits = record { late = refl; long = omega arith; digits = refl }; names = refl; is = λ s. refl }
 
   pub span-word : OneWord span numbers 4 (λ s v b k. spanLine s v b k (getD numbers 3 (pos 0)))
-  unfolding isField digitsOf namesOf byWord numberAt
+  unfolding kindOf numberAt
   span-word =
       let shift : getD (take 4 numbers) 3 (pos 0) ≡ getD numbers 3 (pos 0) = getD-take 4 numbers 3 (pos 0) (omega arith) in
       record {
@@ -63,11 +62,11 @@ module _ (numbers : List ℤ) where
       }
 
   pub which-word : TwoWord which numbers 4 whichLine
-  unfolding isField digitsOf namesOf byWord
+  unfolding kindOf
   which-word = record { has-digits = record { late = refl; long = omega arith; digits = refl }; names = refl; is = λ s. refl }
 
   pub max-word : TwoWord max numbers 4 maxLine
-  unfolding isField digitsOf namesOf byWord
+  unfolding kindOf
   max-word = record { has-digits = record { late = refl; long = omega arith; digits = refl }; names = refl; is = λ s. refl }
 
 -- ---- a line of such a kind that keeps its rules

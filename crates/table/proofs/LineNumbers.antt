@@ -14,8 +14,7 @@ use lib.Signed.{_≤ℤ_, nonNeg}
 use Rattle.algebra.proofs.Test.{left, right, test-≡}
 use Rattle.algebra.proofs.Integer.Linear.{linear}
 use Rattle.meaning.specs.Number.{half, lowest, highest, OddPrime}
-use Rattle.meaning.specs.Line.{Word, field, input, span, sum, relu, which, max, root, numberAt, sizeAt}
-use Rattle.meaning.specs.Line.{namesOf, Digits, digitsAt, digitsOf}
+use Rattle.meaning.specs.Word.{Word, field, input, span, sum, relu, which, max, root, numberAt, sizeAt, Digits, digitsAt, kindOf}
 use Rattle.meaning.specs.Known.{Known, endsOf, apart, above, digitRule, Within}
 use Rattle.meaning.specs.Gadget.Digits.{valueAt}
 use Rattle.meaning.specs.Gadget.Sign.{signShift}
@@ -24,8 +23,8 @@ use Rattle.meaning.specs.Gadget.Relu.{reluLine}
 use Rattle.meaning.specs.Gadget.Which.{whichLine}
 use Rattle.meaning.specs.Gadget.Max.{maxLine}
 use Rattle.meaning.specs.Gadget.Root.{rootLine}
-use Rattle.meaning.specs.Meaning.{byWord, gadget}
-use Rattle.meaning.specs.Refusal.{valueLimit, all, isField, isMade, isDigits}
+use Rattle.meaning.specs.Meaning.{gadget}
+use Rattle.meaning.specs.Refusal.{valueLimit, all, isMade, isDigits}
 use Rattle.meaning.proofs.Lines.{made-name, after-field}
 use Rattle.meaning.proofs.Group.{rule-power}
 use Rattle.meaning.proofs.Law.{low-end, high-end, low-ranged, high-ranged}
@@ -82,8 +81,8 @@ power-rooted p c h t =
     let square : 1 * c ≤ c * c = mul-le-mul-right c (omega arith) in
     omega (arith, one-mul c)
 
-powers-ruled : (w : Word) (s : Known) (ns : List ℤ) → 3 ≤ s .p → T (byWord w s ns .unambiguous) → Powers (s .p) (digitsOf w ns)
-unfolding Powers digitsOf digitsAt byWord spanLine reluLine whichLine maxLine rootLine sizeAt
+powers-ruled : (w : Word) (s : Known) (ns : List ℤ) → 3 ≤ s .p → T (kindOf w .gadget s ns .unambiguous) → Powers (s .p) (kindOf w .digits ns)
+unfolding Powers kindOf digitsAt spanLine reluLine whichLine maxLine rootLine sizeAt
 powers-ruled field s ns h t = tt
 powers-ruled input s ns h t = tt
 powers-ruled span s ns h t = (rule-power (s .p) (sizeAt ns 1) (sizeAt ns 2) (endsOf s (sizeAt ns 0)) (numberAt ns 3) t, tt)
@@ -123,10 +122,10 @@ module _ {w : Word} {numbers : List ℤ} {count : ℕ} (l : KeptLine w numbers c
 
   -- ---- p
 
-  pub prime-is : isField w ≡ false → OddPrime (l .state .p)
+  pub prime-is : kindOf w .isField ≡ false → OddPrime (l .state .p)
   prime-is e = l .sound .prime (after-field (l .line) w e (l .keeps .placed))
 
-  pub half-most : isField w ≡ false → half (l .state .p) ≤ valueBound
+  pub half-most : kindOf w .isField ≡ false → half (l .state .p) ≤ valueBound
   unfolding half
   half-most e = omega (arith, l .p-most e)
 
@@ -142,14 +141,14 @@ module _ {w : Word} {numbers : List ℤ} {count : ℕ} (l : KeptLine w numbers c
         most = omega (arith, name .1, values-most);
       }
 
-  pub first-name : (i : ℕ) (vs : List ℤ) → i < count → namesOf w (take count numbers) ≡ numberAt (take count numbers) i ∷ vs
+  pub first-name : (i : ℕ) (vs : List ℤ) → i < count → kindOf w .names (take count numbers) ≡ numberAt (take count numbers) i ∷ vs
       → NameAt (knownCount l) numbers i
   unfolding all
   first-name i vs h e =
       let t : T (all (isMade (knownCount l)) (numberAt ns i ∷ vs)) = rw e at (l .keeps .names-made) in
       name-at i h (left (isMade (knownCount l) (numberAt ns i)) (all (isMade (knownCount l)) vs) t)
 
-  pub second-name : (i : ℕ) (v : ℤ) (vs : List ℤ) → i < count → namesOf w (take count numbers) ≡ v ∷ numberAt (take count numbers) i ∷ vs
+  pub second-name : (i : ℕ) (v : ℤ) (vs : List ℤ) → i < count → kindOf w .names (take count numbers) ≡ v ∷ numberAt (take count numbers) i ∷ vs
       → NameAt (knownCount l) numbers i
   unfolding all
   second-name i v vs h e =
@@ -159,7 +158,7 @@ module _ {w : Word} {numbers : List ℤ} {count : ℕ} (l : KeptLine w numbers c
 
   -- ---- a base and its digit count
 
-  module _ (i : ℕ) (inside : suc i < count) (late : isField w ≡ false) (is : digitsOf w (take count numbers) ≡ digitsAt (take count numbers) i) where
+  module _ (i : ℕ) (inside : suc i < count) (late : kindOf w .isField ≡ false) (is : kindOf w .digits (take count numbers) ≡ digitsAt (take count numbers) i) where
     allowed : Allowed (numberAt ns i) (numberAt ns (suc i))
     unfolding digitsAt all
     allowed =
@@ -195,7 +194,7 @@ module _ {w : Word} {numbers : List ℤ} {count : ℕ} (l : KeptLine w numbers c
 
   -- ---- the values before the line
 
-  pub value-bounded : isField w ≡ false → (vs : List ℤ) → Within (l .state .known) vs → (v : ℕ) → v < knownCount l
+  pub value-bounded : kindOf w .isField ≡ false → (vs : List ℤ) → Within (l .state .known) vs → (v : ℕ) → v < knownCount l
       → Bounded valueBound (getD vs v (pos 0))
   unfolding valueAt lowest highest
   value-bounded e vs within v named =

@@ -11,7 +11,7 @@ use lib.ListN.{length, getD, take, drop, length-drop}
 use lib.Seq.{getD-take, length-take-le}
 use lib.Signed.{_≤ℤ_}
 use Rattle.algebra.proofs.Test.{left, right}
-use Rattle.meaning.specs.Line.{sum, withoutFirst, alternate, namesOf}
+use Rattle.meaning.specs.Word.{sum, withoutFirst, alternate, kindOf}
 use Rattle.meaning.specs.Refusal.{all, isMade}
 use Rattle.meaning.specs.Gadget.Sum.{termsOf}
 use Rattle.table.proofs.LineNumbers.{size, made-is}
@@ -52,9 +52,9 @@ module _ (numbers : List ℤ) (count : ℕ) (all-numbers : count ≤ length numb
   long : length (take count numbers) ≡ count
   long = length-take-le count numbers all-numbers
 
-  pub name-made : (n i : ℕ) → T (all (isMade n) (namesOf sum (take count numbers))) → 0 < i → i < count → i % 2 ≡ 0
+  pub name-made : (n i : ℕ) → T (all (isMade n) (kindOf sum .names (take count numbers))) → 0 < i → i < count → i % 2 ≡ 0
       → (pos 0 ≤ℤ getD numbers i (pos 0)) × (size numbers i < n)
-  unfolding namesOf
+  unfolding kindOf
   name-made n i named h k e =
       let made = named-at (isMade n) i (take count numbers) h (omega (arith, long)) e named in
       made-is n (getD numbers i (pos 0)) (rw (getD-take count numbers i (pos 0) k) at made)

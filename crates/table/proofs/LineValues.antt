@@ -10,9 +10,8 @@ use lib.IntN.{ℤ, pos}
 use lib.ListN.{length, getD, take}
 use lib.Seq.{getD-take}
 use lib.Signed.{_≤ℤ_}
-use Rattle.meaning.specs.Line.{Word}
+use Rattle.meaning.specs.Word.{Word, kindOf}
 use Rattle.meaning.specs.Gadget.Digits.{valueAt}
-use Rattle.meaning.specs.Refusal.{isField}
 use Rattle.number.specs.Bounded.{Bounded}
 use Rattle.table.specs.Cells.{GroupOf, powerBound, valueBound}
 use Rattle.table.specs.Line.{KeptLine, knownCount}
@@ -37,7 +36,7 @@ module _ {w : Word} {numbers : List ℤ} {count : ℕ} {values : List ℤ} (a : 
   pub value-asked : (i < length numbers) × (pos 0 ≤ℤ getD numbers i (pos 0)) × (size numbers i < length values)
   value-asked = (name .inside, name .natural, omega (arith, name .most, a .values-long))
 
-  pub named-bounded : isField w ≡ false → Bounded valueBound (named numbers i values)
+  pub named-bounded : kindOf w .isField ≡ false → Bounded valueBound (named numbers i values)
   named-bounded e = rw (getD-take (knownCount (a .kept)) values (size numbers i) (pos 0) (name .below)) at
       (value-bounded (a .kept) e (take (knownCount (a .kept)) values) (a .within) (size numbers i) (name .below))
 

@@ -3,25 +3,33 @@
 use mathlib.Core.Path.{_≡_, refl, sym, ap, subst, _∙_}
 use mathlib.Core.Bool.{true}
 use Prim.Native.Nat.{ℕ}
+use native.Mathlib.Omega.{arith}
+use mathlib.Core.List.{List}
+use lib.ListN.{length, take}
+use lib.Seq.{length-take-le}
+use lib.IntN.{ℤ}
 use lib.Dec.{eqb, eqb→eq}
 use Rattle.algebra.proofs.Test.{≡-test}
-use Rattle.meaning.specs.Line.{Word, field, input, span, sum, relu, which, max, root, isCount}
+use Rattle.meaning.specs.Word.{Word, field, input, span, sum, relu, which, max, root, kindOf}
 use Rattle.text.specs.Word.{wordOf}
+use Rattle.table.specs.Line.{KeptLine}
 use Rattle.text.specs.declared.Word.{Word as Coded}
 use Rattle.text.specs.declared.Word.the-variants.{Field, In, Span, Sum, Relu, Which, Max, Root}
 
--- v is the word w, and where m is a right count of numbers after it, it is n
-pub record Kind (v : Coded) (w : Word) (m n : ℕ) : Type 0 where
+-- v is the word w, and where m numbers are as many as it has, m is n
+pub record Coding (v : Coded) (w : Word) (m n : ℕ) : Type 0 where
   pub word-is : wordOf v ≡ w
-  pub count-is : isCount w m ≡ true → m ≡ n
+  pub count-is : (ns : List ℤ) → length ns ≡ m → kindOf w .isCounted ns ≡ true → m ≡ n
 
-module _ {v : Coded} {w : Word} {m n : ℕ} (kind : Kind v w m n) (P : Word → ℕ → Type 0) (word : Coded) (is : word ≡ v)
-    (counted : isCount (wordOf word) m ≡ true) where
+module _ {v : Coded} {w : Word} {m n : ℕ} (kind : Coding v w m n) (P : Word → ℕ → Type 0) (word : Coded) (is : word ≡ v)
+    {numbers : List ℤ} (kept : KeptLine (wordOf word) numbers m) where
   same-word : wordOf word ≡ w
   same-word = ap wordOf is ∙ kind .word-is
 
   same-count : m ≡ n
-  same-count = kind .count-is (subst (λ (u : Word). isCount u m ≡ true) same-word counted)
+  same-count =
+      let so-many = length-take-le m numbers (omega (arith, kept .few, kept .numbers-long)) in
+      kind .count-is (take m numbers) so-many (subst (λ (u : Word). kindOf u .isCounted (take m numbers) ≡ true) same-word (kept .counted))
 
   pub at-kind : P (wordOf word) m → P w n
   at-kind t = subst (P w) same-count (subst (λ (u : Word). P u m) same-word t)
@@ -31,39 +39,39 @@ module _ {v : Coded} {w : Word} {m n : ℕ} (kind : Kind v w m n) (P : Word → 
 
 -- ---- the kinds
 
-one-count : (m n : ℕ) → eqb m n ≡ true → m ≡ n
-one-count m n e = eqb→eq m n (≡-test (eqb m n) e)
+one-count : (m n : ℕ) (ns : List ℤ) → length ns ≡ m → eqb (length ns) n ≡ true → m ≡ n
+one-count m n ns so-many e = sym so-many ∙ eqb→eq (length ns) n (≡-test (eqb (length ns) n) e)
 
 module _ {m : ℕ} where
-  pub field-kind : Kind Field field m 1
-  unfolding wordOf isCount
+  pub field-kind : Coding Field field m 1
+  unfolding wordOf kindOf
   field-kind = record { word-is = refl; count-is = one-count m 1 }
 
-  pub input-kind : Kind In input m 0
-  unfolding wordOf isCount
+  pub input-kind : Coding In input m 0
+  unfolding wordOf kindOf
   input-kind = record { word-is = refl; count-is = one-count m 0 }
 
-  pub span-kind : Kind Span span m 4
-  unfolding wordOf isCount
+  pub span-kind : Coding Span span m 4
+  unfolding wordOf kindOf
   span-kind = record { word-is = refl; count-is = one-count m 4 }
 
-  pub relu-kind : Kind Relu relu m 3
-  unfolding wordOf isCount
+  pub relu-kind : Coding Relu relu m 3
+  unfolding wordOf kindOf
   relu-kind = record { word-is = refl; count-is = one-count m 3 }
 
-  pub which-kind : Kind Which which m 4
-  unfolding wordOf isCount
+  pub which-kind : Coding Which which m 4
+  unfolding wordOf kindOf
   which-kind = record { word-is = refl; count-is = one-count m 4 }
 
-  pub max-kind : Kind Max max m 4
-  unfolding wordOf isCount
+  pub max-kind : Coding Max max m 4
+  unfolding wordOf kindOf
   max-kind = record { word-is = refl; count-is = one-count m 4 }
 
-  pub root-kind : Kind Root root m 3
-  unfolding wordOf isCount
+  pub root-kind : Coding Root root m 3
+  unfolding wordOf kindOf
   root-kind = record { word-is = refl; count-is = one-count m 3 }
 
   -- a sum has any odd count
-  pub sum-kind : Kind Sum sum m m
+  pub sum-kind : Coding Sum sum m m
   unfolding wordOf
-  sum-kind = record { word-is = refl; count-is = λ _. refl }
+  sum-kind = record { word-is = refl; count-is = λ _ _ _. refl }

@@ -10,13 +10,12 @@ use lib.IntN.{ℤ, pos}
 use lib.ListN.{length, getD, take}
 use lib.Seq.{getD-take}
 use lib.Signed.{_≤ℤ_}
-use Rattle.meaning.specs.Line.{Word}
+use Rattle.meaning.specs.Word.{Word, kindOf}
 use Rattle.meaning.specs.Known.{Known, placeOf}
 use Rattle.meaning.specs.Row.{holds}
 use Rattle.meaning.specs.Reply.{Reply, firstFail, refusalAt}
 use Rattle.meaning.specs.Gadget.Interface.{Gadget}
-use Rattle.meaning.specs.Meaning.{byWord, gadget}
-use Rattle.meaning.specs.Refusal.{isField}
+use Rattle.meaning.specs.Meaning.{gadget}
 use Rattle.table.specs.Cells.{GroupOf}
 use Rattle.table.specs.Rows.{rowsSeen, firstRefusal}
 use Rattle.table.specs.Line.{gadgetOf, knownCount}
@@ -28,7 +27,7 @@ use Rattle.table.proofs.LineValues.{group-read}
 
 -- a line that has no row
 pub no-row : (p : ℕ) (w : Word) (numbers : List ℤ) (count : ℕ) (table : List ℕ) (cells : ℕ) (places : List ℕ)
-    → ((s : Known) (ns : List ℤ) → byWord w s ns .rows ≡ []) → RowsTold p w numbers count table cells places AllHold
+    → ((s : Known) (ns : List ℤ) → kindOf w .gadget s ns .rows ≡ []) → RowsTold p w numbers count table cells places AllHold
 unfolding gadget rowsSeen firstFail refusalAt
 no-row p w numbers count table cells places none a = rw (none (a .kept .state) (take count numbers)) refl
 
@@ -36,7 +35,7 @@ no-row p w numbers count table cells places none a = rw (none (a .kept .state) (
 
 module _ {p : ℕ} {w : Word} {numbers : List ℤ} {count : ℕ} {table : List ℕ} {cells : ℕ} {places : List ℕ}
     (a : RowsAsked p w numbers count table cells places) where
-  pub p-three : isField w ≡ false → 3 ≤ p
+  pub p-three : kindOf w .isField ≡ false → 3 ≤ p
   p-three late = omega (arith, prime-is (a .kept) late .three, a .prime late)
 
   -- the value that the number at place i names

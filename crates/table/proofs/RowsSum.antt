@@ -12,13 +12,12 @@ use lib.ListN.{length, getD, take, drop}
 use lib.Seq.{getD-take}
 use Rattle.meaning.specs.Number.{remainder}
 use Rattle.algebra.specs.Digits.{Below}
-use Rattle.meaning.specs.Line.{sum, numberAt, withoutFirst}
+use Rattle.meaning.specs.Word.{sum, numberAt, withoutFirst, kindOf}
 use Rattle.meaning.specs.Known.{Known, placeOf}
 use Rattle.meaning.specs.Row.{Form, cell, constant, _⊕_, _⊗_, _≅_, holds}
 use Rattle.meaning.specs.Reply.{Reply, reply}
 use Rattle.meaning.specs.Gadget.Sum.{termsOf, sumForm, sumLine}
-use Rattle.meaning.specs.Meaning.{byWord, gadget}
-use Rattle.meaning.specs.Refusal.{isField}
+use Rattle.meaning.specs.Meaning.{gadget}
 use Rattle.text.specs.Word.{wordOf}
 use Rattle.reader.proofs.Steps.{sum-count}
 use Rattle.reader.proofs.SumLine.{without-drop, terms-at}
@@ -111,12 +110,12 @@ sum-names {numbers} {count} l = record { natural = λ i h k e. name i h k e .0; 
 module _ {p : ℕ} {numbers : List ℤ} {count : ℕ} {table : List ℕ} {cells : ℕ} {places : List ℕ} (a : RowsAsked p sum numbers count table cells places) where
   pub sum-asked : (0 < p) × Below p table × (cells < length table) × (count % 2 ≡ 1) × (count ≤ length numbers)
       × PlacesInside numbers count places (length table)
-  unfolding isField gadget byWord sumLine wordOf
+  unfolding kindOf gadget sumLine wordOf
   sum-asked = (
     omega (arith, p-three a refl),
     a .below,
     omega (arith, a .room),
-    sum-count refl count (a .kept .counted),
+    sum-count refl numbers count (omega (arith, a .kept .few, a .kept .numbers-long)) (a .kept .counted),
     omega (arith, a .kept .numbers-long, a .kept .few),
     record {
       known = knownCount (a .kept);
@@ -129,5 +128,5 @@ module _ {p : ℕ} {numbers : List ℤ} {count : ℕ} {table : List ℕ} {cells 
   pub sum-told : {seen : Option Reply} → ((s : Known) (n : ℕ) → s .p ≡ p → s .cells ≡ cells → s .places ≡ take n places → NamesBelow n numbers count
       → seen ≡ firstRefusal (holds p table) 0 (sumLine s (numberAt (take count numbers) 0) (termsOf (withoutFirst (take count numbers))) .rows))
       → seen ≡ firstRefusal (holds p table) 0 (gadgetOf (a .kept) .rows)
-  unfolding isField gadget byWord
+  unfolding kindOf gadget
   sum-told told = told (a .kept .state) (knownCount (a .kept)) (a .prime refl) (a .cells-are) (a .places-are) (sum-names (a .kept))

@@ -7,11 +7,11 @@ use native.Mathlib.Omega.{arith}
 use lib.Dec.{ltb}
 use lib.IntN.{ℤ, pos, natAbs, _-ℤ_}
 use lib.ListN.{getD, take}
-use Rattle.meaning.specs.Line.{Word, field, input, span, sum, relu, which, max, root, numberAt, withoutFirst, namesOf}
+use Rattle.meaning.specs.Word.{Word, field, input, span, sum, relu, which, max, root, numberAt, withoutFirst, kindOf}
 use Rattle.meaning.specs.Number.{between}
 use Rattle.meaning.specs.Known.{Known, larger}
-use Rattle.meaning.specs.Meaning.{byWord, gadget}
-use Rattle.meaning.specs.Refusal.{value, refusedBy, isField}
+use Rattle.meaning.specs.Meaning.{gadget}
+use Rattle.meaning.specs.Refusal.{value, refusedBy}
 use Rattle.meaning.specs.Gadget.Interface.{Gadget}
 use Rattle.meaning.specs.Gadget.Digits.{valueAt}
 use Rattle.meaning.specs.Gadget.Field.{fieldLine}
@@ -94,21 +94,21 @@ module _ {numbers values : List ℤ} {u v : ℤ} {b k : ℕ} (first : u ≡ name
 -- ---- lines without a digit group
 
 pub field-told : (numbers values : List ℤ) (next : ℤ) → WorkTold field numbers 1 values next NoValue
-unfolding gadget byWord fieldLine workedSeen
+unfolding gadget kindOf fieldLine workedSeen
 field-told numbers values next a = refl
 
 pub input-told : (numbers values : List ℤ) {next x : ℤ} → x ≡ next → WorkTold input numbers 0 values next (Value x)
-unfolding gadget byWord inputLine workedSeen
+unfolding gadget kindOf inputLine workedSeen
 input-told numbers values e a = ap (λ (y : ℤ). value (y ∷ [])) e
 
 module _ {numbers : List ℤ} {count : ℕ} {values : List ℤ} where
   pub sum-asked : (a : ValuesAsked sum numbers count values) → SumAsked numbers count values (knownCount (a .kept))
-  unfolding isField gadget byWord sumLine namesOf wordOf
+  unfolding kindOf gadget sumLine wordOf
   sum-asked a =
       let l = a .kept in
       let ns : List ℤ = take count numbers in
       record {
-        some-number = omega (arith, sum-count {v = Sum} refl count (l .counted));
+        some-number = omega (arith, sum-count {v = Sum} refl numbers count (omega (arith, l .few, l .numbers-long)) (l .counted));
         all-numbers = omega (arith, l .few, l .numbers-long);
         all-values = omega (arith, values-most l, a .values-long);
         named = l .keeps .names-made;
@@ -118,5 +118,5 @@ module _ {numbers : List ℤ} {count : ℕ} {values : List ℤ} where
 
   pub sum-told : {x : ℤ} → ((n : ℕ) → SumAsked numbers count values n → x ≡ sumOf (take count numbers) (take n values))
       → (next : ℤ) → WorkTold sum numbers count values next (Value x)
-  unfolding gadget byWord sumLine workedSeen
+  unfolding gadget kindOf sumLine workedSeen
   sum-told h next a = ap (λ (y : ℤ). value (y ∷ [])) (h (knownCount (a .kept)) (sum-asked a))

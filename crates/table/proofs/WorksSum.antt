@@ -10,7 +10,7 @@ use lib.Seq.{getD-take}
 use lib.Signed.{_≤ℤ_}
 use Rattle.algebra.proofs.Integer.Order.{plus}
 use Rattle.algebra.proofs.Integer.Linear.{linear}
-use Rattle.meaning.specs.Line.{numberAt, namesOf}
+use Rattle.meaning.specs.Word.{numberAt, kindOf}
 use Rattle.meaning.specs.Gadget.Digits.{valueAt}
 use Rattle.meaning.specs.Gadget.Sum.{Term, termsOf, sumValue}
 use Rattle.number.specs.Bounded.{Bounded}
@@ -54,7 +54,7 @@ module _ (numbers : List ℤ) (count : ℕ) (values : List ℤ) (n : ℕ) (asked
   ns = take count numbers
 
   pub summing-start : Summing numbers count values n 1 (getD numbers 0 (pos 0))
-  unfolding namesOf numberAt
+  unfolding kindOf numberAt
   summing-start = record {
     within = asked .some-number;
     odd = refl;

@@ -8,7 +8,7 @@ use lib.Dec.{T, eqb}
 use lib.IntN.{ℤ, pos, _+ℤ_, _-ℤ_, _*ℤ_}
 use lib.ListN.{length, take}
 use Rattle.algebra.specs.Congruence.{remainder, inverse}
-use Rattle.meaning.specs.Line.{numberAt, withoutFirst, namesOf, sum}
+use Rattle.meaning.specs.Word.{numberAt, withoutFirst, sum, kindOf}
 use Rattle.meaning.specs.Refusal.{Result, value, refusedBy, all, isMade}
 use Rattle.meaning.specs.Known.{larger}
 use Rattle.meaning.specs.Gadget.Digits.{groupCells, valueAt}
@@ -80,5 +80,5 @@ pub record SumAsked (numbers : List ℤ) (count : ℕ) (values : List ℤ) (n : 
   pub some-number : 1 ≤ count
   pub all-numbers : count ≤ length numbers
   pub all-values : n ≤ length values
-  pub named : T (all (isMade n) (namesOf sum (take count numbers)))
+  pub named : T (all (isMade n) (kindOf sum .names (take count numbers)))
   pub small : SumSmall (take n values) (numberAt (take count numbers) 0) (termsOf (withoutFirst (take count numbers)))

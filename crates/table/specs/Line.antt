@@ -5,15 +5,13 @@ use mathlib.Core.List.{List}
 use Prim.Native.Nat.{ℕ, _≤_}
 use lib.IntN.{ℤ}
 use lib.ListN.{length, take}
-use Rattle.meaning.specs.Line.{Word, isCount}
+use Rattle.meaning.specs.Word.{Word, kindOf, mostNumbers}
 use Rattle.meaning.specs.Known.{Known}
 use Rattle.meaning.specs.Meaning.{gadget}
 use Rattle.meaning.specs.Gadget.Interface.{Gadget}
-use Rattle.meaning.specs.Refusal.{isField}
 use Rattle.meaning.specs.Kept.{Keeps, Sound}
 use Rattle.reader.specs.State.{greatest, Small}
 use Rattle.reader.specs.Told.{lineWith}
-use Rattle.text.specs.Parsed.{mostNumbers}
 
 -- a line with this word, whose numbers are the first count of numbers; it keeps the rules in the state before it
 pub record KeptLine (w : Word) (numbers : List ℤ) (count : ℕ) : Type 0 where
@@ -22,9 +20,9 @@ pub record KeptLine (w : Word) (numbers : List ℤ) (count : ℕ) : Type 0 where
   pub state : Known
   pub sound : Sound line state
   pub keeps : Keeps line state (lineWith w (take count numbers))
-  pub p-most : isField w ≡ false → state .p ≤ greatest
+  pub p-most : kindOf w .isField ≡ false → state .p ≤ greatest
   pub numbers-long : length numbers ≡ mostNumbers
-  pub counted : isCount w count ≡ true
+  pub counted : kindOf w .isCounted (take count numbers) ≡ true
   pub few : count ≤ mostNumbers
   pub small : Small count numbers
 

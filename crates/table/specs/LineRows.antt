@@ -6,9 +6,9 @@ use Prim.Native.Nat.{ℕ, _+_, _≤_, _<_}
 use lib.IntN.{ℤ}
 use lib.ListN.{length, getD, take}
 use Rattle.algebra.specs.Digits.{Below}
-use Rattle.meaning.specs.Line.{Word}
+use Rattle.meaning.specs.Word.{Word, kindOf}
 use Rattle.meaning.specs.Row.{holds}
-use Rattle.meaning.specs.Refusal.{isField, valueLimit}
+use Rattle.meaning.specs.Refusal.{valueLimit}
 use Rattle.table.specs.Rows.{rowsSeen, firstRefusal}
 use Rattle.table.specs.Line.{KeptLine, gadgetOf, knownCount}
 use Rattle.table.specs.declared.rows.Rows.{Rows}
@@ -16,7 +16,7 @@ use Rattle.table.specs.declared.rows.Rows.{Rows}
 -- a table with room for the line's cells, which start at the one called cells; places has the cell of each value before the line
 pub record RowsAsked (p : ℕ) (w : Word) (numbers : List ℤ) (count : ℕ) (table : List ℕ) (cells : ℕ) (places : List ℕ) : Type 0 where
   pub kept : KeptLine w numbers count
-  pub prime : isField w ≡ false → kept .state .p ≡ p
+  pub prime : kindOf w .isField ≡ false → kept .state .p ≡ p
   pub below : Below p table
   pub cells-are : kept .state .cells ≡ cells
   pub room : cells + gadgetOf kept .width ≤ length table

@@ -5,9 +5,9 @@ use mathlib.Core.List.{List, _++_}
 use Prim.Native.Nat.{ℕ, _≤_}
 use lib.IntN.{ℤ}
 use lib.ListN.{length, take, drop}
-use Rattle.meaning.specs.Line.{Word}
+use Rattle.meaning.specs.Word.{Word, kindOf}
 use Rattle.meaning.specs.Gadget.Interface.{Gadget}
-use Rattle.meaning.specs.Refusal.{value, refusedBy, isField, valueLimit}
+use Rattle.meaning.specs.Refusal.{value, refusedBy, valueLimit}
 use Rattle.meaning.specs.Known.{Within}
 use Rattle.table.specs.Line.{KeptLine, gadgetOf, knownCount}
 use Rattle.table.specs.Cells.{workedSeen}
@@ -33,7 +33,7 @@ WorkTold w numbers count values next r =
 -- there are so many values before the line, and the part of the table that is lent has room for its cells
 pub record CellsAsked (p : ℕ) (w : Word) (numbers : List ℤ) (count : ℕ) (values : List ℤ) (known : ℕ) (part : List ℕ) : Type 0 where
   pub asked : ValuesAsked w numbers count values
-  pub prime : isField w ≡ false → asked .kept .state .p ≡ p
+  pub prime : kindOf w .isField ≡ false → asked .kept .state .p ≡ p
   pub known-are : knownCount (asked .kept) ≡ known
   pub room : gadgetOf (asked .kept) .width ≤ length part
 

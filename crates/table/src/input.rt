@@ -3,7 +3,7 @@ use super::value::Worked;
 use super::value::value_cell;
 ghost use mathlib.Core.List.{List};
 ghost use lib.IntN.{ℤ};
-ghost use Rattle.meaning.specs.Line.{input};
+ghost use Rattle.meaning.specs.Word.{input};
 ghost use Rattle.table.specs.LineValues.{WorkTold, CellsAsked, CellsTold};
 
 // ---- working

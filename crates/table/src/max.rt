@@ -27,7 +27,7 @@ ghost use lib.Dec.{ltb};
 ghost use lib.IntN.{natAbs, _-ℤ_, ℤ};
 ghost use lib.ListN.{length, drop};
 ghost use Rattle.algebra.specs.Digits.{Below};
-ghost use Rattle.meaning.specs.Line.{max};
+ghost use Rattle.meaning.specs.Word.{max};
 ghost use Rattle.meaning.specs.Known.{larger, Known, placeOf};
 ghost use Rattle.meaning.specs.Row.{holds};
 ghost use Rattle.meaning.specs.Refusal.{value, refusedBy};

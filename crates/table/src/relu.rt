@@ -26,7 +26,7 @@ ghost use lib.IntN.{pos, ℤ};
 ghost use lib.ListN.{length, drop};
 ghost use Rattle.algebra.specs.Digits.{Below};
 ghost use Rattle.meaning.specs.Number.{remainder, OddPrime};
-ghost use Rattle.meaning.specs.Line.{relu};
+ghost use Rattle.meaning.specs.Word.{relu};
 ghost use Rattle.meaning.specs.Known.{larger, Known, placeOf};
 ghost use Rattle.meaning.specs.Row.{holds};
 ghost use Rattle.meaning.specs.Refusal.{value, refusedBy};

@@ -30,7 +30,7 @@ ghost use lib.IntN.{pos, _-ℤ_, _*ℤ_, ℤ};
 ghost use lib.ListN.{length, drop};
 ghost use Rattle.algebra.specs.Digits.{Below};
 ghost use Rattle.meaning.specs.Number.{between, remainder};
-ghost use Rattle.meaning.specs.Line.{root};
+ghost use Rattle.meaning.specs.Word.{root};
 ghost use Rattle.meaning.specs.Known.{Known, placeOf};
 ghost use Rattle.meaning.specs.Row.{Form, holds};
 ghost use Rattle.meaning.specs.Refusal.{value, refusedBy};

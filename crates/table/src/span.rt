@@ -21,7 +21,7 @@ ghost use lib.IntN.{ℤ};
 ghost use lib.ListN.{length};
 ghost use Rattle.algebra.specs.Digits.{Below};
 ghost use Rattle.meaning.specs.Number.{between};
-ghost use Rattle.meaning.specs.Line.{span};
+ghost use Rattle.meaning.specs.Word.{span};
 ghost use Rattle.meaning.specs.Known.{Known, placeOf};
 ghost use Rattle.meaning.specs.Row.{holds};
 ghost use Rattle.meaning.specs.Gadget.Span.{spanTop, spanLine};

@@ -19,7 +19,7 @@ ghost use Prim.Native.Nat.{_<_, ℕ, _%_, _≤_};
 ghost use lib.IntN.{ℤ};
 ghost use lib.ListN.{length, take};
 ghost use Rattle.algebra.specs.Digits.{Below};
-ghost use Rattle.meaning.specs.Line.{numberAt, withoutFirst, sum};
+ghost use Rattle.meaning.specs.Word.{numberAt, withoutFirst, sum};
 ghost use Rattle.meaning.specs.Known.{Known};
 ghost use Rattle.meaning.specs.Row.{holds};
 ghost use Rattle.meaning.specs.Gadget.Sum.{termsOf, sumLine};

@@ -25,7 +25,7 @@ ghost use lib.IntN.{_-ℤ_, ℤ};
 ghost use lib.ListN.{length, drop};
 ghost use Rattle.algebra.specs.Digits.{Below};
 ghost use Rattle.meaning.specs.Number.{remainder, OddPrime};
-ghost use Rattle.meaning.specs.Line.{which};
+ghost use Rattle.meaning.specs.Word.{which};
 ghost use Rattle.meaning.specs.Known.{Known, placeOf};
 ghost use Rattle.meaning.specs.Row.{holds};
 ghost use Rattle.meaning.specs.Refusal.{value, refusedBy};

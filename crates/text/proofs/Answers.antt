@@ -9,14 +9,16 @@ use lib.IntN.{ℤ, pos, natAbs}
 use lib.ListN.{length, getD, take}
 use lib.Seq.{length-take-le, getD-take}
 use Rattle.meaning.specs.Text.{fieldsOf, number, largest}
-use Rattle.meaning.specs.Line.{words, wordAmong, isCount, consNumber, numbersOf, assemble, lineOfFields, lineOf}
-use Rattle.meaning.specs.Line.{Word as MeantWord, Line as MeantLine}
+use Rattle.meaning.specs.Word.{words, kindOf, mostNumbers}
+use Rattle.meaning.specs.Line.{wordAmong, consNumber, numbersOf, assemble, lineOfFields, lineOf}
+use Rattle.meaning.specs.Word.{Word as MeantWord}
+use Rattle.meaning.specs.Line.{Line as MeantLine}
 use Rattle.meaning.proofs.Results.{refused-none, value-some}
 use Rattle.text.specs.declared.Word.{Word}
 use Rattle.text.specs.declared.Parsed.{Parsed}
 use Rattle.text.specs.declared.Parsed.the-variants.{Line, NoLine}
 use Rattle.text.specs.Word.{wordOf}
-use Rattle.text.specs.Parsed.{parsedSeen, countSeen, LineRead, NextAfter, mostNumbers}
+use Rattle.text.specs.Parsed.{parsedSeen, countSeen, LineRead, NextAfter}
 use Rattle.text.specs.Place.{endOf}
 use Rattle.text.proofs.Bytes.{none-some}
 use Rattle.text.proofs.Numbers.{number-small}
@@ -27,7 +29,7 @@ abbrev pub Small : List ℤ → Type 0
 Small ns = (i : ℕ) → natAbs (getD ns i (pos 0)) ≤ largest
 
 pub record GoodLine (l : MeantLine) : Type 0 where
-  pub counted : isCount (l .word) (length (l .numbers)) ≡ true
+  pub counted : kindOf (l .word) .isCounted (l .numbers) ≡ true
   pub small : Small (l .numbers)
 
 cons-small : (first : Option ℤ) (rest : Option (List ℤ)) (ns : List ℤ) → ((z : ℤ) → first ≡ some z → natAbs z ≤ largest)
@@ -43,7 +45,7 @@ unfolding numbersOf
 numbers-small [] ns q i = let e : [] ≡ ns = cc in rw (← e) (omega arith)
 numbers-small (f ∷ fs) ns q i = cons-small (number f) (numbersOf fs) ns (λ z. number-small f) (numbers-small fs) q i
 
-good-at : (t : Bool) (l m : MeantLine) → isCount (l .word) (length (l .numbers)) ≡ t → Small (l .numbers) → cond t (some l) none ≡ some m → GoodLine m
+good-at : (t : Bool) (l m : MeantLine) → kindOf (l .word) .isCounted (l .numbers) ≡ t → Small (l .numbers) → cond t (some l) none ≡ some m → GoodLine m
 good-at true l m p small q = let e : l ≡ m = cc in rw (← e) (record { counted = p; small = small })
 good-at false l m p small q = absurd (none-some q)
 
@@ -78,8 +80,11 @@ module _ {line : List ℕ} {before after : List ℤ} {r : Parsed} (read : LineRe
     unfolding countSeen
     line-most = rw q at (read .most)
 
-    pub line-counted : length before ≡ mostNumbers → isCount (wordOf w) n ≡ true
-    line-counted room = rw (length-take-le n after (omega (arith, read .left .kept, line-most))) at (good-line line line-seen .counted)
+    pub line-counted : kindOf (wordOf w) .isCounted (take n after) ≡ true
+    line-counted = good-line line line-seen .counted
+
+    pub line-taken : length before ≡ mostNumbers → length (take n after) ≡ n
+    line-taken room = length-take-le n after (omega (arith, read .left .kept, line-most))
 
     pub line-small : (i : ℕ) → i < n → natAbs (getD after i (pos 0)) ≤ largest
     line-small i h = rw (getD-take n after i (pos 0) h) at (good-line line line-seen .small i)

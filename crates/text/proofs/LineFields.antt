@@ -15,7 +15,8 @@ use mir.Syntax.{w64}
 use mir.Val.{toZ, ofZ}
 use mir.ValLaws.{toZ-ofZ}
 use Rattle.meaning.specs.Text.{fieldsOf, number}
-use Rattle.meaning.specs.Line.{sum, words, wordAmong, isCount, numbersOf, assemble, lineOf}
+use Rattle.meaning.specs.Word.{sum, words, kindOf, mostNumbers}
+use Rattle.meaning.specs.Line.{wordAmong, numbersOf, assemble, lineOf}
 use Rattle.meaning.proofs.Results.{none-refused, some-value, refused-none}
 use Rattle.text.specs.declared.Word.{Word}
 use Rattle.text.specs.declared.Spelled.{Spelled}
@@ -29,7 +30,7 @@ use Rattle.text.specs.declared.Number.the-variants.{Of, NoNumber}
 use Rattle.text.specs.Number.{NumberSpelled, WholeRead}
 use Rattle.text.specs.Word.{wordOf, WordRead}
 use Rattle.text.specs.Place.{indexOf, Found, endOf, upTo, lineAt, fieldAt, fieldsFrom}
-use Rattle.text.specs.Parsed.{parsedSeen, countSeen, NumbersTold, wordedBy, aloneAmong, FieldsTold, LineRead, NextAfter, Stored, leadingNumbers, leading, mostNumbers}
+use Rattle.text.specs.Parsed.{parsedSeen, countSeen, NumbersTold, wordedBy, WordedAs, aloneAmong, FieldsTold, LineRead, NextAfter, Stored, leadingNumbers, leading}
 use Rattle.text.proofs.Places.{partsAfter, parts-none, parts-more, fields-from, fields-found}
 use Rattle.text.proofs.Numbers.{number-small, small-fits}
 use Rattle.text.proofs.Ends.{InLine, cut-length, before-end, place-next, place-later, same-line, ends-line, line-cut}
@@ -74,19 +75,19 @@ module _ {text : List ℕ} {at : ℕ} (l : InLine text at (endOf text at)) where
     fields = rw (line-cut text at) (fields-found line ends)
 
     -- what is told of the word with so many numbers, by whether as many belong to it
-    told-by : (right : Bool) (after : List ℤ) (count : ℕ) {place : ℕ} → isCount (wordOf w) count ≡ right
-        → lineOf (lineAt text at) ≡ assemble (some (wordOf w)) (some (take count after)) → count ≤ mostNumbers → length after ≡ mostNumbers
+    told-by : (right : Bool) (after : List ℤ) (count : ℕ) {place : ℕ} → kindOf (wordOf w) .isCounted (take count after) ≡ right
+        → lineOf (lineAt text at) ≡ assemble (some (wordOf w)) (some (take count after)) → count ≤ mostNumbers
         → place ≡ endOf text at + 1 → (f : Fields) → f ≡ wordedBy right w count place → FieldsTold text at after f
     unfolding wordedBy FieldsTold assemble aloneAmong
-    told-by true after count t is most long last f e =
-        rw e (is ∙ rw (length-take-le count after (omega arith), t), word-no-number (lineAt text at) fields is-word, most, last)
-    told-by false after count t is most long last f e =
-        rw e (is ∙ rw (length-take-le count after (omega arith), t), word-no-number (lineAt text at) fields is-word, last)
+    told-by true after count t is most last f e =
+        rw e (is ∙ rw t, word-no-number (lineAt text at) fields is-word, most, last)
+    told-by false after count t is most last f e =
+        rw e (is ∙ rw t, word-no-number (lineAt text at) fields is-word, last)
 
     told-at : (after : List ℤ) (count : ℕ) {place : ℕ} → lineOf (lineAt text at) ≡ assemble (some (wordOf w)) (some (take count after)) → count ≤ mostNumbers
-        → length after ≡ mostNumbers → place ≡ endOf text at + 1 → (f : Fields) → f ≡ wordedBy (isCount (wordOf w) count) w count place
-        → FieldsTold text at after f
-    told-at after count = told-by (isCount (wordOf w) count) after count refl
+        → length after ≡ mostNumbers → place ≡ endOf text at + 1 → (f : Fields) → WordedAs w count place f → FieldsTold text at after f
+    told-at after count is most long last f worded =
+        told-by (kindOf (wordOf w) .isCounted (take count after)) after count refl is most last f (worded (take count after) (length-take-le count after (omega arith)))
 
     module _ (no-tab : getD text end 0 ≡ 9 → ⊥) where
       last : endOf text at ≤ end
@@ -95,7 +96,7 @@ module _ {text : List ℕ} {at : ℕ} (l : InLine text at (endOf text at)) where
       nothing : partsAfter 9 line end ≡ []
       nothing = parts-none 9 line end (omega (arith, cut-length l, last))
 
-      pub word-alone : (numbers : List ℤ) → length numbers ≡ mostNumbers → (r : Fields) → r ≡ wordedBy (isCount (wordOf w) 0) w 0 (end + 1) → FieldsTold text at numbers r
+      pub word-alone : (numbers : List ℤ) → length numbers ≡ mostNumbers → (r : Fields) → WordedAs w 0 (end + 1) r → FieldsTold text at numbers r
       unfolding numbersOf
       word-alone numbers long = told-at numbers 0 (line-word (lineAt text at) fields is-word ∙ rw nothing) (omega arith) long (omega (arith, last, word-place .found .low))
 
@@ -118,7 +119,7 @@ module _ {text : List ℕ} {at : ℕ} (l : InLine text at (endOf text at)) where
 
       module _ (after : List ℤ) {c : Counted} (told : NumbersTold (upTo text (end + 1)) (end + 1) after c) where
         pub word-numbers : length after ≡ mostNumbers → {count place : ℕ} → c ≡ Numbers count place → (f : Fields)
-            → f ≡ wordedBy (isCount (wordOf w) count) w count (place + 1) → FieldsTold text at after f
+            → WordedAs w count (place + 1) f → FieldsTold text at after f
         unfolding NumbersTold
         word-numbers long {count} {place} is =
             let t = rw is at told in

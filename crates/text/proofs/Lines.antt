@@ -12,10 +12,11 @@ use lib.IntN.{ℤ}
 use lib.ListN.{length, take, drop, set, length-set, length-append, take-append-drop}
 use lib.Seq.{length-take-le, take-nil, take-suc-set, drop-drop, drop-set-lt}
 use Rattle.meaning.specs.Text.{bytes, fieldsOf, number, sameBytes, sized, isPlain, allDigits, isDigit}
-use Rattle.meaning.specs.Line.{field, input, span, sum, relu, which, max, root, spelling, words, wordAmong, isCount, consNumber, numbersOf, assemble, lineOfFields, lineOf}
-use Rattle.meaning.specs.Line.{Word as MeantWord}
+use Rattle.meaning.specs.Word.{field, input, span, sum, relu, which, max, root, words, kindOf, mostNumbers}
+use Rattle.meaning.specs.Line.{wordAmong, consNumber, numbersOf, assemble, lineOfFields, lineOf}
+use Rattle.meaning.specs.Word.{Word as MeantWord}
 use Rattle.text.specs.Place.{indexOf, fieldAt}
-use Rattle.text.specs.Parsed.{mostNumbers, ifSome, leadingNumbers, afterWord, leading, Stored}
+use Rattle.text.specs.Parsed.{ifSome, leadingNumbers, afterWord, leading, Stored}
 use Rattle.text.proofs.Bytes.{and-false, none-some}
 use Rattle.text.proofs.Numbers.{tab-number}
 use Rattle.text.proofs.Words.{same-spelled}
@@ -37,25 +38,25 @@ unfolding afterNumbers
 before-all none = refl
 before-all (some ns) = refl
 
--- ---- no word has more than 33 numbers
+-- ---- no word has more numbers than the most
 
-count-over : (w : MeantWord) (n : ℕ) → mostNumbers < n → isCount w n ≡ false
-unfolding isCount
-count-over field n h = ne-eqb n 1 (λ e. omega arith)
-count-over input n h = ne-eqb n 0 (λ e. omega arith)
-count-over span n h = ne-eqb n 4 (λ e. omega arith)
-count-over sum n h = rw (lt-leb n mostNumbers h) (and-false (eqb (n % 2) 1))
-count-over relu n h = ne-eqb n 3 (λ e. omega arith)
-count-over which n h = ne-eqb n 4 (λ e. omega arith)
-count-over max n h = ne-eqb n 4 (λ e. omega arith)
-count-over root n h = ne-eqb n 3 (λ e. omega arith)
+count-over : (w : MeantWord) (ns : List ℤ) → mostNumbers < length ns → kindOf w .isCounted ns ≡ false
+unfolding kindOf
+count-over field ns h = ne-eqb (length ns) 1 (λ e. omega arith)
+count-over input ns h = ne-eqb (length ns) 0 (λ e. omega arith)
+count-over span ns h = ne-eqb (length ns) 4 (λ e. omega arith)
+count-over sum ns h = rw (lt-leb (length ns) mostNumbers h) (and-false (eqb (length ns % 2) 1))
+count-over relu ns h = ne-eqb (length ns) 3 (λ e. omega arith)
+count-over which ns h = ne-eqb (length ns) 4 (λ e. omega arith)
+count-over max ns h = ne-eqb (length ns) 4 (λ e. omega arith)
+count-over root ns h = ne-eqb (length ns) 3 (λ e. omega arith)
 
 after-full : (w : MeantWord) (ns : List ℤ) (first : Option ℤ) (rest : Option (List ℤ)) → length ns ≡ mostNumbers
     → assemble (some w) (afterNumbers ns (consNumber first rest)) ≡ none
 unfolding assemble afterNumbers consNumber
 after-full w ns none rest h = refl
 after-full w ns (some n) none h = refl
-after-full w ns (some n) (some ms) h = rw (count-over w (length (ns ++ n ∷ ms)) (omega (arith, length-append ns (n ∷ ms))))
+after-full w ns (some n) (some ms) h = rw (count-over w (ns ++ n ∷ ms) (omega (arith, length-append ns (n ∷ ms))))
 
 -- ---- the numbers of fields
 
@@ -169,7 +170,7 @@ number-alone xs = alone-at _ xs refl
 
 -- no word has such numbers, so that they are not one
 pub none-alone : (ns : Option (List ℤ)) → assemble (some sum) ns ≡ none → onlyOne ns ≡ none
-unfolding onlyOne assemble isCount
+unfolding onlyOne assemble kindOf
 none-alone none q = refl
 none-alone (some []) q = refl
 none-alone (some (z ∷ [])) q = absurd (none-some (sym q))
@@ -182,8 +183,8 @@ many-alone (z ∷ []) q = absurd (q refl)
 many-alone (z ∷ (y ∷ zs)) q = refl
 
 -- a word is no number
-spelling-no-number : (w : MeantWord) → number (spelling w) ≡ none
-unfolding spelling bytes number sameBytes sized isPlain allDigits isDigit
+spelling-no-number : (w : MeantWord) → number (kindOf w .spelling) ≡ none
+unfolding kindOf bytes number sameBytes sized isPlain allDigits isDigit
 spelling-no-number field = refl
 spelling-no-number input = refl
 spelling-no-number span = refl
@@ -196,15 +197,15 @@ spelling-no-number root = refl
 -- ---- a line at a place: what `fields_of` tells of it
 
 -- a word's field has its spelling
-spelled-at : (t : Bool) (v w : MeantWord) (f : List ℕ) (later : Option MeantWord) → sameBytes (spelling v) f ≡ t → (later ≡ some w → f ≡ spelling w)
-    → cond t (some v) later ≡ some w → f ≡ spelling w
-spelled-at true v w f later s rest q = let e : v ≡ w = cc in rw (← e) (sym (same-spelled (spelling v) f s))
+spelled-at : (t : Bool) (v w : MeantWord) (f : List ℕ) (later : Option MeantWord) → sameBytes (kindOf v .spelling) f ≡ t → (later ≡ some w → f ≡ kindOf w .spelling)
+    → cond t (some v) later ≡ some w → f ≡ kindOf w .spelling
+spelled-at true v w f later s rest q = let e : v ≡ w = cc in rw (← e) (sym (same-spelled (kindOf v .spelling) f s))
 spelled-at false v w f later s rest q = rest q
 
-word-spelled : (ws : List MeantWord) (f : List ℕ) (w : MeantWord) → wordAmong ws f ≡ some w → f ≡ spelling w
+word-spelled : (ws : List MeantWord) (f : List ℕ) (w : MeantWord) → wordAmong ws f ≡ some w → f ≡ kindOf w .spelling
 unfolding wordAmong
 word-spelled [] f w q = absurd (none-some q)
-word-spelled (v ∷ ws) f w q = spelled-at (sameBytes (spelling v) f) v w f (wordAmong ws f) refl (word-spelled ws f w) q
+word-spelled (v ∷ ws) f w q = spelled-at (sameBytes (kindOf v .spelling) f) v w f (wordAmong ws f) refl (word-spelled ws f w) q
 
 pub word-no-number : (line : List ℕ) {f : List ℕ} {fs : List (List ℕ)} {w : MeantWord} → fieldsOf line ≡ f ∷ fs → wordAmong words f ≡ some w → number line ≡ none
 unfolding numbersOf consNumber onlyOne

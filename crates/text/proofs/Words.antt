@@ -11,7 +11,8 @@ use lib.Dec.{eqb, ltb}
 use lib.ListN.{length, getD, take, drop, length-drop, drop-of-length-le, length-take}
 use lib.Seq.{getD-take, getD-drop}
 use Rattle.meaning.specs.Text.{bytes, sameBytes}
-use Rattle.meaning.specs.Line.{Word, field, input, span, sum, relu, which, max, root, spelling, words, wordAmong}
+use Rattle.meaning.specs.Word.{Word, field, input, span, sum, relu, which, max, root, words, kindOf}
+use Rattle.meaning.specs.Line.{wordAmong}
 use Rattle.meaning.proofs.Results.{none-refused}
 use Rattle.text.specs.declared.Word.{Word as Read}
 use Rattle.text.specs.declared.Spelled.{Spelled}
@@ -30,8 +31,8 @@ toldBy first second =
     (cond (eqb first 114) (cond (eqb second 101) relu root)
     (cond (eqb first 102) field (cond (eqb first 105) input (cond (eqb first 119) which max))))
 
-told-spelling : (w : Word) → toldBy (getD (spelling w) 0 0) (getD (spelling w) 1 0) ≡ w
-unfolding toldBy spelling bytes
+told-spelling : (w : Word) → toldBy (getD (kindOf w .spelling) 0 0) (getD (kindOf w .spelling) 1 0) ≡ w
+unfolding toldBy kindOf bytes
 told-spelling field = refl
 told-spelling input = refl
 told-spelling span = refl
@@ -41,8 +42,8 @@ told-spelling which = refl
 told-spelling max = refl
 told-spelling root = refl
 
-spelling-long : (w : Word) → 1 < length (spelling w)
-unfolding spelling bytes
+spelling-long : (w : Word) → 1 < length (kindOf w .spelling)
+unfolding kindOf bytes
 spelling-long field = omega arith
 spelling-long input = omega arith
 spelling-long span = omega arith
@@ -63,14 +64,14 @@ field-at {text} {at} {end} l k h =
     getD-take n (drop at line) k 0 (omega (arith, long)) ∙ getD-drop at line k 0
     ∙ getD-take end text (at + k) 0 (omega (arith, long, length-drop at line, cut-length l))
 
-pub told-only : {text : List ℕ} {at end : ℕ} → InLine text at end → (w : Word) → fieldAt (take end text) at ≡ spelling w → w ≡ toldBy (getD text at 0) (getD text (at + 1) 0)
+pub told-only : {text : List ℕ} {at end : ℕ} → InLine text at end → (w : Word) → fieldAt (take end text) at ≡ kindOf w .spelling → w ≡ toldBy (getD text at 0) (getD text (at + 1) 0)
 told-only {text} {at} {end} l w q =
     let long = spelling-long w in
     let e : at + 0 ≡ at = omega arith in
     let same = ap length q in
-    let first : getD (spelling w) 0 0 ≡ getD text at 0 =
+    let first : getD (kindOf w .spelling) 0 0 ≡ getD text at 0 =
     ap (λ (xs : List ℕ). getD xs 0 0) (sym q) ∙ (rw e at (field-at l 0 (omega (arith, same)))) in
-    let second : getD (spelling w) 1 0 ≡ getD text (at + 1) 0 = ap (λ (xs : List ℕ). getD xs 1 0) (sym q) ∙ field-at l 1 (omega (arith, same)) in
+    let second : getD (kindOf w .spelling) 1 0 ≡ getD text (at + 1) 0 = ap (λ (xs : List ℕ). getD xs 1 0) (sym q) ∙ field-at l 1 (omega (arith, same)) in
     sym (told-spelling w) ∙ rw (first, second)
 
 -- ---- a field beside a spelling
@@ -91,8 +92,8 @@ above-at [] q k h = absurd (omega arith)
 above-at (x ∷ xs) q zero h = ltb-true 10 x (above-both (ltb 10 x) (allAbove xs) q .0)
 above-at (x ∷ xs) q (suc k) h = above-at xs (above-both (ltb 10 x) (allAbove xs) q .1) k (omega arith)
 
-spelling-above : (w : Word) → allAbove (spelling w) ≡ true
-unfolding allAbove spelling bytes
+spelling-above : (w : Word) → allAbove (kindOf w .spelling) ≡ true
+unfolding allAbove kindOf bytes
 spelling-above field = refl
 spelling-above input = refl
 spelling-above span = refl
@@ -123,32 +124,32 @@ spelling-start {text} {at} {end} l spelled =
       back = rw e (λ q. q);
     }
 
-module _ {text : List ℕ} {at end : ℕ} (w : Word) {i : ℕ} (s : Spelling text at end (spelling w) i) where
-  module _ (h : i < length (spelling w)) where
-    left-spelled : drop i (spelling w) ≡ getD (spelling w) i 0 ∷ drop (i + 1) (spelling w)
-    left-spelled = drop-more (spelling w) i h
+module _ {text : List ℕ} {at end : ℕ} (w : Word) {i : ℕ} (s : Spelling text at end (kindOf w .spelling) i) where
+  module _ (h : i < length (kindOf w .spelling)) where
+    left-spelled : drop i (kindOf w .spelling) ≡ getD (kindOf w .spelling) i 0 ∷ drop (i + 1) (kindOf w .spelling)
+    left-spelled = drop-more (kindOf w .spelling) i h
 
-    pub spelling-differs : (getD text (at + i) 0 ≢ getD (spelling w) i 0) → fieldAt (take end text) at ≢ spelling w
+    pub spelling-differs : (getD text (at + i) 0 ≢ getD (kindOf w .spelling) i 0) → fieldAt (take end text) at ≢ kindOf w .spelling
     spelling-differs q e =
         let left = s .forth e ∙ left-spelled in
         let long = ap length left in
         let e₀ : (at + i) + 0 ≡ at + i = omega arith in
         q (sym (rw e₀ at (field-at (s .place) 0 (omega (arith, long)))) ∙ ap (λ (xs : List ℕ). getD xs 0 0) left)
 
-    module _ (q : getD text (at + i) 0 ≡ getD (spelling w) i 0) where
+    module _ (q : getD text (at + i) 0 ≡ getD (kindOf w .spelling) i 0) where
       letter : 10 < getD text (at + i) 0
-      letter = rw q (above-at (spelling w) (spelling-above w) i h)
+      letter = rw q (above-at (kindOf w .spelling) (spelling-above w) i h)
 
       inside : at + i < end
       inside = before-end (s .place) (λ e. omega (arith, letter))
 
-      left-field : fieldAt (take end text) (at + i) ≡ getD (spelling w) i 0 ∷ fieldAt (take end text) (at + (i + 1))
+      left-field : fieldAt (take end text) (at + i) ≡ getD (kindOf w .spelling) i 0 ∷ fieldAt (take end text) (at + (i + 1))
       left-field =
           let byte = cut-byte (s .place) inside in
           let e : (at + i) + 1 ≡ at + (i + 1) = omega arith in
           rw (byte, q, e) at (field-more (take end text) (at + i) (omega (arith, cut-length (s .place), inside)) (rw byte (λ t. omega (arith, letter))))
 
-      pub spelling-next : Spelling text at end (spelling w) (i + 1)
+      pub spelling-next : Spelling text at end (kindOf w .spelling) (i + 1)
       spelling-next =
           let e : (at + i) + 1 ≡ at + (i + 1) = omega arith in
           let byte = cut-byte (s .place) inside in record {
@@ -159,18 +160,18 @@ module _ {text : List ℕ} {at end : ℕ} (w : Word) {i : ℕ} (s : Spelling tex
             back = λ t. s .back (left-field ∙ rw t (sym left-spelled));
           }
 
-  module _ (h : length (spelling w) ≤ i) where
-    none-spelled : drop i (spelling w) ≡ []
-    none-spelled = drop-of-length-le (spelling w) h
+  module _ (h : length (kindOf w .spelling) ≤ i) where
+    none-spelled : drop i (kindOf w .spelling) ≡ []
+    none-spelled = drop-of-length-le (kindOf w .spelling) h
 
-    pub spelling-end : (getD text (at + i) 0 ≡ 9) ⊎ (getD text (at + i) 0 ≡ 10) → (fieldAt (take end text) at ≡ spelling w) × Found 9 (take end text) at (at + i)
+    pub spelling-end : (getD text (at + i) 0 ≡ 9) ⊎ (getD text (at + i) 0 ≡ 10) → (fieldAt (take end text) at ≡ kindOf w .spelling) × Found 9 (take end text) at (at + i)
     spelling-end stop =
         let here = field-ends (s .place) stop in (
           s .back (field-empty (take end text) (at + i) here ∙ sym none-spelled),
           search-stop (s .searched) here,
         )
 
-    pub spelling-more : (getD text (at + i) 0 ≡ 9 → ⊥) → (getD text (at + i) 0 ≡ 10 → ⊥) → fieldAt (take end text) at ≢ spelling w
+    pub spelling-more : (getD text (at + i) 0 ≡ 9 → ⊥) → (getD text (at + i) 0 ≡ 10 → ⊥) → fieldAt (take end text) at ≢ kindOf w .spelling
     spelling-more no-tab no-end e =
         let inside = before-end (s .place) no-end in
         let byte = cut-byte (s .place) inside in
@@ -189,17 +190,17 @@ same-spelled (x ∷ xs) (y ∷ ys) q =
     let both = above-both _ _ q in
     rw (eqb-true x y (both .0), same-spelled xs ys (both .1))
 
-among-none : (ws : List Word) (f : List ℕ) → ((w : Word) → f ≢ spelling w) → wordAmong ws f ≡ none
+among-none : (ws : List Word) (f : List ℕ) → ((w : Word) → f ≢ kindOf w .spelling) → wordAmong ws f ≡ none
 unfolding wordAmong
 among-none [] f no-word = refl
-among-none (w ∷ ws) f no-word = rw (differs (sameBytes (spelling w) f) refl) (among-none ws f no-word)
+among-none (w ∷ ws) f no-word = rw (differs (sameBytes (kindOf w .spelling) f) refl) (among-none ws f no-word)
   where
-    differs : (t : Bool) → sameBytes (spelling w) f ≡ t → t ≡ false
-    differs true q = absurd (no-word w (sym (same-spelled (spelling w) f q)))
+    differs : (t : Bool) → sameBytes (kindOf w .spelling) f ≡ t → t ≡ false
+    differs true q = absurd (no-word w (sym (same-spelled (kindOf w .spelling) f q)))
     differs false q = refl
 
-among-spelling : (w : Word) → wordAmong words (spelling w) ≡ some w
-unfolding wordAmong words spelling bytes sameBytes
+among-spelling : (w : Word) → wordAmong words (kindOf w .spelling) ≡ some w
+unfolding wordAmong words kindOf bytes sameBytes
 among-spelling field = refl
 among-spelling input = refl
 among-spelling span = refl
@@ -215,4 +216,4 @@ unfolding WordRead Spells
 word-read line at w (Known found place) only s =
     (rw (s .1, among-spelling (wordOf w), s .0), s .2)
 word-read line at w NoWord only s =
-    none-refused 3 (among-none words (fieldAt line at) (λ other q. s (q ∙ ap spelling (only other q))))
+    none-refused 3 (among-none words (fieldAt line at) (λ other q. s (q ∙ ap (λ (v : Word). kindOf v .spelling) (only other q))))

@@ -9,8 +9,10 @@ use lib.Dec.{eqb}
 use lib.IntN.{ℤ, pos}
 use lib.ListN.{length, getD, take, drop}
 use Rattle.meaning.specs.Text.{fieldsOf, number}
-use Rattle.meaning.specs.Line.{words, wordAmong, numbersOf, assemble, lineOf}
-use Rattle.meaning.specs.Line.{Word as MeantWord, Line as Meant}
+use Rattle.meaning.specs.Word.{words, mostNumbers, kindOf}
+use Rattle.meaning.specs.Line.{wordAmong, numbersOf, assemble, lineOf}
+use Rattle.meaning.specs.Word.{Word as MeantWord}
+use Rattle.meaning.specs.Line.{Line as Meant}
 use Rattle.meaning.specs.Refusal.{Result, value, refusedBy, orRefused}
 use Rattle.text.specs.Word.{wordOf}
 use Rattle.text.specs.Place.{endOf, lineAt, fieldsFrom}
@@ -35,10 +37,6 @@ countSeen NoLine = 0
 unfoldable pub NextAfter : List ℕ → ℕ → Parsed → Type 0
 NextAfter text at (Line w n next) = next ≡ endOf text at + 1
 NextAfter text at NoLine = Unit {0}
-
--- the most numbers that a line has: those of a sum with 16 pairs
-abbrev pub mostNumbers : ℕ
-mostNumbers = 33
 
 -- ---- the numbers that are left
 
@@ -72,10 +70,17 @@ unfoldable pub NumbersTold : List ℕ → ℕ → List ℤ → Counted → Type 
 NumbersTold line from after (Numbers count end) = (numbersOf (fieldsFrom line from) ≡ some (take count after)) × (count ≤ mostNumbers) × (end ≡ length line)
 NumbersTold line from after NoNumbers = (w : MeantWord) → assemble (some w) (numbersOf (fieldsFrom line from)) ≡ none
 
+-- the answer says of any numbers, so many, whether as many belong to the word
+abbrev pub CountTold : Word → (count : ℕ) → Bool → Type 0
+CountTold w count r = (ns : List ℤ) → length ns ≡ count → r ≡ kindOf (wordOf w) .isCounted ns
+
 -- the answer for a word with so many numbers, by whether as many belong to it
 unfoldable pub wordedBy : Bool → Word → ℕ → ℕ → Fields
 wordedBy true w count next = Worded w count next
 wordedBy false w count next = Alone 0 next
+
+abbrev pub WordedAs : Word → (count next : ℕ) → Fields → Type 0
+WordedAs w count next f = (ns : List ℤ) → length ns ≡ count → f ≡ wordedBy (kindOf (wordOf w) .isCounted ns) w count next
 
 -- the number that stands alone, where so many do: the first that was written
 unfoldable pub aloneAmong : ℕ → List ℤ → Option ℤ

@@ -5,8 +5,9 @@ use mathlib.Core.Logic.{_≢_}
 use mathlib.Core.Option.{some}
 use Prim.Native.Nat.{ℕ}
 use Rattle.meaning.specs.Refusal.{refusedBy, orRefused}
-use Rattle.meaning.specs.Line.{field, input, span, sum, relu, which, max, root, spelling, words, wordAmong}
-use Rattle.meaning.specs.Line.{Word as Meant}
+use Rattle.meaning.specs.Word.{field, input, span, sum, relu, which, max, root, words, kindOf}
+use Rattle.meaning.specs.Line.{wordAmong}
+use Rattle.meaning.specs.Word.{Word as Meant}
 use Rattle.text.specs.declared.Word.{Word}
 use Rattle.text.specs.declared.Word.the-variants.{Field, In, Span, Sum, Relu, Which, Max, Root}
 use Rattle.text.specs.declared.Spelled.{Spelled}
@@ -30,9 +31,9 @@ WordRead line at NoWord = orRefused 3 (wordAmong words (fieldAt line at)) ≡ re
 
 -- the field at a place is this word or none
 abbrev pub OnlyWord : List ℕ → ℕ → Word → Type 0
-OnlyWord line at w = (other : Meant) → fieldAt line at ≡ spelling other → other ≡ wordOf w
+OnlyWord line at w = (other : Meant) → fieldAt line at ≡ kindOf other .spelling → other ≡ wordOf w
 
 -- the answer is this word, with the place where its field ends, just where the field at a place is that word
 unfoldable pub Spells : List ℕ → ℕ → Word → Spelled → Type 0
-Spells line at w (Known found place) = (found ≡ w) × (fieldAt line at ≡ spelling (wordOf w)) × Found 9 line at place
-Spells line at w NoWord = fieldAt line at ≢ spelling (wordOf w)
+Spells line at w (Known found place) = (found ≡ w) × (fieldAt line at ≡ kindOf (wordOf w) .spelling) × Found 9 line at place
+Spells line at w NoWord = fieldAt line at ≢ kindOf (wordOf w) .spelling

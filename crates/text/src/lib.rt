@@ -8,11 +8,11 @@ ghost use Prim.Native.Nat.{_+_, _^_, _≤_, _<_};
 ghost use lib.Dec.{eqb};
 ghost use lib.ListN.{length};
 ghost use Rattle.meaning.specs.Text.{sameBytes, isEnded, isDigit};
-ghost use Rattle.meaning.specs.Line.{isCount, spelling};
+ghost use Rattle.meaning.specs.Word.{kindOf, mostNumbers};
 ghost use Rattle.text.specs.Number.{SizeRead, NumberRead, WholeRead};
 ghost use Rattle.text.specs.Word.{wordOf, WordRead, OnlyWord, Spells};
 ghost use Rattle.text.specs.Place.{Found, upTo, lineAt, fieldsFrom};
-ghost use Rattle.text.specs.Parsed.{LineRead, NextAfter, NumbersTold, wordedBy, FieldsTold, Stored, leadingNumbers, leading, mostNumbers};
+ghost use Rattle.text.specs.Parsed.{LineRead, NextAfter, NumbersTold, CountTold, WordedAs, FieldsTold, Stored, leadingNumbers, leading};
 
 // Bytes with a meaning of their own.
 const TAB: u8 = 9;
@@ -190,7 +190,7 @@ fn only_word(text: &[u8], at: usize) -> Word
 
 // Whether the field at `at` is this word, of this spelling.
 fn is_word(text: &[u8], at: usize, word: Word, spelled: &[u8]) -> Spelled
-    requires { ⌜ (isEnded (now text) ≡ true) × (at < length (now text)) × (now spelled ≡ spelling (wordOf word)) ⌝ }
+    requires { ⌜ (isEnded (now text) ≡ true) × (at < length (now text)) × (now spelled ≡ kindOf (wordOf word) .spelling) ⌝ }
     ensures { λ r. ⌜ Spells (upTo (now (text .entry)) at) at word r ⌝ }
 {
     let mut i: usize = 0;
@@ -227,7 +227,7 @@ fn word_at(text: &[u8], at: usize) -> Spelled
 
 // Whether so many numbers may follow a word. A sum has a constant, and then pairs.
 fn is_count(word: Word, count: usize) -> bool
-    ensures { λ r. ⌜ r ≡ isCount (wordOf word) count ⌝ }
+    ensures { λ r. ⌜ CountTold word count r ⌝ }
 {
     match word {
         Word::Field => count == 1,
@@ -353,7 +353,7 @@ fn numbers_from(text: &[u8], from: usize, numbers: &mut [i64]) -> Counted
 // A word with so many numbers, where as many belong to it, in a line that ends at `end`.
 fn worded(word: Word, count: usize, end: usize) -> Fields
     requires { ⌜ end + 1 < 2 ^ 64 ⌝ }
-    ensures { λ r. ⌜ r ≡ wordedBy (isCount (wordOf word) count) word count (end + 1) ⌝ }
+    ensures { λ r. ⌜ WordedAs word count (end + 1) r ⌝ }
 {
     let next = end + 1;
     if is_count(word, count) {

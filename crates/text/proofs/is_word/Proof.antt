@@ -3,7 +3,7 @@ use mathlib.Core.Path.{_≡_, refl, sym, _∙_}
 use Prim.Native.Nat.{_-_}
 use native.Mathlib.Omega.{arith}
 use lib.ListN.{length}
-use Rattle.meaning.specs.Line.{spelling}
+use Rattle.meaning.specs.Word.{kindOf}
 use Rattle.text.specs.Place.{endOf}
 use Rattle.text.specs.Word.{wordOf, Spells}
 use Rattle.text.proofs.Ends.{InLine, in-line, place-inside, ends-field, no-field-end}
@@ -13,7 +13,7 @@ use Rattle.text.proofs.is_word.Statement.{statement}
 use Rattle.text.proofs.is_word.Tie as tie
 
 abbrev Inv-loop : tie.InvT-loop
-Inv-loop text at word spelled i₀ i = (spelled ≡ spelling (wordOf word)) × Spelling text at (endOf text at) (spelling (wordOf word)) i
+Inv-loop text at word spelled i₀ i = (spelled ≡ kindOf (wordOf word) .spelling) × Spelling text at (endOf text at) (kindOf (wordOf word) .spelling) i
 
 abbrev μ-loop : tie.MeasureT-loop
 μ-loop text at word spelled i₀ i = length spelled - i
@@ -22,7 +22,7 @@ line : (c : tie.Start Inv-loop μ-loop) → InLine (c .args .text .now) (c .args
 line c = in-line (c .args .text .now) (c .pre .0) (c .args .at) (c .pre .1)
 
 loop-holds : tie.Need-loop-holds Inv-loop μ-loop
-loop-holds c = let start = c .before .before in (start .pre .2, spelling-start (line start) (spelling (wordOf (start .args .word))))
+loop-holds c = let start = c .before .before in (start .pre .2, spelling-start (line start) (kindOf (wordOf (start .args .word)) .spelling))
 
 add-if1 : tie.Need-add-if1 Inv-loop μ-loop
 add-if1 c = omega (arith, place-inside (c .before .loop .inv .1 .place))

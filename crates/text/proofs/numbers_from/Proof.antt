@@ -5,7 +5,8 @@ use mir.Syntax.{w64}
 use mir.Val.{toZ, ofZ}
 use lib.ListN.{length, set}
 use Rattle.text.specs.Number.{NumberRead}
-use Rattle.text.specs.Parsed.{NumbersTold, mostNumbers}
+use Rattle.meaning.specs.Word.{mostNumbers}
+use Rattle.text.specs.Parsed.{NumbersTold}
 use Rattle.text.specs.Place.{Found, endOf, upTo, fieldsFrom}
 use Rattle.meaning.specs.Text.{fieldsOf}
 use Rattle.text.proofs.Places.{partsAfter, fields-from, fields-found, parts-more, parts-none}

@@ -7,11 +7,11 @@ use Rattle.text.proofs.worded.Tie as tie
 
 returns : tie.Need-returns
 unfolding wordedBy
-returns c = sym (rw (sym (c .before .is-count .ensures) ∙ c .if1 .taken))
+returns c ns h = sym (rw (sym (c .before .is-count .ensures ns h) ∙ c .if1 .taken))
 
 returns-2 : tie.Need-returns-2
 unfolding wordedBy
-returns-2 c = sym (rw (sym (c .before .is-count .ensures) ∙ c .if1 .left))
+returns-2 c ns h = sym (rw (sym (c .before .is-count .ensures ns h) ∙ c .if1 .left))
 
 pub worded-spec : {M : Type 1} → statement M
 worded-spec = tie.close (tie.spec (λ c. search needs) (λ c κs. search needs) returns returns-2)

@@ -6,7 +6,7 @@ use native.Mathlib.Omega.{arith}
 use lib.IntN.{pos}
 use lib.ListN.{getD, take}
 use borrow.Author.Tests.{not-true, not-false}
-use Rattle.meaning.specs.Line.{max}
+use Rattle.meaning.specs.Word.{max}
 use Rattle.meaning.specs.Known.{Known, ends, larger}
 use Rattle.meaning.specs.Refusal.{isMade}
 use Rattle.reader.specs.State.{Seen}

@@ -66,7 +66,7 @@ step-requires c κs =
       walk-ready (S .args .p) _ _ _ _ (w .sized) _ (w .later) (S .pre .4) (w .sound) (w .ordered),
       w .sized,
       read .left .kept ∙ w .numbers-long,
-      line-counted read q (w .numbers-long),
+      line-counted read q,
       line-most read q,
       line-small read q,
     )

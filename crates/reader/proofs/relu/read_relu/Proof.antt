@@ -6,7 +6,7 @@ use native.Mathlib.Omega.{arith}
 use lib.IntN.{pos}
 use lib.ListN.{getD, take}
 use borrow.Author.Tests.{not-true, not-false}
-use Rattle.meaning.specs.Line.{relu}
+use Rattle.meaning.specs.Word.{relu}
 use Rattle.meaning.specs.Known.{Known, ends, larger}
 use Rattle.reader.specs.State.{Seen}
 use Rattle.reader.specs.Told.{refuses, makes, toldOf, madeSeen, lineWith}

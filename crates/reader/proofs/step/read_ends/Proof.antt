@@ -2,7 +2,7 @@
 use mathlib.Core.Path.{refl}
 use native.Mathlib.Omega.{arith}
 use denote.Ref.{now}
-use Rattle.meaning.specs.Line.{isCount}
+use Rattle.meaning.specs.Word.{kindOf}
 use Rattle.text.specs.Word.{wordOf}
 use Rattle.reader.specs.Told.{toldBy, lineTold, madeSeen}
 use Rattle.reader.proofs.Sizes.{count-is}
@@ -12,43 +12,43 @@ use Rattle.reader.proofs.step.read_ends.Statement.{statement}
 use Rattle.reader.proofs.step.read_ends.Tie as tie
 
 read-span-requires : tie.Need-read-span-requires
-unfolding isCount wordOf
+unfolding kindOf wordOf
 read-span-requires c κs =
     let S = c .before .before in
-    let counted = count-is 4 (S .args .count) (c .enum-told3 .given .1) refl (S .pre .2) in
+    let counted = count-is (now (S .args .numbers)) 4 (S .args .count) (c .enum-told3 .given .1) (λ ns. refl) (S .pre .2) (omega (arith, S .pre .1, S .pre .3)) in
     (S .pre .0, omega (arith, S .pre .1), fewer (now (S .args .numbers)) counted (S .pre .4))
 
 read-sum-requires : tie.Need-read-sum-requires
 read-sum-requires c κs =
     let S = c .before .before in
-    (S .pre .0, omega (arith, S .pre .1, S .pre .3), S .pre .3, sum-count (c .enum-told4 .given .1) (S .args .count) (S .pre .2), S .pre .4)
+    (S .pre .0, omega (arith, S .pre .1, S .pre .3), S .pre .3, sum-count (c .enum-told4 .given .1) (now (S .args .numbers)) (S .args .count) (omega (arith, S .pre .1, S .pre .3)) (S .pre .2), S .pre .4)
 
 read-relu-requires : tie.Need-read-relu-requires
-unfolding isCount wordOf
+unfolding kindOf wordOf
 read-relu-requires c κs =
     let S = c .before .before in
-    let counted = count-is 3 (S .args .count) (c .enum-told5 .given .1) refl (S .pre .2) in
+    let counted = count-is (now (S .args .numbers)) 3 (S .args .count) (c .enum-told5 .given .1) (λ ns. refl) (S .pre .2) (omega (arith, S .pre .1, S .pre .3)) in
     (S .pre .0, omega (arith, S .pre .1), fewer (now (S .args .numbers)) counted (S .pre .4))
 
 read-which-requires : tie.Need-read-which-requires
-unfolding isCount wordOf
+unfolding kindOf wordOf
 read-which-requires c κs =
     let S = c .before .before in
-    let counted = count-is 4 (S .args .count) (c .enum-told6 .given .1) refl (S .pre .2) in
+    let counted = count-is (now (S .args .numbers)) 4 (S .args .count) (c .enum-told6 .given .1) (λ ns. refl) (S .pre .2) (omega (arith, S .pre .1, S .pre .3)) in
     (S .pre .0, omega (arith, S .pre .1), fewer (now (S .args .numbers)) counted (S .pre .4))
 
 read-max-requires : tie.Need-read-max-requires
-unfolding isCount wordOf
+unfolding kindOf wordOf
 read-max-requires c κs =
     let S = c .before .before in
-    let counted = count-is 4 (S .args .count) (c .enum-told7 .given .1) refl (S .pre .2) in
+    let counted = count-is (now (S .args .numbers)) 4 (S .args .count) (c .enum-told7 .given .1) (λ ns. refl) (S .pre .2) (omega (arith, S .pre .1, S .pre .3)) in
     (S .pre .0, omega (arith, S .pre .1), fewer (now (S .args .numbers)) counted (S .pre .4))
 
 read-root-requires : tie.Need-read-root-requires
-unfolding isCount wordOf
+unfolding kindOf wordOf
 read-root-requires c κs =
     let S = c .before .before in
-    let counted = count-is 3 (S .args .count) (c .enum-told8 .given .1) refl (S .pre .2) in
+    let counted = count-is (now (S .args .numbers)) 3 (S .args .count) (c .enum-told8 .given .1) (λ ns. refl) (S .pre .2) (omega (arith, S .pre .1, S .pre .3)) in
     (S .pre .0, omega (arith, S .pre .1), fewer (now (S .args .numbers)) counted (S .pre .4))
 
 returns : tie.Need-returns
@@ -56,16 +56,16 @@ unfolding madeSeen
 returns c = λ s seen. field-later s _ (c .enum-told .given .1)
 
 returns-2 : tie.Need-returns-2
-unfolding isCount wordOf lineTold toldBy
+unfolding kindOf wordOf lineTold toldBy
 returns-2 c =
     let S = c .before .before .before in
-    λ s seen. at-word s (now (S .args .numbers)) _ (c .before .enum-told2 .given .1) (count-is 0 (S .args .count) (c .before .enum-told2 .given .1) refl (S .pre .2)) (c .read-input .ensures s seen)
+    λ s seen. at-word s (now (S .args .numbers)) _ (c .before .enum-told2 .given .1) (count-is (now (S .args .numbers)) 0 (S .args .count) (c .before .enum-told2 .given .1) (λ ns. refl) (S .pre .2) (omega (arith, S .pre .1, S .pre .3))) (c .read-input .ensures s seen)
 
 returns-3 : tie.Need-returns-3
-unfolding isCount wordOf lineTold toldBy
+unfolding kindOf wordOf lineTold toldBy
 returns-3 c =
     let S = c .before .before .before in
-    λ s seen. at-word s (now (S .args .numbers)) _ (c .before .enum-told3 .given .1) (count-is 4 (S .args .count) (c .before .enum-told3 .given .1) refl (S .pre .2)) (c .read-span .ensures s seen)
+    λ s seen. at-word s (now (S .args .numbers)) _ (c .before .enum-told3 .given .1) (count-is (now (S .args .numbers)) 4 (S .args .count) (c .before .enum-told3 .given .1) (λ ns. refl) (S .pre .2) (omega (arith, S .pre .1, S .pre .3))) (c .read-span .ensures s seen)
 
 returns-4 : tie.Need-returns-4
 unfolding wordOf lineTold toldBy
@@ -74,28 +74,28 @@ returns-4 c =
     λ s seen. at-word {n = S .args .count} s (now (S .args .numbers)) _ (c .before .enum-told4 .given .1) refl (c .read-sum .ensures s seen)
 
 returns-5 : tie.Need-returns-5
-unfolding isCount wordOf lineTold toldBy
+unfolding kindOf wordOf lineTold toldBy
 returns-5 c =
     let S = c .before .before .before in
-    λ s seen. at-word s (now (S .args .numbers)) _ (c .before .enum-told5 .given .1) (count-is 3 (S .args .count) (c .before .enum-told5 .given .1) refl (S .pre .2)) (c .read-relu .ensures s seen)
+    λ s seen. at-word s (now (S .args .numbers)) _ (c .before .enum-told5 .given .1) (count-is (now (S .args .numbers)) 3 (S .args .count) (c .before .enum-told5 .given .1) (λ ns. refl) (S .pre .2) (omega (arith, S .pre .1, S .pre .3))) (c .read-relu .ensures s seen)
 
 returns-6 : tie.Need-returns-6
-unfolding isCount wordOf lineTold toldBy
+unfolding kindOf wordOf lineTold toldBy
 returns-6 c =
     let S = c .before .before .before in
-    λ s seen. at-word s (now (S .args .numbers)) _ (c .before .enum-told6 .given .1) (count-is 4 (S .args .count) (c .before .enum-told6 .given .1) refl (S .pre .2)) (c .read-which .ensures s seen)
+    λ s seen. at-word s (now (S .args .numbers)) _ (c .before .enum-told6 .given .1) (count-is (now (S .args .numbers)) 4 (S .args .count) (c .before .enum-told6 .given .1) (λ ns. refl) (S .pre .2) (omega (arith, S .pre .1, S .pre .3))) (c .read-which .ensures s seen)
 
 returns-7 : tie.Need-returns-7
-unfolding isCount wordOf lineTold toldBy
+unfolding kindOf wordOf lineTold toldBy
 returns-7 c =
     let S = c .before .before .before in
-    λ s seen. at-word s (now (S .args .numbers)) _ (c .before .enum-told7 .given .1) (count-is 4 (S .args .count) (c .before .enum-told7 .given .1) refl (S .pre .2)) (c .read-max .ensures s seen)
+    λ s seen. at-word s (now (S .args .numbers)) _ (c .before .enum-told7 .given .1) (count-is (now (S .args .numbers)) 4 (S .args .count) (c .before .enum-told7 .given .1) (λ ns. refl) (S .pre .2) (omega (arith, S .pre .1, S .pre .3))) (c .read-max .ensures s seen)
 
 returns-8 : tie.Need-returns-8
-unfolding isCount wordOf lineTold toldBy
+unfolding kindOf wordOf lineTold toldBy
 returns-8 c =
     let S = c .before .before .before in
-    λ s seen. at-word s (now (S .args .numbers)) _ (c .before .enum-told8 .given .1) (count-is 3 (S .args .count) (c .before .enum-told8 .given .1) refl (S .pre .2)) (c .read-root .ensures s seen)
+    λ s seen. at-word s (now (S .args .numbers)) _ (c .before .enum-told8 .given .1) (count-is (now (S .args .numbers)) 3 (S .args .count) (c .before .enum-told8 .given .1) (λ ns. refl) (S .pre .2) (omega (arith, S .pre .1, S .pre .3))) (c .read-root .ensures s seen)
 
 pub read-ends-spec : {M : Type 1} → statement M
 read-ends-spec =

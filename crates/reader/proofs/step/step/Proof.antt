@@ -9,7 +9,7 @@ use lib.IntN.{ℤ, pos}
 use mir.Syntax.{w64}
 use mir.Val.{SFits}
 use Rattle.number.proofs.Word.{back}
-use Rattle.meaning.specs.Line.{span, isCount, sizeAt}
+use Rattle.meaning.specs.Word.{span, sizeAt, kindOf}
 use Rattle.meaning.specs.Known.{Known}
 use Rattle.meaning.specs.Kept.{Keeps}
 use Rattle.text.specs.Word.{wordOf}
@@ -63,14 +63,14 @@ returns c =
     )
 
 narrow-requires : tie.Need-narrow-requires
-unfolding isCount wordOf toldBy lineTold
+unfolding kindOf wordOf toldBy lineTold
 narrow-requires c κs =
     let S = c .before .before .before .before .before .before .before .before .before .before in
     let a = S .args in
     let s = stateOf (a .p) (a .counts) (now (a .lows)) (now (a .highs)) [] in
     let ns = take (a .count) (now (a .numbers)) in
     let word-is = c .before .before .before .before .enum-told .given .1 in
-    let four = count-is 4 (a .count) word-is refl (S .pre .3) in
+    let four = count-is (now (a .numbers)) 4 (a .count) word-is (λ ns. refl) (S .pre .3) (omega (arith, S .pre .2, S .pre .4)) in
     let at-fits : SFits w64 (getD (now (a .numbers)) 0 (pos 0)) = search needs in
     let told = rw (span-word word-is) at (c .before .before .before .before .before .before .before .read-ends .ensures s (seen-state (a .p) (a .counts) (now (a .lows)) (now (a .highs)) [] refl)) in (
       S .pre .1,
@@ -80,13 +80,13 @@ narrow-requires c κs =
     )
 
 returns-2 : tie.Need-returns-2
-unfolding counted isCount wordOf toldBy lineTold
+unfolding counted kindOf wordOf toldBy lineTold
 returns-2 c =
     let S = c .before .before .before .before .before .before .before .before .before .before .before .before .before in
     let a = S .args in
     let ns = take (a .count) (now (a .numbers)) in
     let word-is = c .before .before .before .before .before .before .before .enum-told .given .1 in
-    let four = count-is 4 (a .count) word-is refl (S .pre .3) in
+    let four = count-is (now (a .numbers)) 4 (a .count) word-is (λ ns. refl) (S .pre .3) (omega (arith, S .pre .2, S .pre .4)) in
     let at-fits : SFits w64 (getD (now (a .numbers)) 0 (pos 0)) = search needs in
     let made = c .before .before .before .before .before .before .before .before .before .before .read-ends .result in
     let at = c .before .before .before .before .before .natural .result in

@@ -5,7 +5,7 @@ use Prim.Native.Nat.{_-_}
 use lib.IntN.{pos}
 use lib.ListN.{getD, take, drop}
 use borrow.Author.Tests.{not-true, not-false}
-use Rattle.meaning.specs.Line.{alternate}
+use Rattle.meaning.specs.Word.{alternate}
 use Rattle.meaning.specs.Number.{inRange}
 use Rattle.meaning.specs.Refusal.{all}
 use Rattle.reader.proofs.SumLine.{all-end, all-next, all-fails}

@@ -3,7 +3,7 @@ use mathlib.Core.Path.{_≡_, refl, sym, _∙_}
 use Prim.Native.Nat.{_-_}
 use lib.ListN.{take, drop}
 use borrow.Author.Tests.{not-true, not-false}
-use Rattle.meaning.specs.Line.{alternate}
+use Rattle.meaning.specs.Word.{alternate}
 use Rattle.meaning.specs.Refusal.{all, isMade}
 use Rattle.reader.proofs.SumLine.{all-end, all-next, all-fails}
 use borrow.Author.Needs.{needs}

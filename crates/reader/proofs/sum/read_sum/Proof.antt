@@ -7,7 +7,7 @@ use native.Mathlib.Omega.{arith}
 use lib.IntN.{pos}
 use lib.ListN.{getD, take, drop}
 use borrow.Author.Tests.{not-true, not-false}
-use Rattle.meaning.specs.Line.{alternate}
+use Rattle.meaning.specs.Word.{alternate}
 use Rattle.meaning.specs.Number.{inRange}
 use Rattle.meaning.specs.Refusal.{all, isMade}
 use Rattle.reader.specs.Told.{madeSeen}

@@ -8,7 +8,7 @@ use lib.ListN.{getD, take, drop}
 use mir.Syntax.{w64}
 use mir.Val.{SFits}
 use borrow.Author.Tests.{not-true, not-false}
-use Rattle.meaning.specs.Line.{alternate}
+use Rattle.meaning.specs.Word.{alternate}
 use Rattle.meaning.specs.Known.{ends}
 use Rattle.meaning.specs.Refusal.{all, isMade}
 use Rattle.meaning.specs.Gadget.Sum.{termsOf, scaled, added, endsInRange}

@@ -6,7 +6,7 @@ use native.Mathlib.Omega.{arith}
 use lib.IntN.{pos}
 use lib.ListN.{getD, take}
 use borrow.Author.Tests.{not-true, not-false}
-use Rattle.meaning.specs.Line.{which}
+use Rattle.meaning.specs.Word.{which}
 use Rattle.meaning.specs.Known.{Known, ends}
 use Rattle.meaning.specs.Refusal.{isMade}
 use Rattle.reader.specs.State.{Seen}

@@ -2,11 +2,11 @@
 use mathlib.Core.Path.{_≡_}
 use mathlib.Core.List.{List}
 use Prim.Native.Nat.{ℕ}
-use Rattle.meaning.specs.Line.{Word}
+use Rattle.meaning.specs.Word.{Word}
 use Rattle.text.specs.Word.{wordOf}
 use Rattle.text.specs.declared.Word.{Word as Coded}
 use Rattle.table.specs.LineValues.{CellsAsked, CellsTold}
-use Rattle.table.proofs.LineWord.{Kind, at-kind, by-word}
+use Rattle.table.proofs.LineWord.{Coding, at-kind, by-word}
 use Rattle.table.proofs.LineWord.{field-kind, input-kind, span-kind, sum-kind, relu-kind, which-kind, max-kind, root-kind}
 use Rattle.table.proofs.CellsLine.{field-cells-told}
 use borrow.Author.Needs.{needs}
@@ -14,11 +14,11 @@ use Rattle.table.proofs.line_cells.line_cells.Statement.{statement}
 use Rattle.table.proofs.line_cells.line_cells.Tie as tie
 
 -- what is asked at the kind, and what is told by the word
-module _ (s : tie.Start) {v : Coded} {w : Word} {n : ℕ} (kind : Kind v w (s .args .count) n) (is : s .args .word ≡ v) where
+module _ (s : tie.Start) {v : Coded} {w : Word} {n : ℕ} (kind : Coding v w (s .args .count) n) (is : s .args .word ≡ v) where
   asked : CellsAsked (s .args .p) w (s .args .numbers .now) n (s .args .values .now) (s .args .known) (s .args .part .now)
   asked =
       at-kind kind (λ u m. CellsAsked (s .args .p) u (s .args .numbers .now) m (s .args .values .now) (s .args .known) (s .args .part .now))
-      (s .args .word) is (s .pre .asked .kept .counted) (s .pre)
+      (s .args .word) is (s .pre .asked .kept) (s .pre)
 
   told : (after : List ℕ)
       → CellsTold (s .args .p) w (s .args .numbers .now) n (s .args .values .now) (s .args .known) (s .args .part .now) after
@@ -27,7 +27,7 @@ module _ (s : tie.Start) {v : Coded} {w : Word} {n : ℕ} (kind : Kind v w (s .a
   told after t =
       by-word kind
       (λ u m. CellsTold (s .args .p) u (s .args .numbers .now) m (s .args .values .now) (s .args .known) (s .args .part .now) after)
-      (s .args .word) is (s .pre .asked .kept .counted) t
+      (s .args .word) is (s .pre .asked .kept) t
 
 input-line-cells-requires : tie.Need-input-line-cells-requires
 input-line-cells-requires c κs =

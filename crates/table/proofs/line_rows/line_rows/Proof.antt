@@ -1,15 +1,14 @@
 -- `table::line_rows::line_rows`: each word's rows are checked by the function of its kind; a field line and an input line have none.
 use mathlib.Core.Path.{_≡_, refl}
 use Prim.Native.Nat.{ℕ}
-use Rattle.meaning.specs.Line.{Word}
+use Rattle.meaning.specs.Word.{Word, kindOf}
 use Rattle.meaning.specs.Gadget.Field.{fieldLine}
 use Rattle.meaning.specs.Gadget.Input.{inputLine}
-use Rattle.meaning.specs.Meaning.{byWord}
 use Rattle.text.specs.Word.{wordOf}
 use Rattle.text.specs.declared.Word.{Word as Coded}
 use Rattle.table.specs.LineRows.{RowsAsked, RowsTold}
 use Rattle.table.specs.declared.rows.Rows.{Rows}
-use Rattle.table.proofs.LineWord.{Kind, at-kind, by-word}
+use Rattle.table.proofs.LineWord.{Coding, at-kind, by-word}
 use Rattle.table.proofs.LineWord.{field-kind, input-kind, span-kind, sum-kind, relu-kind, which-kind, max-kind, root-kind}
 use Rattle.table.proofs.RowsLine.{no-row}
 use borrow.Author.Needs.{needs}
@@ -17,18 +16,18 @@ use Rattle.table.proofs.line_rows.line_rows.Statement.{statement}
 use Rattle.table.proofs.line_rows.line_rows.Tie as tie
 
 -- what is asked at the kind, and what is told by the word
-module _ (s : tie.Start) {v : Coded} {w : Word} {n : ℕ} (kind : Kind v w (s .args .count) n) (is : s .args .word ≡ v) where
+module _ (s : tie.Start) {v : Coded} {w : Word} {n : ℕ} (kind : Coding v w (s .args .count) n) (is : s .args .word ≡ v) where
   asked : RowsAsked (s .args .p) w (s .args .numbers .now) n (s .args .table .now) (s .args .at .0) (s .args .places .now)
   asked =
       at-kind kind (λ u m. RowsAsked (s .args .p) u (s .args .numbers .now) m (s .args .table .now) (s .args .at .0) (s .args .places .now))
-      (s .args .word) is (s .pre .kept .counted) (s .pre)
+      (s .args .word) is (s .pre .kept) (s .pre)
 
   told : (r : Rows) → RowsTold (s .args .p) w (s .args .numbers .now) n (s .args .table .now) (s .args .at .0) (s .args .places .now) r
       → RowsTold (s .args .p) (wordOf (s .args .word)) (s .args .numbers .now) (s .args .count) (s .args .table .now) (s .args .at .0)
       (s .args .places .now) r
   told r t =
       by-word kind (λ u m. RowsTold (s .args .p) u (s .args .numbers .now) m (s .args .table .now) (s .args .at .0) (s .args .places .now) r)
-      (s .args .word) is (s .pre .kept .counted) t
+      (s .args .word) is (s .pre .kept) t
 
 span-line-rows-requires : tie.Need-span-line-rows-requires
 span-line-rows-requires c κs = asked (c .before .before .before .before) span-kind (c .enum-told3 .given .1)
@@ -49,11 +48,11 @@ root-line-rows-requires : tie.Need-root-line-rows-requires
 root-line-rows-requires c κs = asked (c .before .before .before .before) root-kind (c .enum-told8 .given .1)
 
 returns : tie.Need-returns
-unfolding byWord fieldLine
+unfolding kindOf fieldLine
 returns c = told (c .before .before .before .before) field-kind (c .enum-told .given .1) _ (no-row _ _ _ _ _ _ _ (λ s ns. refl))
 
 returns-2 : tie.Need-returns-2
-unfolding byWord inputLine
+unfolding kindOf inputLine
 returns-2 c = told (c .before .before .before .before) input-kind (c .enum-told2 .given .1) _ (no-row _ _ _ _ _ _ _ (λ s ns. refl))
 
 returns-3 : tie.Need-returns-3

@@ -1,13 +1,13 @@
 -- `table::line_works::line_works`: each word's line is worked by the function of its kind.
 use mathlib.Core.Path.{_≡_}
 use Prim.Native.Nat.{ℕ}
-use Rattle.meaning.specs.Line.{Word}
+use Rattle.meaning.specs.Word.{Word}
 use Rattle.text.specs.Word.{wordOf}
 use Rattle.text.specs.declared.Word.{Word as Coded}
 use Rattle.number.proofs.Word.{back}
 use Rattle.table.specs.LineValues.{ValuesAsked, WorkTold}
 use Rattle.table.specs.declared.value.Worked.{Worked}
-use Rattle.table.proofs.LineWord.{Kind, at-kind, by-word}
+use Rattle.table.proofs.LineWord.{Coding, at-kind, by-word}
 use Rattle.table.proofs.LineWord.{field-kind, input-kind, span-kind, sum-kind, relu-kind, which-kind, max-kind, root-kind}
 use Rattle.table.proofs.WorksLine.{field-told}
 use borrow.Author.Needs.{needs}
@@ -15,16 +15,16 @@ use Rattle.table.proofs.line_works.line_works.Statement.{statement}
 use Rattle.table.proofs.line_works.line_works.Tie as tie
 
 -- what is asked at the kind, and what is told by the word
-module _ (s : tie.Start) {v : Coded} {w : Word} {n : ℕ} (kind : Kind v w (s .args .count) n) (is : s .args .word ≡ v) where
+module _ (s : tie.Start) {v : Coded} {w : Word} {n : ℕ} (kind : Coding v w (s .args .count) n) (is : s .args .word ≡ v) where
   asked : ValuesAsked w (s .args .numbers .now) n (s .args .values .now)
   asked =
-      at-kind kind (λ u m. ValuesAsked u (s .args .numbers .now) m (s .args .values .now)) (s .args .word) is (s .pre .kept .counted) (s .pre)
+      at-kind kind (λ u m. ValuesAsked u (s .args .numbers .now) m (s .args .values .now)) (s .args .word) is (s .pre .kept) (s .pre)
 
   told : (r : Worked) → WorkTold w (s .args .numbers .now) n (s .args .values .now) (s .args .next) r
       → WorkTold (wordOf (s .args .word)) (s .args .numbers .now) (s .args .count) (s .args .values .now) (s .args .next) r
   told r t =
       by-word kind (λ u m. WorkTold u (s .args .numbers .now) m (s .args .values .now) (s .args .next) r) (s .args .word) is
-      (s .pre .kept .counted) t
+      (s .pre .kept) t
 
 span-line-works-requires : tie.Need-span-line-works-requires
 span-line-works-requires c κs = asked (c .before .before) span-kind (c .enum-told3 .given .1)

@@ -4,7 +4,7 @@ use lib.IntN.{pos}
 use lib.ListN.{getD}
 use mir.Syntax.{w64}
 use mir.Val.{SFits}
-use Rattle.meaning.specs.Refusal.{isField}
+use Rattle.meaning.specs.Word.{kindOf}
 use Rattle.meaning.proofs.Number.{positive}
 use Rattle.number.proofs.Word.{back}
 use Rattle.table.proofs.CellsLine.{prime-asked, sum-cell, own-known, own-room, own-cell-told}
@@ -19,11 +19,11 @@ shared-slice-copy-out-value-cell : tie.Need-shared-slice-copy-out-value-cell
 shared-slice-copy-out-value-cell c = own-known sum-cell (c .before .before .pre .2)
 
 value-cell-requires : tie.Need-value-cell-requires
-unfolding isField
+unfolding kindOf
 value-cell-requires c κs = let a = c .before .before .before .pre .2 in (positive (prime-asked a refl), own-room sum-cell a)
 
 returns : tie.Need-returns
-unfolding isField
+unfolding kindOf
 returns c numbers count =
     let last = c .before .before in
     let s = last .before .before .before .before in
