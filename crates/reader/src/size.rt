@@ -12,7 +12,7 @@ ghost use Rattle.meaning.specs.Line.{isCount};
 ghost use Rattle.meaning.specs.Known.{Known};
 ghost use Rattle.meaning.specs.Kept.{Keeps};
 ghost use Rattle.text.specs.Word.{wordOf};
-ghost use Rattle.reader.specs.Told.{lineWith};
+ghost use Rattle.rules.specs.Told.{lineWith};
 ghost use Rattle.reader.specs.Size.{counted, Adds};
 ghost use Rattle.text.specs.Parsed.{mostNumbers};
 

@@ -19,7 +19,7 @@ use Rattle.meaning.specs.Gadget.Max.{maxLine}
 use Rattle.meaning.specs.Gadget.Root.{rootLine}
 use Rattle.meaning.specs.Meaning.{byWord, gadget}
 use Rattle.meaning.specs.Refusal.{isField}
-use Rattle.reader.specs.State.{greatest}
+use Rattle.rules.specs.Ready.{greatest}
 use Rattle.table.specs.Line.{KeptLine, gadgetOf, knownCount}
 use Rattle.table.proofs.LineNumbers.{size, NameAt, first-name, second-name, DigitsFrom, digits-from, size-is}
 

@@ -11,8 +11,8 @@ use Rattle.meaning.specs.Meaning.{gadget}
 use Rattle.meaning.specs.Gadget.Interface.{Gadget}
 use Rattle.meaning.specs.Refusal.{isField}
 use Rattle.meaning.specs.Kept.{Keeps, Sound}
-use Rattle.reader.specs.State.{greatest, Small}
-use Rattle.reader.specs.Told.{lineWith}
+use Rattle.rules.specs.Ready.{greatest, Small}
+use Rattle.rules.specs.Told.{lineWith}
 use Rattle.text.specs.Parsed.{mostNumbers}
 
 -- a line with this word, whose numbers are the first count of numbers; it keeps the rules in the state before it
