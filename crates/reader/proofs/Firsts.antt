@@ -31,10 +31,10 @@ use Rattle.meaning.specs.Known.{fresh}
 use Rattle.meaning.specs.Gadget.Field.{fieldLine}
 use Rattle.meaning.specs.Meaning.{gadget, primeAfter, placesFrom, after}
 use Rattle.meaning.specs.Refusal.{all, onSome, isPlaced, isOverPrime, isRanged, rulesWith, rulesWithin, rules, firstBroken}
-use Rattle.reader.specs.Told.{lineWith}
+use Rattle.rules.specs.Told.{lineWith}
 use Rattle.reader.specs.Step.{stops, goes}
 use Rattle.reader.specs.Read.{firstOption, only}
-use Rattle.reader.specs.State.{greatest}
+use Rattle.rules.specs.Ready.{greatest}
 
 pub first-none : (line : List ℕ) → lineOf line ≡ none → stops 3 ≡ firstOption (lineOf line)
 unfolding firstOption

@@ -16,15 +16,16 @@ use Rattle.meaning.specs.Meaning.{gadget, placesFrom, after}
 use Rattle.meaning.specs.Refusal.{valueLimit, onSome, rules, firstBroken}
 use Rattle.meaning.specs.Kept.{Keeps}
 use Rattle.meaning.proofs.Kept.{keeps-all}
-use Rattle.reader.specs.State.{endsFrom, stateOf}
-use Rattle.reader.specs.Told.{Told, refuses, makes, toldOf, madeSeen}
+use Rattle.rules.specs.Ready.{endsFrom}
+use Rattle.reader.specs.State.{stateOf}
+use Rattle.rules.specs.Told.{Told, refuses, makes, toldOf, madeSeen}
 use Rattle.reader.specs.Step.{stops, goes, stepOf, stepSeen, placedAt, answered, entered, untouched, Left, WithinLimits, Grows}
-use Rattle.reader.specs.declared.rule.Made.{Made}
-use Rattle.reader.specs.declared.rule.Made.the-variants.{EndsOf, Breaks}
+use Rattle.rules.specs.declared.rule.Made.{Made}
+use Rattle.rules.specs.declared.rule.Made.the-variants.{EndsOf, Breaks}
 use Rattle.reader.specs.declared.state.Counts.{Counts}
 use Rattle.reader.specs.declared.state.Stepped.{Stepped}
 use Rattle.reader.specs.declared.state.Stepped.the-variants.{Next, Refused}
-use Rattle.reader.proofs.Values.{known-long}
+use Rattle.rules.proofs.Values.{known-long}
 
 -- ---- what is told, taken apart
 

@@ -1,7 +1,6 @@
 pub mod Sizes
 pub mod Growth
 pub mod Narrowing
-pub mod Inputs
 pub mod Steps
 pub mod Ordered
 pub mod Firsts
@@ -9,9 +8,3 @@ pub mod Stopping
 pub mod Walk
 pub mod Whole
 pub mod Exact
-pub mod Tests
-pub mod Digits
-pub mod Values
-pub mod Rules
-pub mod DigitLines
-pub mod SumLine

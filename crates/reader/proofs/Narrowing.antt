@@ -17,12 +17,13 @@ use Rattle.meaning.specs.Refusal.{rules, firstBroken, valueLimit}
 use Rattle.meaning.specs.Kept.{Keeps}
 use Rattle.meaning.proofs.Kept.{keeps-all}
 use Rattle.meaning.proofs.Lines.{first-named}
-use Rattle.reader.specs.State.{endsFrom, stateOf}
-use Rattle.reader.specs.Told.{spanTold, madeSeen, lineWith}
+use Rattle.rules.specs.Ready.{endsFrom}
+use Rattle.reader.specs.State.{stateOf}
+use Rattle.rules.specs.Told.{spanTold, madeSeen, lineWith}
 use Rattle.reader.specs.Size.{Adds}
 use Rattle.reader.specs.Step.{goes, stepOf, stepSeen, placedAt, WithinLimits}
-use Rattle.reader.specs.declared.rule.Made.{Made}
-use Rattle.reader.specs.declared.rule.Made.the-variants.{EndsOf, Breaks}
+use Rattle.rules.specs.declared.rule.Made.{Made}
+use Rattle.rules.specs.declared.rule.Made.the-variants.{EndsOf, Breaks}
 use Rattle.reader.specs.declared.state.Counts.{Counts}
 use Rattle.reader.specs.declared.state.Stepped.the-variants.{Next, Refused}
 use Rattle.reader.proofs.Growth.{told-refused, told-made, kept-step, values-are, same-state}

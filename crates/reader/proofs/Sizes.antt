@@ -30,7 +30,7 @@ use Rattle.meaning.specs.Kept.{Keeps}
 use Rattle.text.specs.Word.{wordOf}
 use Rattle.text.specs.declared.Word.{Word}
 use Rattle.text.specs.declared.Word.the-variants.{Field, In, Span, Sum, Relu, Which, Max, Root}
-use Rattle.reader.specs.Told.{lineWith}
+use Rattle.rules.specs.Told.{lineWith}
 use Rattle.reader.specs.Size.{counted, Adds, FewCounts}
 use Rattle.reader.specs.declared.state.Counts.{Counts}
 

@@ -36,10 +36,11 @@ use Rattle.text.specs.declared.Word.the-variants.{Field, In, Span, Sum, Relu, W
 use Rattle.text.proofs.Word.{the-type}
 use types.Run.{OneOf}
 use denote.Enum.Declared.{tagOf}
-use Rattle.reader.specs.State.{Small, Seen, stateOf}
-use Rattle.reader.specs.Told.{Told, refuses, toldOf, toldBy, lineTold, lineWith}
+use Rattle.rules.specs.Ready.{Small, Seen}
+use Rattle.reader.specs.State.{stateOf}
+use Rattle.rules.specs.Told.{Told, refuses, toldOf, lineWith}
 use Rattle.reader.specs.Size.{Adds}
-use Rattle.reader.specs.Step.{Step, stops, Grows, stepOf, stepOption, stepBytes}
+use Rattle.reader.specs.Step.{toldBy, lineTold, Step, stops, Grows, stepOf, stepOption, stepBytes}
 use Rattle.reader.specs.declared.state.Counts.{Counts}
 use Rattle.reader.proofs.Sizes.{length-groupRows, length-signRows, two-groups, four-groups}
 

@@ -25,13 +25,14 @@ use Rattle.meaning.proofs.Lines.{sound-after}
 use Rattle.text.specs.Place.{endOf, lineAt, linesFrom}
 use Rattle.text.proofs.Places.{lines-none}
 use Rattle.text.proofs.Ends.{in-line, lines-at}
-use Rattle.reader.specs.State.{greatest, endsFrom, stateOf, Ready}
+use Rattle.rules.specs.Ready.{greatest, endsFrom, Ready}
+use Rattle.reader.specs.State.{stateOf}
 use Rattle.reader.specs.Step.{stepBytes, stepSeen, placedAt, valuesIn, WithinLimits}
 use Rattle.reader.specs.Read.{only, counted, refusedAt, surveyOf}
 use Rattle.reader.specs.declared.state.Counts.{Counts}
 use Rattle.reader.specs.declared.state.Stepped.{Stepped}
 use Rattle.reader.specs.declared.state.Stepped.the-variants.{Next, Refused}
-use Rattle.reader.proofs.Values.{known-long}
+use Rattle.rules.proofs.Values.{known-long}
 use Rattle.reader.proofs.Ordered.{Ordered, ordered-after}
 use Rattle.reader.proofs.Steps.{few}
 use Rattle.reader.proofs.Stopping.{stopped-at, gone-at, step-later}

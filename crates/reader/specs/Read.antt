@@ -14,7 +14,7 @@ use Rattle.meaning.specs.Reply.{reply, counts, refusal}
 use Rattle.meaning.specs.Reply.{Answer as Meant}
 use Rattle.meaning.specs.Number.{OddPrime}
 use Rattle.text.specs.Place.{endOf}
-use Rattle.reader.specs.State.{greatest}
+use Rattle.rules.specs.Ready.{greatest}
 use Rattle.reader.specs.Step.{Step, stops, goes}
 use Rattle.reader.specs.declared.reading.First.{First}
 use Rattle.reader.specs.declared.reading.First.the-variants.{Prime, NotFirst}

@@ -5,17 +5,33 @@ use mathlib.Core.List.{List}
 use mathlib.Core.Option.{Option, none, some}
 use lib.ListN.{length, drop, set}
 use lib.IntN.{ℤ}
+use Rattle.meaning.specs.Word.{Word, field, input, span, sum, relu, which, max, root}
 use Rattle.meaning.specs.Line.{Line, lineOf}
 use Rattle.meaning.specs.Known.{Known}
 use Rattle.meaning.specs.Meaning.{gadget, after}
 use Rattle.meaning.specs.Refusal.{onSome, rules, firstBroken, cellLimit, valueLimit}
+use Rattle.rules.specs.Told.{Told, toldOf, spanTold}
 use Rattle.reader.specs.State.{stateOf}
 use Rattle.reader.specs.Size.{Adds}
-use Rattle.reader.specs.declared.rule.Made.{Made}
-use Rattle.reader.specs.declared.rule.Made.the-variants.{EndsOf, Breaks}
+use Rattle.rules.specs.declared.rule.Made.{Made}
+use Rattle.rules.specs.declared.rule.Made.the-variants.{EndsOf, Breaks}
 use Rattle.reader.specs.declared.state.Counts.{Counts}
 use Rattle.reader.specs.declared.state.Stepped.{Stepped}
 use Rattle.reader.specs.declared.state.Stepped.the-variants.{Next, Refused}
+
+-- the first rule that a line breaks, or the ends of the value that it makes, or narrows, for every kind
+unfoldable pub toldBy : Word → Known → Line → Told
+toldBy field s l = toldOf s l
+toldBy input s l = toldOf s l
+toldBy span s l = spanTold s l
+toldBy sum s l = toldOf s l
+toldBy relu s l = toldOf s l
+toldBy which s l = toldOf s l
+toldBy max s l = toldOf s l
+toldBy root s l = toldOf s l
+
+unfoldable pub lineTold : Known → Line → Told
+lineTold s l = toldBy (l .word) s l
 
 -- the refusal of a line, or what is known after it
 pub data Step : Type 0 where

@@ -19,7 +19,7 @@ ghost use Rattle.meaning.specs.Number.{OddPrime};
 ghost use Rattle.text.specs.Place.{lineAt, linesFrom};
 ghost use Rattle.meaning.specs.Reply.{readReply};
 ghost use Rattle.text.specs.Word.{wordOf};
-ghost use Rattle.reader.specs.State.{greatest};
+ghost use Rattle.rules.specs.Ready.{greatest};
 ghost use Rattle.reader.specs.Read.{only, surveyOf, surveySeen, PrimeFound, primeIn, firstOption, firstSeen, SecondLine, answerSeen, Exact};
 
 // p of line 0 and where line 1 starts, or the number of its refusal.

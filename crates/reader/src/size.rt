@@ -12,7 +12,7 @@ ghost use Rattle.meaning.specs.Word.{kindOf, mostNumbers};
 ghost use Rattle.meaning.specs.Known.{Known};
 ghost use Rattle.meaning.specs.Kept.{Keeps};
 ghost use Rattle.text.specs.Word.{wordOf};
-ghost use Rattle.reader.specs.Told.{lineWith};
+ghost use Rattle.rules.specs.Told.{lineWith};
 ghost use Rattle.reader.specs.Size.{counted, Adds};
 
 // A number that is not negative, as a count: 0 where it is negative.

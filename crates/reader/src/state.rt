@@ -1,6 +1,6 @@
 // What is known before a line: how many values, inputs, cells and rows the lines so far have. The ends of the values are in arrays
 // beside it, which the outermost call lends: the first ones, as many as there are values.
-use super::rule::Made;
+use rules::Made;
 ghost use mathlib.Core.Path.{_≡_};
 ghost use Prim.Native.Nat.{ℕ, _+_, _≤_};
 ghost use lib.ListN.{length};
@@ -11,7 +11,7 @@ ghost use lib.IntN.{ℤ};
 ghost use Rattle.meaning.specs.Known.{Known};
 ghost use Rattle.meaning.specs.Kept.{Keeps};
 ghost use Rattle.reader.specs.State.{stateOf};
-ghost use Rattle.reader.specs.Told.{toldOf, spanTold, madeSeen, lineWith};
+ghost use Rattle.rules.specs.Told.{toldOf, spanTold, madeSeen, lineWith};
 ghost use Rattle.reader.specs.Size.{counted, Adds, FewCounts};
 ghost use Rattle.reader.specs.Step.{Grows, Placed, WithinLimits, placedAt, answered, entered, valuesIn, stepSeen, stepOf};
 ghost use Rattle.meaning.specs.Refusal.{valueLimit};

@@ -1,19 +1,19 @@
 // One line after line 0 in reading: the rules of its kind, and what is known after it. The walks over a list that was read test no rule
 // again, and do not come here.
-use super::input::read_input;
-use super::max::read_max;
-use super::relu::read_relu;
-use super::root::read_root;
-use super::rule::Made;
 use super::size::line_size;
 use super::size::natural;
-use super::span::read_span;
 use super::state::Counts;
 use super::state::Stepped;
 use super::state::grow;
 use super::state::narrow;
-use super::sum::read_sum;
-use super::which::read_which;
+use rules::Made;
+use rules::read_input;
+use rules::read_max;
+use rules::read_relu;
+use rules::read_root;
+use rules::read_span;
+use rules::read_sum;
+use rules::read_which;
 use text::Word;
 ghost use mathlib.Core.Path.{_≡_};
 ghost use mathlib.Core.Bool.{true};
@@ -23,9 +23,10 @@ ghost use lib.ListN.{length, take};
 ghost use Rattle.meaning.specs.Word.{kindOf, mostNumbers};
 ghost use Rattle.meaning.specs.Known.{Known};
 ghost use Rattle.text.specs.Word.{wordOf};
-ghost use Rattle.reader.specs.State.{Small, Ready, Seen, stateOf};
-ghost use Rattle.reader.specs.Told.{lineTold, madeSeen, lineWith};
-ghost use Rattle.reader.specs.Step.{WithinLimits, Left, placedAt, valuesIn, stepSeen, stepOf};
+ghost use Rattle.rules.specs.Ready.{Small, Ready, Seen};
+ghost use Rattle.reader.specs.State.{stateOf};
+ghost use Rattle.rules.specs.Told.{madeSeen, lineWith};
+ghost use Rattle.reader.specs.Step.{lineTold, WithinLimits, Left, placedAt, valuesIn, stepSeen, stepOf};
 ghost use Rattle.meaning.specs.Refusal.{valueLimit};
 
 // The ends of the value that a line makes, or narrows, or the number of the first rule that it breaks.

@@ -12,7 +12,7 @@ use Rattle.meaning.specs.Line.{Line}
 use Rattle.meaning.specs.Known.{Known, fresh}
 use Rattle.meaning.specs.Refusal.{textLimit, plain, Reading, refused, read, onReading, readFrom, readingBy, reading}
 use Rattle.meaning.specs.Number.{OddPrime}
-use Rattle.reader.specs.State.{greatest}
+use Rattle.rules.specs.Ready.{greatest}
 use Rattle.reader.specs.Read.{Survey, counted, refusedAt, surveyOf, surveySeen, PrimeFound}
 use Rattle.reader.specs.declared.state.Counts.{Counts}
 use Rattle.reader.specs.declared.reading.Surveyed.{Surveyed}

@@ -31,8 +31,8 @@ use Rattle.text.specs.declared.Parsed.the-variants.{Line as Spelt}
 use Rattle.text.proofs.Answers.{no-line-seen, line-seen, line-most, line-counted, line-small, line-next}
 use Rattle.text.proofs.Places.{lines-none}
 use Rattle.text.proofs.Ends.{in-line, lines-at}
-use Rattle.reader.specs.State.{greatest, Small}
-use Rattle.reader.specs.Told.{lineWith}
+use Rattle.rules.specs.Ready.{greatest, Small}
+use Rattle.rules.specs.Told.{lineWith}
 use Rattle.reader.specs.Size.{Adds}
 use Rattle.reader.specs.declared.state.Counts.{Counts}
 use Rattle.reader.proofs.Steps.{few}

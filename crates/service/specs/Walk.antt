@@ -17,8 +17,8 @@ use Rattle.meaning.specs.Kept.{Kept, Sound}
 use Rattle.meaning.specs.Number.{OddPrime}
 use Rattle.text.specs.Place.{linesFrom}
 use Rattle.text.specs.Word.{wordOf}
-use Rattle.reader.specs.State.{greatest, Small}
-use Rattle.reader.specs.Told.{lineWith}
+use Rattle.rules.specs.Ready.{greatest, Small}
+use Rattle.rules.specs.Told.{lineWith}
 use Rattle.reader.specs.declared.state.Counts.{Counts}
 use Rattle.service.specs.declared.walk.Taken.{Taken}
 

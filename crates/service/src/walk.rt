@@ -14,7 +14,7 @@ ghost use Rattle.meaning.specs.Known.{Known};
 ghost use Rattle.meaning.specs.Meaning.{after};
 ghost use Rattle.meaning.specs.Kept.{Keeps};
 ghost use Rattle.text.specs.Word.{wordOf};
-ghost use Rattle.reader.specs.Told.{lineWith};
+ghost use Rattle.rules.specs.Told.{lineWith};
 ghost use Rattle.service.specs.Walk.{Counted, Few, AtLine, Took, withPlace};
 ghost use Rattle.meaning.specs.Refusal.{valueLimit};
 

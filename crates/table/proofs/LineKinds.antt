@@ -18,7 +18,7 @@ use Rattle.meaning.specs.Gadget.Which.{whichLine}
 use Rattle.meaning.specs.Gadget.Max.{maxLine}
 use Rattle.meaning.specs.Gadget.Root.{rootLine}
 use Rattle.meaning.specs.Meaning.{gadget}
-use Rattle.reader.specs.State.{greatest}
+use Rattle.rules.specs.Ready.{greatest}
 use Rattle.table.specs.Line.{KeptLine, gadgetOf, knownCount}
 use Rattle.table.proofs.LineNumbers.{size, NameAt, first-name, second-name, DigitsFrom, digits-from, size-is}
 

@@ -30,8 +30,8 @@ use Rattle.meaning.proofs.Group.{rule-power}
 use Rattle.meaning.proofs.Law.{low-end, high-end, low-ranged, high-ranged}
 use Rattle.number.specs.Bounded.{Bounded}
 use Rattle.number.proofs.Bounded.{bounded-more, bounded-range}
-use Rattle.reader.specs.State.{greatest}
-use Rattle.reader.proofs.Digits.{Allowed, digits-allowed}
+use Rattle.rules.specs.Ready.{greatest}
+use Rattle.rules.proofs.Digits.{Allowed, digits-allowed}
 use Rattle.reader.proofs.Sizes.{digits-given}
 use Rattle.reader.proofs.Steps.{not-below}
 use Rattle.table.specs.Line.{KeptLine, gadgetOf, knownCount}

@@ -20,7 +20,7 @@ use Rattle.meaning.specs.Gadget.Sum.{termsOf, sumForm, sumLine}
 use Rattle.meaning.specs.Meaning.{gadget}
 use Rattle.text.specs.Word.{wordOf}
 use Rattle.reader.proofs.Steps.{sum-count}
-use Rattle.reader.proofs.SumLine.{without-drop, terms-at}
+use Rattle.rules.proofs.SumLine.{without-drop, terms-at}
 use Rattle.table.specs.Line.{KeptLine, gadgetOf, knownCount}
 use Rattle.table.specs.LineRows.{RowsAsked}
 use Rattle.table.specs.Rows.{Leaves, NamesBelow, PlacesInside, firstRefusal}

@@ -15,7 +15,7 @@ use Rattle.meaning.specs.Gadget.Digits.{valueAt}
 use Rattle.meaning.specs.Gadget.Sum.{Term, termsOf, sumValue}
 use Rattle.number.specs.Bounded.{Bounded}
 use Rattle.number.proofs.Bounded.{bounded-difference}
-use Rattle.reader.proofs.SumLine.{without-drop, terms-at}
+use Rattle.rules.proofs.SumLine.{without-drop, terms-at}
 use Rattle.table.specs.Cells.{sumOf, SumSmall, SumAsked, powerBound, valueBound}
 use Rattle.table.proofs.LineSum.{name-made, terms-end}
 

@@ -6,7 +6,7 @@ ghost use Prim.Native.Nat.{_≤_, _<_};
 ghost use lib.IntN.{pos, natAbs};
 ghost use lib.ListN.{length, getD};
 ghost use lib.Signed.{_≤ℤ_};
-ghost use Rattle.reader.specs.State.{greatest};
+ghost use Rattle.rules.specs.Ready.{greatest};
 
 // The number at a place where a name or a digit count stands.
 pub fn size_at(numbers: &[i64], at: usize) -> usize

@@ -4,7 +4,8 @@ use native.Mathlib.Omega.{arith}
 use denote.Ref.{now}
 use Rattle.meaning.specs.Word.{kindOf}
 use Rattle.text.specs.Word.{wordOf}
-use Rattle.reader.specs.Told.{toldBy, lineTold, madeSeen}
+use Rattle.rules.specs.Told.{madeSeen}
+use Rattle.reader.specs.Step.{toldBy, lineTold}
 use Rattle.reader.proofs.Sizes.{count-is}
 use Rattle.reader.proofs.Steps.{sum-count, fewer, at-word, field-later}
 use borrow.Author.Needs.{needs}

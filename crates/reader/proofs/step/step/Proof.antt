@@ -14,10 +14,10 @@ use Rattle.meaning.specs.Known.{Known}
 use Rattle.meaning.specs.Kept.{Keeps}
 use Rattle.text.specs.Word.{wordOf}
 use Rattle.reader.specs.State.{stateOf}
-use Rattle.reader.specs.Told.{toldOf, spanTold, toldBy, lineTold, madeSeen, lineWith}
+use Rattle.rules.specs.Told.{toldOf, spanTold, madeSeen, lineWith}
 use Rattle.reader.specs.Size.{counted}
-use Rattle.reader.specs.Step.{Grows}
-use Rattle.reader.specs.declared.rule.Made.the-variants.{EndsOf}
+use Rattle.reader.specs.Step.{toldBy, lineTold, Grows}
+use Rattle.rules.specs.declared.rule.Made.the-variants.{EndsOf}
 use Rattle.reader.proofs.Growth.{room, entry-counted, left-by-entry}
 use Rattle.reader.proofs.Narrowing.{named, named-within}
 use Rattle.reader.proofs.Sizes.{count-is}

@@ -1,0 +1,54 @@
+-- What reading tells of an input line: it breaks no rule but those of room.
+use mathlib.Core.Path.{_≡_, refl, _∙_}
+use mathlib.Core.Bool.{true, false}
+use mathlib.Core.List.{List, [], _∷_}
+use Prim.Native.Nat.{ℕ, _-_, _/_, _^_, _<_}
+use lib.ListN.{length}
+use lib.IntN.{ℤ, pos, negℤ, _-ℤ_}
+use mir.Syntax.{w64}
+use mir.Val.{SFits}
+use native.Mathlib.Omega.{arith}
+use Rattle.algebra.proofs.Integer.Order.{minus, integer}
+use Rattle.number.proofs.Word.{parts-fit}
+use Rattle.meaning.specs.Number.{half, lowest, highest}
+use Rattle.meaning.specs.Word.{input, kindOf}
+use Rattle.meaning.specs.Known.{ends, Known}
+use Rattle.meaning.specs.Gadget.Input.{inputLine}
+use Rattle.meaning.specs.Meaning.{gadget}
+use Rattle.meaning.specs.Refusal.{all, isRanged}
+use Rattle.rules.specs.Ready.{Ready, Seen}
+use Rattle.rules.specs.Told.{refuses, makes, toldOf, lineWith}
+use Rattle.rules.specs.Rule.{earlyBroken}
+use Rattle.rules.proofs.Values.{known-count}
+use Rattle.rules.proofs.Rules.{late, areNamed, told-early, told-late}
+
+module _ {p values cells : ℕ} {lows highs : List ℤ} (ready : Ready p values cells lows highs) {s : Known} (seen : Seen s p values cells lows highs)
+    {n : ℕ} (early : n ≡ earlyBroken true values 1 cells 1) where
+  input-plain : kindOf input .isField ≡ false
+  unfolding kindOf
+  input-plain = refl
+
+  input-ranged : isRanged (s .p) input [] ≡ true
+  unfolding isRanged all kindOf
+  input-ranged = refl
+
+  early-too : n ≡ earlyBroken (areNamed s input []) (length (s .known)) (length (kindOf input .gadget s [] .made)) (s .cells) (kindOf input .gadget s [] .width)
+  unfolding kindOf inputLine all
+  early-too = rw (known-count ready seen, seen .cells-are) early
+
+  pub input-early : (n ≡ 0 → ⊥) → toldOf s (lineWith input []) ≡ refuses n
+  unfolding toldOf gadget
+  input-early h = told-early s input [] (kindOf input .gadget s [] .made) input-plain input-ranged early-too h
+
+  pub input-late : n ≡ 0 → toldOf s (lineWith input []) ≡ makes (ends (negℤ (pos ((p - 1) / 2))) (pos ((p - 1) / 2)) ∷ [])
+  unfolding toldOf gadget kindOf late inputLine lowest highest half
+  input-late h = told-late s input [] (kindOf input .gadget s [] .made) input-plain input-ranged early-too h ∙ rw (seen .prime) refl
+
+-- ---- M in a machine word
+
+module _ {p values cells : ℕ} {lows highs : List ℤ} (r : Ready p values cells lows highs) where
+  pub half-small : (p - 1) / 2 < 2 ^ 63
+  half-small = omega (arith, r .p-high)
+
+  pub half-fits : SFits w64 (pos 0 -ℤ pos ((p - 1) / 2))
+  half-fits = parts-fit (pos 0 -ℤ pos ((p - 1) / 2)) (omega (integer, minus (pos 0) (pos ((p - 1) / 2)))) (omega (integer, half-small, minus (pos 0) (pos ((p - 1) / 2))))

@@ -1,0 +1,80 @@
+-- Each way out is one law of the root rule; c is at most p, so that its square fits.
+use mathlib.Core.Path.{sym, _∙_}
+use Prim.Native.Nat.{ℕ, _-_, _*_, _^_, _≤_}
+use native.Mathlib.Omega.{arith}
+use native.Mathlib.Nat.{mul-le-mul}
+use Rattle.meaning.specs.Number.{half}
+use Rattle.number.proofs.Word.{small}
+use Rattle.number.proofs.CappedPower.{above-capped}
+use Rattle.rules.specs.Ready.{greatest}
+use Rattle.rules.specs.Told.{madeSeen}
+use Rattle.rules.proofs.Digits.{Power, power-read, root-low, root-wide, root-above, root-kept}
+use borrow.Author.Needs.{needs}
+use Rattle.rules.proofs.root.root_ends.Statement.{statement}
+use Rattle.rules.proofs.root.root_ends.Tie as tie
+
+returns : tie.Need-returns
+unfolding madeSeen
+returns c =
+    let start = c .before .before .before in
+    let a = start .args in
+    sym (root-above (a .p) (a .b ^ a .k) (above-capped (a .b) (a .k) (a .p)
+    (sym (c .enum-told .given .1) ∙ c .before .before .capped-power .ensures)) (start .pre .0 .three))
+
+power : (c : tie.After-known-told) → let a = c .before .before .before .before .args in Power (a .p) (a .b) (a .k)
+    (c .before .c .given .0 .0)
+power c =
+    let start = c .before .before .before .before in
+    power-read (start .args .p) (start .args .b) (start .args .k) (start .pre .1)
+    (sym (c .before .c .given .1) ∙ c .before .before .before .capped-power .ensures)
+
+returns-2 : tie.Need-returns-2
+unfolding madeSeen
+returns-2 c =
+    let a = c .before .before .before .before .before .args in
+    rw (← power (c .before) .power) (sym (root-low (a .p) (c .before .before .c .given .0 .0) (c .if1 .taken)))
+
+mul-if2 : tie.Need-mul-if2
+mul-if2 c =
+    let x : ℕ = c .before .before .c .given .0 .0 in
+    let l : x ≤ greatest = omega (arith, power (c .before) .within, c .before .before .before .before .before .pre .0 .most) in
+    let square : x * x ≤ greatest * greatest = mul-le-mul l l in
+    record { fits = omega arith }
+
+returns-3 : tie.Need-returns-3
+unfolding madeSeen half
+returns-3 c =
+    let a = c .before .before .before .before .before .before .args in
+    rw (← power (c .before .before) .power) (sym (root-wide (a .p) (c .before .before .before .c .given .0 .0) (c .if2 .taken)))
+
+cast-t12 : tie.Need-cast-t12
+cast-t12 c =
+    let r = power (c .before .before) in
+    record { sfits = omega (arith, c .before .before .before .before .before .before .pre .0 .most) }
+
+returns-4 : tie.Need-returns-4
+unfolding madeSeen half
+returns-4 c =
+    let start = c .before .before .before .before .before .before in
+    let x : ℕ = c .before .before .before .c .given .0 .0 in
+    let r = power (c .before .before) in
+    rw (← r .power, small (x - 1) (omega (arith, start .pre .0 .most)))
+    (sym (root-kept (start .args .p) x (c .before .if1 .left) (c .if2 .left)))
+
+pub root-ends-spec : {M : Type 1} → statement M
+root-ends-spec =
+    tie.close
+    (tie.spec
+    (λ c κs. search needs)
+    (λ c. search needs)
+    (λ c. search needs)
+    returns
+    returns-2
+    (λ c. search needs)
+    (λ c. search needs)
+    (λ c. search needs)
+    mul-if2
+    returns-3
+    (λ c. search needs)
+    cast-t12
+    returns-4)

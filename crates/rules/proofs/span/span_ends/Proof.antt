@@ -1,0 +1,79 @@
+-- Above p the digit rule is broken; else what is left of it is `is_narrow`, and then the ends are `shared_ends`.
+use mathlib.Core.Path.{_≡_, sym, _∙_}
+use native.Mathlib.Omega.{arith}
+use borrow.Author.Tests.{not-true, not-false}
+use Rattle.meaning.specs.Known.{digitRule}
+use Rattle.meaning.specs.Gadget.Span.{spanTop, shared}
+use Rattle.number.proofs.Word.{back}
+use Rattle.number.proofs.CappedPower.{above-capped}
+use Rattle.rules.specs.Told.{madeSeen}
+use Rattle.rules.specs.Rule.{endsSeen}
+use Rattle.rules.proofs.Digits.{Power, power-read, rule-above, rule-within}
+use borrow.Author.Needs.{needs}
+use Rattle.rules.proofs.span.span_ends.Statement.{statement}
+use Rattle.rules.proofs.span.span_ends.Tie as tie
+
+returns : tie.Need-returns
+unfolding madeSeen
+returns c =
+    let a = c .before .before .before .args in
+    rw (rule-above (a .p) (a .b) (a .k) (endsSeen (a .old)) (a .shift)
+    (above-capped (a .b) (a .k) (a .p) (sym (c .enum-told .given .1) ∙ c .before .before .capped-power .ensures)))
+
+power : (c : tie.After-known-told) → let a = c .before .before .before .before .args in Power (a .p) (a .b) (a .k)
+    (c .before .c .given .0 .0)
+power c =
+    let start = c .before .before .before .before in
+    power-read (start .args .p) (start .args .b) (start .args .k) (start .pre .1)
+    (sym (c .before .c .given .1) ∙ c .before .before .before .capped-power .ensures)
+
+is-narrow-requires : tie.Need-is-narrow-requires
+is-narrow-requires c κs =
+    let start = c .before .before .before .before in
+    let r = power c in
+    rw (back (start .fits .shift)) (start .pre .0, r .positive, r .within, start .pre .2, start .pre .3)
+
+rule-is : (c : tie.After-is-narrow)
+    → let a = c .before .before .before .before .before .args in digitRule (a .p) (a .b) (a .k) (endsSeen (a .old)) (a .shift)
+    ≡ c .is-narrow .result
+unfolding endsSeen
+rule-is c =
+    let start = c .before .before .before .before .before in
+    let a = start .args in
+    rule-within (a .p) (a .b) (a .k) (endsSeen (a .old)) (a .shift) (power (c .before)) ∙ sym
+    (rw (back (start .fits .shift)) at (c .is-narrow .ensures))
+
+returns-2 : tie.Need-returns-2
+unfolding madeSeen
+returns-2 c = rw (rule-is (c .before), not-true (c .before .is-narrow .result) (c .if1 .taken))
+
+sub-last : tie.Need-sub-last
+sub-last c = power (c .before .before) .positive
+
+shared-ends-requires : tie.Need-shared-ends-requires
+shared-ends-requires c κs =
+    let start = c .before .before .before .before .before .before in
+    let r = power (c .before .before) in
+    rw (back (start .fits .shift)) (omega (arith, start .pre .0 .most), start .pre .3)
+
+returns-3 : tie.Need-returns-3
+unfolding shared spanTop endsSeen
+returns-3 c =
+    let start = c .before .before .before .before .before .before .before in
+    let at-is-narrow = c .before .before in
+    rw (rule-is at-is-narrow, not-false (at-is-narrow .is-narrow .result) (c .before .if1 .left), ← power (at-is-narrow .before) .power)
+    (rw (back (start .fits .shift)) at (c .shared-ends .ensures))
+
+pub span-ends-spec : {M : Type 1} → statement M
+span-ends-spec =
+    tie.close
+    (tie.spec
+    (λ c κs. search needs)
+    (λ c. search needs)
+    (λ c. search needs)
+    returns
+    is-narrow-requires
+    returns-2
+    sub-last
+    shared-ends-requires
+    returns-3)

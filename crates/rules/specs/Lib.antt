@@ -1,0 +1,4 @@
+pub mod Ready
+pub mod Told
+pub mod Rule
+pub mod Sum

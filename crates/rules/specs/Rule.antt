@@ -1,0 +1,85 @@
+-- What the rules that several kinds of lines have in common answer, in the code's own types.
+use mathlib.Core.Path.{_≡_}
+use mathlib.Core.Bool.{Bool, cond, _&&_}
+use mathlib.Core.List.{List, [], _∷_}
+use Prim.Native.Nat.{ℕ, zero, suc, _+_, _-_, _*_, _≤_}
+use lib.Dec.{leb}
+use lib.ListN.{getD}
+use lib.IntN.{ℤ, pos, natAbs, _-ℤ_}
+use lib.Signed.{leZ}
+use Rattle.meaning.specs.Word.{Digits as Meant}
+use Rattle.meaning.specs.Known.{ends, larger, smaller}
+use Rattle.meaning.specs.Known.{Ends as KnownEnds}
+use Rattle.meaning.specs.Number.{half}
+use Rattle.meaning.specs.Refusal.{Result, value, refusedBy, isDigits, valueLimit, cellLimit}
+use Rattle.number.specs.Bounded.{Bounded}
+use Rattle.rules.specs.declared.rule.Digits.{Digits as DigitsRead}
+use Rattle.rules.specs.declared.rule.Digits.the-variants.{Of, NoDigits}
+use Rattle.rules.specs.declared.rule.Begun.{Begun}
+use Rattle.rules.specs.declared.rule.Begun.the-variants.{Digits, Stops}
+use Rattle.rules.specs.declared.rule.Ends.{Ends}
+use Rattle.rules.specs.Ready.{greatest, greatestApart}
+use Rattle.rules.specs.Told.{Told, refuses, makes}
+
+-- a base and a digit count where rule 6 lets them through, and else refusal 6
+unfoldable pub digitsAllowed : (b k : ℤ) → Result Meant
+digitsAllowed b k = let d : Meant = record { b = b; k = k } in cond (isDigits d) (value d) (refusedBy 6)
+
+-- the same as the code has it
+unfoldable pub digitsSeen : DigitsRead → Result Meant
+digitsSeen (Of b k) = value (record { b = pos b; k = pos k })
+digitsSeen NoDigits = refusedBy 6
+
+-- the first that is broken of the rules 7 to 9, or 0
+unfoldable pub earlyBroken : (named : Bool) (values new cells width : ℕ) → ℕ
+earlyBroken named values new cells width =
+    cond named (cond (leb (values + new) valueLimit) (cond (leb (cells + width) cellLimit) 0 9) 8) 7
+
+unfoldable pub begunUnless : (early b k : ℕ) → Begun
+begunUnless zero b k = Digits b k
+begunUnless (suc n) b k = Stops (suc n)
+
+-- what the rules 6 to 9 say of a line with a base and a digit count: `ranged` is what else rule 6 asks, `early` the first broken of the others
+unfoldable pub begun : (b k : ℤ) (ranged : Bool) (early : ℕ) → Begun
+begun b k ranged early = cond (isDigits (record { b = b; k = k }) && ranged) (begunUnless early (natAbs b) (natAbs k)) (Stops 6)
+
+-- ---- known ends
+
+unfoldable pub endsSeen : Ends → KnownEnds
+endsSeen e = ends (e .low) (e .high)
+
+-- the ends that the arrays have of the value that z names
+pub record EndsRead (lows highs : List ℤ) (z : ℤ) (e : Ends) : Type 0 where
+  pub low-read : e .low ≡ getD lows (natAbs z) (pos 0)
+  pub high-read : e .high ≡ getD highs (natAbs z) (pos 0)
+
+-- ends of at most that size: greatest for those of a value, twice that for those of a difference
+pub record BoundedEnds (bound : ℕ) (e : Ends) : Type 0 where
+  pub low-sized : Bounded bound (e .low)
+  pub high-sized : Bounded bound (e .high)
+
+-- those of a difference of two values
+pub record Apart (u v r : Ends) : Type 0 where
+  pub sized : BoundedEnds greatestApart r
+  pub low-is : r .low ≡ u .low -ℤ v .high
+  pub high-is : r .high ≡ u .high -ℤ v .low
+
+-- and those of y - u, for y the greater of u and v
+pub record Above (u v r : Ends) : Type 0 where
+  pub sized : BoundedEnds greatestApart r
+  pub low-is : r .low ≡ smaller (pos 0) (v .low -ℤ u .high)
+  pub high-is : r .high ≡ larger (pos 0) (v .high -ℤ u .low)
+
+-- ---- p
+
+pub record Field (p : ℕ) : Type 0 where
+  pub three : 3 ≤ p
+  pub most : p ≤ greatest
+
+-- what is told of a root line where the rules up to 9 are kept, with c = b^k: "Allowed exactly when c ≥ 3 and c² ≤ M+1"
+unfoldable pub rootTold : (p c : ℕ) → Told
+rootTold p c = cond (leb 3 c && leb (c * c) (half p + 1)) (makes (ends (pos 0) (pos (c - 1)) ∷ [])) (refuses 10)
+
+-- what is told of a span line where the rules up to 10 are kept, with the new ends of v
+unfoldable pub sharedTold : KnownEnds → Told
+sharedTold new = cond (leZ (new .E) (new .F)) (makes (new ∷ [])) (refuses 12)

@@ -1,0 +1,22 @@
+// Reading an input line: it asks only for room, and its value may be any whole number of the signed range.
+use super::rule::Made;
+use super::rule::early_broken;
+ghost use mathlib.Core.Path.{_≡_};
+ghost use mathlib.Core.List.{[]};
+ghost use Rattle.meaning.specs.Word.{input};
+ghost use Rattle.meaning.specs.Known.{Known};
+ghost use Rattle.rules.specs.Ready.{Ready, Seen};
+ghost use Rattle.rules.specs.Told.{toldOf, madeSeen, lineWith};
+
+pub fn read_input(p: u32, values: usize, cells: usize, lows: &[i64], highs: &[i64]) -> Made
+    requires { ⌜ Ready p values cells (now lows) (now highs) ⌝ }
+    ensures { λ r. ⌜ ((s : Known) → Seen s p values cells (now (lows .entry)) (now (highs .entry))
+        → madeSeen r ≡ toldOf s (lineWith input [])) ⌝ }
+{
+    let broken = early_broken(true, values, 1, cells, 1);
+    if broken != 0 {
+        return Made::Breaks(broken);
+    }
+    let half = ((p - 1) / 2) as i64;
+    Made::EndsOf(0 - half, half)
+}

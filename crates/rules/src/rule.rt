@@ -1,0 +1,223 @@
+// The rules that several kinds of lines have in common, each proved equal to its definition. What a line names is read from its
+// numbers here, so that the kinds of lines do no arithmetic on machine words of their own.
+use number::power::Power;
+use number::power::capped_power;
+use number::whole::Whole;
+use number::whole::in_range;
+use number::whole::whole_difference;
+ghost use mathlib.Core.Path.{_≡_};
+ghost use mathlib.Core.Bool.{true, _&&_};
+ghost use mathlib.Core.List.{[], _∷_};
+ghost use Prim.Native.Nat.{_+_, _-_, _*_, _≤_, _<_};
+ghost use lib.ListN.{length, getD};
+ghost use lib.IntN.{pos, natAbs, _+ℤ_, _-ℤ_};
+ghost use lib.Signed.{leZ};
+ghost use Rattle.meaning.specs.Known.{digitRule};
+ghost use Rattle.meaning.specs.Number.{inRange};
+ghost use Rattle.meaning.specs.Refusal.{isMade, cellLimit, valueLimit};
+ghost use Rattle.meaning.specs.Gadget.Sign.{signShift};
+ghost use Rattle.number.specs.Bounded.{Bounded};
+ghost use Rattle.rules.specs.Told.{madeSeen, makes};
+ghost use Rattle.rules.specs.Rule.{digitsAllowed, digitsSeen, endsSeen, earlyBroken, begun, Field, EndsRead, BoundedEnds, Apart};
+ghost use Rattle.rules.specs.Ready.{greatestApart, greatest};
+
+// The ends of the value that a line makes, or the number of the first rule that it breaks.
+pub enum Made {
+    EndsOf(i64, i64),
+    Breaks(u32),
+}
+
+// A base and a digit count of which 2 <= b and 1 <= k <= 31.
+pub enum Digits {
+    Of(u64, u32),
+    NoDigits,
+}
+
+// The known ends of a value.
+pub struct Ends {
+    pub low: i64,
+    pub high: i64,
+}
+
+pub fn made_of(e: Ends) -> Made
+    ensures { λ r. ⌜ madeSeen r ≡ makes (endsSeen e ∷ []) ⌝ }
+{
+    Made::EndsOf(e.low, e.high)
+}
+
+// ---- rule 6
+
+// The base at a place and the digit count after it.
+pub fn digits_at(numbers: &[i64], at: usize) -> Digits
+    requires { ⌜ at + 1 < length (now numbers) ⌝ }
+    ensures { λ r. ⌜ digitsSeen r ≡ digitsAllowed (getD (now (numbers .entry)) at (pos 0)) (getD (now (numbers .entry)) (at + 1) (pos 0)) ⌝ }
+{
+    let b = numbers[at];
+    let k = numbers[at + 1];
+    digits_of(b, k)
+}
+
+// b and k, where 2 <= b and 1 <= k <= 31.
+fn digits_of(b: i64, k: i64) -> Digits
+    ensures { λ r. ⌜ digitsSeen r ≡ digitsAllowed b k ⌝ }
+{
+    if b < 2 {
+        return Digits::NoDigits;
+    }
+    if k < 1 {
+        return Digits::NoDigits;
+    }
+    if 31 < k {
+        return Digits::NoDigits;
+    }
+    Digits::Of(b as u64, k as u32)
+}
+
+// Whether the number at a place lies in -M..M.
+pub fn is_ranged(numbers: &[i64], at: usize, p: u32) -> bool
+    requires { ⌜ (at < length (now numbers)) × (3 ≤ p) ⌝ }
+    ensures { λ r. ⌜ r ≡ inRange p (getD (now (numbers .entry)) at (pos 0)) ⌝ }
+{
+    in_range(Whole(numbers[at]), p)
+}
+
+// ---- rules 7 to 9
+
+// Whether the number at a place names one of the values that are made.
+pub fn is_made(numbers: &[i64], at: usize, values: usize) -> bool
+    requires { ⌜ (at < length (now numbers)) × (values ≤ valueLimit) ⌝ }
+    ensures { λ r. ⌜ r ≡ isMade values (getD (now (numbers .entry)) at (pos 0)) ⌝ }
+{
+    let v = numbers[at];
+    if v < 0 {
+        return false;
+    }
+    v < values as i64
+}
+
+// The same of the first two numbers.
+pub fn are_made(numbers: &[i64], values: usize) -> bool
+    requires { ⌜ (1 < length (now numbers)) × (values ≤ valueLimit) ⌝ }
+    ensures { λ r. ⌜ r ≡ isMade values (getD (now (numbers .entry)) 0 (pos 0)) && isMade values (getD (now (numbers .entry)) 1 (pos 0)) ⌝ }
+{
+    if is_made(numbers, 0, values) {
+        return is_made(numbers, 1, values);
+    }
+    false
+}
+
+// The first that is broken of the rules 7 (the names are made), 8 (room for the new values) and 9 (room for the cells), or 0.
+pub fn early_broken(named: bool, values: usize, new: usize, cells: usize, width: usize) -> u32
+    requires { ⌜ (values ≤ valueLimit) × (new ≤ 1) × (cells ≤ cellLimit) × (width ≤ cellLimit) ⌝ }
+    ensures { λ r. ⌜ r ≡ earlyBroken named values new cells width ⌝ }
+{
+    if !named {
+        return 7;
+    }
+    if 256 < values + new {
+        return 8;
+    }
+    if 4096 < cells + width {
+        return 9;
+    }
+    0
+}
+
+// ---- rules 6 to 9 of a line with digits
+
+// The base and the digit count of a line that keeps these rules, or the first of them that it breaks.
+pub enum Begun {
+    Digits(u64, u32),
+    Stops(u32),
+}
+
+// The base stands at a place and the digit count k after it. `ranged` is what else rule 6 asks of the line, and `named` what rule 7 asks; the
+// line makes `new` values and has `each` · k + `more` cells.
+pub fn begin_line(
+    numbers: &[i64],
+    at: usize,
+    ranged: bool,
+    named: bool,
+    values: usize,
+    new: usize,
+    cells: usize,
+    each: usize,
+    more: usize,
+) -> Begun
+    requires { ⌜ (at + 1 < length (now numbers)) × (values ≤ valueLimit) × (new ≤ 1) × (cells ≤ cellLimit) × (each ≤ 4) × (more ≤ 3) ⌝ }
+    ensures { λ r. ⌜ r ≡ begun (getD (now (numbers .entry)) at (pos 0)) (getD (now (numbers .entry)) (at + 1) (pos 0)) ranged
+        (earlyBroken named values new cells (each * natAbs (getD (now (numbers .entry)) (at + 1) (pos 0)) + more)) ⌝ }
+{
+    let Digits::Of(b, k) = digits_at(numbers, at) else {
+        return Begun::Stops(6);
+    };
+    if !ranged {
+        return Begun::Stops(6);
+    }
+    let broken = early_broken(named, values, new, cells, each * k as usize + more);
+    if broken != 0 {
+        return Begun::Stops(broken);
+    }
+    Begun::Digits(b, k)
+}
+
+// The known ends of the value that the number at a place names.
+pub fn ends_named(numbers: &[i64], at: usize, values: usize, lows: &[i64], highs: &[i64]) -> Ends
+    requires { ⌜ (at < length (now numbers)) × (values ≤ length (now lows)) × (values ≤ length (now highs))
+        × (isMade values (getD (now numbers) at (pos 0)) ≡ true) ⌝ }
+    ensures { λ r. ⌜ EndsRead (now (lows .entry)) (now (highs .entry)) (getD (now (numbers .entry)) at (pos 0)) r ⌝ }
+{
+    let v = numbers[at] as usize;
+    Ends {
+        low: lows[v],
+        high: highs[v],
+    }
+}
+
+// The ends of the difference of two values.
+pub fn apart(u: Ends, v: Ends) -> Ends
+    requires { ⌜ BoundedEnds greatest u × BoundedEnds greatest v ⌝ }
+    ensures { λ r. ⌜ Apart u v r ⌝ }
+{
+    let low = whole_difference(Whole(u.low), Whole(v.high));
+    let high = whole_difference(Whole(u.high), Whole(v.low));
+    Ends {
+        low: low.0,
+        high: high.0,
+    }
+}
+
+// ---- rule 10
+
+// The digit rule with the shift -B, of relu and which. With part = b^(k-1) the power is c = part·b and B = (b-1)·part = c - part, so that
+// nothing is divided. The product fits: part is 1, or b is at most part, which is at most p.
+pub fn sign_rule(p: u32, b: u64, k: u32, e: Ends) -> bool
+    requires { ⌜ Field p × (1 ≤ b) × (1 ≤ k) × BoundedEnds greatestApart e ⌝ }
+    ensures { λ r. ⌜ r ≡ digitRule p b k (endsSeen e) (signShift b k) ⌝ }
+{
+    let Power::Of(part) = capped_power(b, k - 1, p) else {
+        return false;
+    };
+    let c = part * b;
+    let most = p as u64;
+    if most < c {
+        return false;
+    }
+    let top = c - part;
+    is_narrow(p, c, e, 0 - top as i64)
+}
+
+// The digit rule where c = b^k is at most p: F - L and L + c - 1 - E are at most p - 1.
+pub fn is_narrow(p: u32, c: u64, e: Ends, shift: i64) -> bool
+    requires { ⌜ Field p × (1 ≤ c) × (c ≤ p) × BoundedEnds greatestApart e × Bounded greatest shift ⌝ }
+    ensures { λ r. ⌜ r ≡ leZ (e .high -ℤ shift) (pos (p - 1)) && leZ (shift +ℤ pos (c - 1) -ℤ e .low) (pos (p - 1)) ⌝ }
+{
+    let last = (p - 1) as i64;
+    let above = e.high - shift;
+    if last < above {
+        return false;
+    }
+    let top = shift + (c - 1) as i64;
+    let below = top - e.low;
+    below <= last
+}

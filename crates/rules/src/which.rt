@@ -1,0 +1,42 @@
+// Reading a which line.
+use super::rule::Begun;
+use super::rule::Made;
+use super::rule::apart;
+use super::rule::are_made;
+use super::rule::begin_line;
+use super::rule::ends_named;
+use super::rule::sign_rule;
+ghost use mathlib.Core.Path.{_≡_};
+ghost use Prim.Native.Nat.{_≤_};
+ghost use lib.ListN.{length, take};
+ghost use Rattle.meaning.specs.Word.{which};
+ghost use Rattle.meaning.specs.Known.{Known};
+ghost use Rattle.rules.specs.Ready.{Small, Ready, Seen};
+ghost use Rattle.rules.specs.Told.{toldOf, madeSeen, lineWith};
+
+pub fn read_which(
+    numbers: &[i64],
+    p: u32,
+    values: usize,
+    cells: usize,
+    lows: &[i64],
+    highs: &[i64],
+) -> Made
+    requires { ⌜ Ready p values cells (now lows) (now highs) × (4 ≤ length (now numbers)) × Small 4 (now numbers) ⌝ }
+    ensures { λ r. ⌜ ((s : Known) → Seen s p values cells (now (lows .entry)) (now (highs .entry))
+        → madeSeen r ≡ toldOf s (lineWith which (take 4 (now (numbers .entry))))) ⌝ }
+{
+    let named = are_made(numbers, values);
+    let begun = begin_line(numbers, 2, true, named, values, 1, cells, 1, 3);
+    match begun {
+        Begun::Stops(n) => Made::Breaks(n),
+        Begun::Digits(b, k) => {
+            let u = ends_named(numbers, 0, values, lows, highs);
+            let v = ends_named(numbers, 1, values, lows, highs);
+            if !sign_rule(p, b, k, apart(u, v)) {
+                return Made::Breaks(10);
+            }
+            Made::EndsOf(0, 1)
+        }
+    }
+}
