@@ -14,7 +14,7 @@ use Rattle.meaning.specs.Line.{Word}
 use Rattle.meaning.specs.Gadget.Digits.{valueAt}
 use Rattle.meaning.specs.Refusal.{isField}
 use Rattle.number.specs.Bounded.{Bounded}
-use Rattle.table.specs.Cells.{GroupOf, powerBound, valueBound}
+use Rattle.groups.specs.Cells.{GroupOf, powerBound, valueBound}
 use Rattle.table.specs.Line.{KeptLine, knownCount}
 use Rattle.table.specs.LineValues.{ValuesAsked}
 use Rattle.table.proofs.LineNumbers.{size, NameAt, value-bounded}
