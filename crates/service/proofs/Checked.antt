@@ -23,11 +23,11 @@ use Rattle.meaning.proofs.Results.{refusal-none, refusal-place}
 use Rattle.text.specs.Word.{wordOf}
 use Rattle.reader.specs.declared.state.Counts.{Counts}
 use Rattle.reader.proofs.Steps.{few}
-use Rattle.table.specs.Rows.{rowsSeen, firstRefusal, firstOf}
-use Rattle.table.specs.declared.rows.Rows.{Rows}
-use Rattle.table.specs.declared.rows.Rows.the-variants.{AllHold, Fails}
+use Rattle.groups.specs.Rows.{rowsSeen, firstRefusal, firstOf}
+use Rattle.groups.specs.declared.rows.Rows.{Rows}
+use Rattle.groups.specs.declared.rows.Rows.the-variants.{AllHold, Fails}
+use Rattle.groups.proofs.RowsFirst.{first-append}
 use Rattle.table.specs.LineRows.{RowsAsked}
-use Rattle.table.proofs.RowsFirst.{first-append}
 use Rattle.service.specs.Walk.{Stands, Placed, ListRead, AtLine, Took, taken}
 use Rattle.service.specs.declared.walk.Taken.{Taken}
 use Rattle.service.specs.Check.{cellsSeen, TableAsked, rowsReply}

@@ -28,10 +28,10 @@ use Rattle.meaning.proofs.Working.{inputs-grow}
 use Rattle.text.specs.Word.{wordOf}
 use Rattle.reader.specs.declared.state.Counts.{Counts}
 use Rattle.reader.proofs.Steps.{few}
-use Rattle.table.specs.Cells.{workedSeen}
+use Rattle.groups.specs.Cells.{workedSeen}
+use Rattle.groups.specs.declared.value.Worked.{Worked}
+use Rattle.groups.specs.declared.value.Worked.the-variants.{Value, NoValue, False}
 use Rattle.table.specs.LineValues.{ValuesAsked}
-use Rattle.table.specs.declared.value.Worked.{Worked}
-use Rattle.table.specs.declared.value.Worked.the-variants.{Value, NoValue, False}
 use Rattle.service.specs.Walk.{Stands, ListRead, AtLine, Took}
 use Rattle.service.specs.declared.walk.Taken.{Taken}
 use Rattle.service.specs.Make.{withValue, isTrue, WorkAsked, WorkDone}

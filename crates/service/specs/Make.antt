@@ -11,8 +11,8 @@ use Rattle.meaning.specs.Known.{Known}
 use Rattle.meaning.specs.Work.{true-table, work}
 use Rattle.meaning.specs.Reply.{Reply, reply, making, filled}
 use Rattle.meaning.specs.Claims.{Column}
-use Rattle.table.specs.declared.value.Worked.{Worked}
-use Rattle.table.specs.declared.value.Worked.the-variants.{Value, NoValue, False}
+use Rattle.groups.specs.declared.value.Worked.{Worked}
+use Rattle.groups.specs.declared.value.Worked.the-variants.{Value, NoValue, False}
 use Rattle.service.specs.Walk.{ListRead}
 use Rattle.service.specs.declared.making.Inputs.{Inputs}
 use Rattle.service.specs.declared.making.Inputs.the-variants.{AllInRange, Outside}

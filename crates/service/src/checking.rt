@@ -2,11 +2,11 @@
 use super::reply::Reply;
 use super::walk::take_line;
 use super::walk::take_place;
+use groups::Rows;
 use number::Cell;
 use reader::Counts;
 use reader::Surveyed;
 use reader::survey;
-use table::Rows;
 use table::line_rows::line_rows;
 ghost use mathlib.Core.Path.{_≡_};
 ghost use Rattle.meaning.specs.Refusal.{all};

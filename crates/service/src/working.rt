@@ -1,13 +1,13 @@
 // Working a list for a column of inputs: the values of its lines, or the first line whose statement is false.
 use super::walk::take_line;
+use groups::Worked;
 use reader::Counts;
-use table::Worked;
 use table::line_works::line_works;
 ghost use mathlib.Core.Path.{_≡_};
 ghost use Prim.Native.Nat.{_<_};
 ghost use lib.IntN.{ℤ, pos};
 ghost use lib.ListN.{length, getD};
-ghost use Rattle.table.specs.declared.value.Worked.the-variants.{Value};
+ghost use Rattle.groups.specs.declared.value.Worked.the-variants.{Value};
 ghost use Rattle.service.specs.Walk.{ListRead};
 ghost use Rattle.service.specs.Make.{withValue, isTrue, WorkAsked, WorkDone};
 ghost use Rattle.meaning.specs.Refusal.{valueLimit};

@@ -22,7 +22,9 @@ use Rattle.meaning.specs.Gadget.Relu.{reluLine}
 use Rattle.meaning.specs.Gadget.Which.{whichValue, whichLine}
 use Rattle.meaning.specs.Gadget.Max.{maxLine}
 use Rattle.meaning.specs.Gadget.Root.{rootLine}
-use Rattle.table.specs.Cells.{maxCells, rootCells, sumOf}
+use Rattle.table.specs.Max.{maxCells}
+use Rattle.table.specs.Root.{rootCells}
+use Rattle.table.specs.Sum.{sumOf}
 use Rattle.table.specs.Line.{KeptLine, gadgetOf, knownCount}
 use Rattle.table.specs.LineValues.{CellsAsked, CellsTold}
 use Rattle.table.proofs.LineNumbers.{size, NameAt, prime-is, made-fit}

@@ -15,8 +15,9 @@ use Rattle.meaning.specs.Gadget.Root.{rootValue}
 use Rattle.meaning.proofs.Group.{length-group}
 use Rattle.number.specs.Bounded.{Bounded}
 use Rattle.number.proofs.Bounded.{bounded-more, bounded-sum, bounded-difference, bounded-product, bounded-fits}
-use Rattle.table.specs.Cells.{restCells, rootCells, formBound, powerBound, valueBound}
-use Rattle.table.proofs.Whole.{pos-bounded}
+use Rattle.groups.specs.Cells.{formBound, powerBound, valueBound}
+use Rattle.groups.proofs.Whole.{pos-bounded}
+use Rattle.table.specs.Root.{restCells, rootCells}
 
 -- a root is as small as the value that it is of
 pub root-bounded : {bound : ℕ} {v : ℤ} → Bounded bound v → Bounded bound (rootValue v)

@@ -1,6 +1,3 @@
--- whole numbers and machine words
-pub mod Whole
-pub mod SignPower
 -- a line: its word, its numbers, and the values that they name
 pub mod LineWord
 pub mod LineNumbers
@@ -8,20 +5,14 @@ pub mod LineKinds
 pub mod LineValues
 pub mod LineSum
 -- working a line
-pub mod WorksAnswer
 pub mod WorksSum
 pub mod WorksSumFits
 pub mod WorksLine
 -- writing its cells
-pub mod CellsGroup
-pub mod CellsSign
 pub mod CellsRoot
 pub mod CellsLine
 -- checking its rows
-pub mod RowsFirst
-pub mod RowsForm
-pub mod RowsGroup
-pub mod RowsSign
+pub mod RowsSigned
 pub mod RowsMax
 pub mod RowsRoot
 pub mod RowsLine

@@ -34,8 +34,8 @@ use Rattle.rules.specs.Ready.{greatest}
 use Rattle.rules.proofs.Digits.{Allowed, digits-allowed}
 use Rattle.reader.proofs.Sizes.{digits-given}
 use Rattle.reader.proofs.Steps.{not-below}
+use Rattle.groups.specs.Cells.{valueBound}
 use Rattle.table.specs.Line.{KeptLine, gadgetOf, knownCount}
-use Rattle.table.specs.Cells.{valueBound}
 
 -- the size of the number at a place: a name, a base or a digit count, where the number is not negative
 abbrev pub size : (numbers : List ℤ) (i : ℕ) → ℕ

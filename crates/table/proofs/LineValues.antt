@@ -13,7 +13,7 @@ use lib.Signed.{_≤ℤ_}
 use Rattle.meaning.specs.Word.{Word, kindOf}
 use Rattle.meaning.specs.Gadget.Digits.{valueAt}
 use Rattle.number.specs.Bounded.{Bounded}
-use Rattle.table.specs.Cells.{GroupOf, powerBound, valueBound}
+use Rattle.groups.specs.Cells.{GroupOf, powerBound, valueBound}
 use Rattle.table.specs.Line.{KeptLine, knownCount}
 use Rattle.table.specs.LineValues.{ValuesAsked}
 use Rattle.table.proofs.LineNumbers.{size, NameAt, value-bounded}

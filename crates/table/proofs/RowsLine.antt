@@ -16,11 +16,11 @@ use Rattle.meaning.specs.Row.{holds}
 use Rattle.meaning.specs.Reply.{Reply, firstFail, refusalAt}
 use Rattle.meaning.specs.Gadget.Interface.{Gadget}
 use Rattle.meaning.specs.Meaning.{gadget}
-use Rattle.table.specs.Cells.{GroupOf}
-use Rattle.table.specs.Rows.{rowsSeen, firstRefusal}
+use Rattle.groups.specs.Cells.{GroupOf}
+use Rattle.groups.specs.Rows.{rowsSeen, firstRefusal}
+use Rattle.groups.specs.declared.rows.Rows.the-variants.{AllHold}
 use Rattle.table.specs.Line.{gadgetOf, knownCount}
 use Rattle.table.specs.LineRows.{RowsAsked, RowsTold}
-use Rattle.table.specs.declared.rows.Rows.the-variants.{AllHold}
 use Rattle.table.proofs.LineNumbers.{size, NameAt, prime-is, power-below}
 use Rattle.table.proofs.LineKinds.{DigitWord, OneWord, one-name, one-is, TwoWord, two-first, two-second, two-is}
 use Rattle.table.proofs.LineValues.{group-read}

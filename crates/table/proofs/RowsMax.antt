@@ -12,10 +12,10 @@ use Rattle.meaning.specs.Known.{Known, placeOf}
 use Rattle.meaning.specs.Row.{Form, cell, constant, _⊖_, _⊗_, _≅_, Row, holds, group}
 use Rattle.meaning.specs.Reply.{Reply, reply}
 use Rattle.meaning.specs.Gadget.Max.{maxLine}
-use Rattle.table.specs.Rows.{Leaves, firstOf, firstRefusal}
-use Rattle.table.proofs.RowsFirst.{first-row}
-use Rattle.table.proofs.RowsForm.{leaves-constant, row-test}
-use Rattle.table.proofs.RowsGroup.{group-then}
+use Rattle.groups.specs.Rows.{Leaves, firstOf, firstRefusal}
+use Rattle.groups.proofs.RowsFirst.{first-row}
+use Rattle.groups.proofs.RowsForm.{leaves-constant, row-test}
+use Rattle.groups.proofs.RowsGroup.{group-then}
 
 -- F is y-u, and G is y-v
 abbrev pub maxRows : (F G : Form) (at b k : ℕ) → List Row

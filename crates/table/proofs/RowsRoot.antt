@@ -11,8 +11,9 @@ use Rattle.meaning.specs.Known.{Known, placeOf}
 use Rattle.meaning.specs.Row.{Form, cell, constant, _⊕_, _⊖_, _⊗_, _≅_, Row, holds, group}
 use Rattle.meaning.specs.Reply.{Reply}
 use Rattle.meaning.specs.Gadget.Root.{rootLine}
-use Rattle.table.specs.Rows.{firstOf, fourGroups, firstRefusal}
-use Rattle.table.proofs.RowsGroup.{group-then}
+use Rattle.groups.specs.Rows.{firstOf, firstRefusal}
+use Rattle.groups.proofs.RowsGroup.{group-then}
+use Rattle.table.specs.Root.{fourGroups}
 
 all-groups : (x : Row) (a b c d : List Row) → x ∷ (((a ++ b) ++ c) ++ d) ≡ x ∷ (a ++ (b ++ (c ++ d)))
 all-groups x a b c d = ap (λ l. x ∷ l) (append-assoc (a ++ b) c d ∙ append-assoc a b (c ++ d))

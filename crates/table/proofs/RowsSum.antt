@@ -21,14 +21,15 @@ use Rattle.meaning.specs.Meaning.{gadget}
 use Rattle.text.specs.Word.{wordOf}
 use Rattle.reader.proofs.Steps.{sum-count}
 use Rattle.rules.proofs.SumLine.{without-drop, terms-at}
+use Rattle.groups.specs.Rows.{Leaves, firstRefusal}
+use Rattle.groups.proofs.RowsFirst.{first-none, first-row}
+use Rattle.groups.proofs.RowsForm.{leaves-whole, leaves-⊕, leaves-⊗, row-test}
 use Rattle.table.specs.Line.{KeptLine, gadgetOf, knownCount}
 use Rattle.table.specs.LineRows.{RowsAsked}
-use Rattle.table.specs.Rows.{Leaves, NamesBelow, PlacesInside, firstRefusal}
+use Rattle.table.specs.Sum.{NamesBelow, PlacesInside}
 use Rattle.table.proofs.LineNumbers.{values-most}
 use Rattle.table.proofs.LineSum.{name-made, terms-end}
 use Rattle.table.proofs.RowsLine.{p-three}
-use Rattle.table.proofs.RowsFirst.{first-none, first-row}
-use Rattle.table.proofs.RowsForm.{leaves-whole, leaves-⊕, leaves-⊗, row-test}
 
 -- ---- the sum so far
 

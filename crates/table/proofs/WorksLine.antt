@@ -28,11 +28,12 @@ use Rattle.number.specs.Bounded.{Bounded}
 use Rattle.text.specs.Word.{wordOf}
 use Rattle.text.specs.declared.Word.the-variants.{Sum}
 use Rattle.reader.proofs.Steps.{sum-count}
+use Rattle.groups.specs.Cells.{workedSeen, powerBound}
+use Rattle.groups.specs.declared.value.Worked.{Worked}
+use Rattle.groups.specs.declared.value.Worked.the-variants.{Value, NoValue}
 use Rattle.table.specs.Line.{KeptLine, knownCount}
-use Rattle.table.specs.Cells.{workedSeen, sumOf, SumAsked, powerBound}
+use Rattle.table.specs.Sum.{sumOf, SumAsked}
 use Rattle.table.specs.LineValues.{ValuesAsked, WorkTold}
-use Rattle.table.specs.declared.value.Worked.{Worked}
-use Rattle.table.specs.declared.value.Worked.the-variants.{Value, NoValue}
 use Rattle.table.proofs.LineNumbers.{size, values-most, half-most}
 use Rattle.table.proofs.LineKinds.{span-word, relu-word, which-word, max-word, root-word}
 use Rattle.table.proofs.LineKinds.{OneWord, one-name, one-is, TwoWord, two-first, two-second, two-is}

@@ -16,7 +16,8 @@ use Rattle.meaning.specs.Gadget.Sum.{Term, termsOf, sumValue}
 use Rattle.number.specs.Bounded.{Bounded}
 use Rattle.number.proofs.Bounded.{bounded-difference}
 use Rattle.rules.proofs.SumLine.{without-drop, terms-at}
-use Rattle.table.specs.Cells.{sumOf, SumSmall, SumAsked, powerBound, valueBound}
+use Rattle.groups.specs.Cells.{powerBound, valueBound}
+use Rattle.table.specs.Sum.{sumOf, SumSmall, SumAsked}
 use Rattle.table.proofs.LineSum.{name-made, terms-end}
 
 -- x is the sum up to place i

@@ -16,7 +16,8 @@ use Rattle.meaning.proofs.Law.{low-end, high-end}
 use Rattle.meaning.proofs.Gadget.Sum.{Named, Between, scaled-between, added-between}
 use Rattle.number.specs.Bounded.{Bounded}
 use Rattle.number.proofs.Bounded.{bounded-more, bounded-range}
-use Rattle.table.specs.Cells.{SumSmall, valueBound}
+use Rattle.groups.specs.Cells.{valueBound}
+use Rattle.table.specs.Sum.{SumSmall}
 
 ends-bounded : (p : ℕ) (es : Ends) (x : ℤ) → half p ≤ valueBound → T (endsInRange p es) → Between es x → Bounded valueBound x
 unfolding endsInRange inRange lowest highest

@@ -1,5 +1,6 @@
-pub mod Cells
-pub mod Rows
+pub mod Max
+pub mod Root
+pub mod Sum
 pub mod Line
 pub mod LineValues
 pub mod LineRows

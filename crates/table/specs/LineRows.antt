@@ -9,9 +9,9 @@ use Rattle.algebra.specs.Digits.{Below}
 use Rattle.meaning.specs.Word.{Word, kindOf}
 use Rattle.meaning.specs.Row.{holds}
 use Rattle.meaning.specs.Refusal.{valueLimit}
-use Rattle.table.specs.Rows.{rowsSeen, firstRefusal}
+use Rattle.groups.specs.Rows.{rowsSeen, firstRefusal}
+use Rattle.groups.specs.declared.rows.Rows.{Rows}
 use Rattle.table.specs.Line.{KeptLine, gadgetOf, knownCount}
-use Rattle.table.specs.declared.rows.Rows.{Rows}
 
 -- a table with room for the line's cells, which start at the one called cells; places has the cell of each value before the line
 pub record RowsAsked (p : ℕ) (w : Word) (numbers : List ℤ) (count : ℕ) (table : List ℕ) (cells : ℕ) (places : List ℕ) : Type 0 where

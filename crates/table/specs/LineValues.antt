@@ -9,9 +9,9 @@ use Rattle.meaning.specs.Word.{Word, kindOf}
 use Rattle.meaning.specs.Gadget.Interface.{Gadget}
 use Rattle.meaning.specs.Refusal.{value, refusedBy, valueLimit}
 use Rattle.meaning.specs.Known.{Within}
+use Rattle.groups.specs.Cells.{workedSeen}
+use Rattle.groups.specs.declared.value.Worked.{Worked}
 use Rattle.table.specs.Line.{KeptLine, gadgetOf, knownCount}
-use Rattle.table.specs.Cells.{workedSeen}
-use Rattle.table.specs.declared.value.Worked.{Worked}
 
 -- ---- working
 

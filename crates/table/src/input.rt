@@ -1,6 +1,6 @@
 // A line `in`: its value is the next input. Its one cell is that of the value, and it has no row.
-use super::value::Worked;
-use super::value::value_cell;
+use groups::value::Worked;
+use groups::value::value_cell;
 ghost use mathlib.Core.List.{List};
 ghost use lib.IntN.{ℤ};
 ghost use Rattle.meaning.specs.Word.{input};

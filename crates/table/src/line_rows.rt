@@ -2,10 +2,10 @@
 use super::max::max_line_rows;
 use super::relu::relu_line_rows;
 use super::root::root_line_rows;
-use super::rows::Rows;
 use super::span::span_line_rows;
 use super::sum::sum_line_rows;
 use super::which::which_line_rows;
+use groups::rows::Rows;
 use number::Cell;
 use text::Word;
 ghost use Rattle.text.specs.Word.{wordOf};

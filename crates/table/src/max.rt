@@ -1,19 +1,19 @@
 // A line `max u v b k`: u and v are less than c = b^k apart, and the value y is the greater of them. Its cells are those of y, of the
 // group over y - u and of the group over y - v, both with shift 0; its rows are (y-u)·(y-v) ≡ 0 and those of the two groups.
-use super::group::apart;
-use super::group::group_rows;
-use super::group::power_of;
-use super::group::two_groups;
-use super::numbers::base_at;
-use super::numbers::place_at;
-use super::numbers::size_at;
-use super::rows::Rows;
-use super::rows::residue_at;
-use super::rows::row_before;
-use super::rows::rows_before;
-use super::value::Worked;
-use super::value::value_cell;
-use super::value::value_named;
+use groups::group::apart;
+use groups::group::group_rows;
+use groups::group::power_of;
+use groups::group::two_groups;
+use groups::numbers::base_at;
+use groups::numbers::place_at;
+use groups::numbers::size_at;
+use groups::rows::Rows;
+use groups::rows::residue_at;
+use groups::rows::row_before;
+use groups::rows::rows_before;
+use groups::value::Worked;
+use groups::value::value_cell;
+use groups::value::value_named;
 use number::Cell;
 use number::Whole;
 use number::residue::difference;
@@ -33,8 +33,9 @@ ghost use Rattle.meaning.specs.Row.{holds};
 ghost use Rattle.meaning.specs.Refusal.{value, refusedBy};
 ghost use Rattle.meaning.specs.Gadget.Max.{maxLine};
 ghost use Rattle.number.specs.Bounded.{Bounded};
-ghost use Rattle.table.specs.Cells.{workedSeen, GroupOf, maxCells, valueBound};
-ghost use Rattle.table.specs.Rows.{rowsSeen, firstRefusal};
+ghost use Rattle.groups.specs.Cells.{workedSeen, GroupOf, valueBound};
+ghost use Rattle.groups.specs.Rows.{rowsSeen, firstRefusal};
+ghost use Rattle.table.specs.Max.{maxCells};
 ghost use Rattle.table.specs.LineValues.{ValuesAsked, WorkTold, CellsAsked, CellsTold};
 ghost use Rattle.table.specs.LineRows.{RowsAsked, RowsTold};
 

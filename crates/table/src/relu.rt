@@ -1,18 +1,18 @@
 // A line `relu v b k`: the statement is that of the sign over v, and the value y is the greater of 0 and v. Its cells are those of y and
 // of the sign; its rows are those of the sign, the last of which is f·v ≡ y.
-use super::group::power_of;
-use super::numbers::base_at;
-use super::numbers::place_at;
-use super::numbers::size_at;
-use super::rows::Rows;
-use super::rows::residue_at;
-use super::sign::sign_cells;
-use super::sign::sign_rows;
-use super::sign::sign_works;
-use super::sign::top_part;
-use super::value::Worked;
-use super::value::value_cell;
-use super::value::value_named;
+use groups::group::power_of;
+use groups::numbers::base_at;
+use groups::numbers::place_at;
+use groups::numbers::size_at;
+use groups::rows::Rows;
+use groups::rows::residue_at;
+use groups::sign::sign_cells;
+use groups::sign::sign_rows;
+use groups::sign::sign_works;
+use groups::sign::top_part;
+use groups::value::Worked;
+use groups::value::value_cell;
+use groups::value::value_named;
 use number::Cell;
 use number::Whole;
 use number::residue::product;
@@ -33,8 +33,8 @@ ghost use Rattle.meaning.specs.Refusal.{value, refusedBy};
 ghost use Rattle.meaning.specs.Gadget.Sign.{signStatement, signCells};
 ghost use Rattle.meaning.specs.Gadget.Relu.{reluLine};
 ghost use Rattle.number.specs.Bounded.{Bounded};
-ghost use Rattle.table.specs.Cells.{workedSeen, GroupOf, powerBound, valueBound};
-ghost use Rattle.table.specs.Rows.{rowsSeen, firstRefusal};
+ghost use Rattle.groups.specs.Cells.{workedSeen, GroupOf, powerBound, valueBound};
+ghost use Rattle.groups.specs.Rows.{rowsSeen, firstRefusal};
 ghost use Rattle.table.specs.LineValues.{ValuesAsked, WorkTold, CellsAsked, CellsTold};
 ghost use Rattle.table.specs.LineRows.{RowsAsked, RowsTold};
 

@@ -1,19 +1,19 @@
 // A line `root v b k`: 0 ≤ v < c = b^k, and the value r is the floor of the square root of v. Its cells are those of r and of its square
 // q, then the groups over v, r, v - q and q + 2r - v with shift 0; its rows are r·r ≡ q and those of the four groups.
-use super::group::apart;
-use super::group::group_rows;
-use super::group::power_of;
-use super::group::two_groups;
-use super::numbers::base_at;
-use super::numbers::place_at;
-use super::numbers::size_at;
-use super::rows::Rows;
-use super::rows::residue_at;
-use super::rows::row_before;
-use super::rows::rows_before;
-use super::value::Worked;
-use super::value::value_cell;
-use super::value::value_named;
+use groups::group::apart;
+use groups::group::group_rows;
+use groups::group::power_of;
+use groups::group::two_groups;
+use groups::numbers::base_at;
+use groups::numbers::place_at;
+use groups::numbers::size_at;
+use groups::rows::Rows;
+use groups::rows::residue_at;
+use groups::rows::row_before;
+use groups::rows::rows_before;
+use groups::value::Worked;
+use groups::value::value_cell;
+use groups::value::value_named;
 use number::Cell;
 use number::Residue;
 use number::Whole;
@@ -36,8 +36,9 @@ ghost use Rattle.meaning.specs.Row.{Form, holds};
 ghost use Rattle.meaning.specs.Refusal.{value, refusedBy};
 ghost use Rattle.meaning.specs.Gadget.Root.{rootValue, rootLine};
 ghost use Rattle.number.specs.Bounded.{Bounded};
-ghost use Rattle.table.specs.Cells.{workedSeen, GroupOf, restCells, rootCells, powerBound, valueBound};
-ghost use Rattle.table.specs.Rows.{rowsSeen, firstRefusal, Leaves, fourGroups};
+ghost use Rattle.groups.specs.Cells.{workedSeen, GroupOf, powerBound, valueBound};
+ghost use Rattle.groups.specs.Rows.{rowsSeen, firstRefusal, Leaves};
+ghost use Rattle.table.specs.Root.{restCells, rootCells, fourGroups};
 ghost use Rattle.table.specs.LineValues.{ValuesAsked, WorkTold, CellsAsked, CellsTold};
 ghost use Rattle.table.specs.LineRows.{RowsAsked, RowsTold};
 

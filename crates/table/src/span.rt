@@ -1,15 +1,15 @@
 // A line `span v b k L`: L ≤ v ≤ L + c - 1 with c = b^k. It makes no value. Its cells and its rows are those of the group over v with
 // shift L.
-use super::group::form_cells;
-use super::group::group_rows;
-use super::group::power_of;
-use super::numbers::base_at;
-use super::numbers::place_at;
-use super::numbers::size_at;
-use super::rows::Rows;
-use super::rows::residue_at;
-use super::value::Worked;
-use super::value::value_named;
+use groups::group::form_cells;
+use groups::group::group_rows;
+use groups::group::power_of;
+use groups::numbers::base_at;
+use groups::numbers::place_at;
+use groups::numbers::size_at;
+use groups::rows::Rows;
+use groups::rows::residue_at;
+use groups::value::Worked;
+use groups::value::value_named;
 use number::Cell;
 use number::Whole;
 use number::residue::difference;
@@ -26,10 +26,10 @@ ghost use Rattle.meaning.specs.Known.{Known, placeOf};
 ghost use Rattle.meaning.specs.Row.{holds};
 ghost use Rattle.meaning.specs.Gadget.Span.{spanTop, spanLine};
 ghost use Rattle.number.specs.Bounded.{Bounded};
-ghost use Rattle.table.specs.Rows.{rowsSeen, firstRefusal};
+ghost use Rattle.groups.specs.Rows.{rowsSeen, firstRefusal};
+ghost use Rattle.groups.specs.Cells.{GroupOf, powerBound};
 ghost use Rattle.table.specs.LineValues.{ValuesAsked, WorkTold, CellsAsked, CellsTold};
 ghost use Rattle.table.specs.LineRows.{RowsAsked, RowsTold};
-ghost use Rattle.table.specs.Cells.{GroupOf, powerBound};
 
 // ---- working
 

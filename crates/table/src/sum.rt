@@ -1,12 +1,12 @@
 // A line `sum c0 c1 v1 c2 v2 ..`: the value y is c0 + c1·v1 + c2·v2 + .., its one cell is that of y, and its one row is that y is this sum
 // modulo p.
-use super::numbers::place_at;
-use super::rows::Rows;
-use super::rows::residue_at;
-use super::rows::row_before;
-use super::value::Worked;
-use super::value::value_cell;
-use super::value::value_named;
+use groups::numbers::place_at;
+use groups::rows::Rows;
+use groups::rows::residue_at;
+use groups::rows::row_before;
+use groups::value::Worked;
+use groups::value::value_cell;
+use groups::value::value_named;
 use number::Cell;
 use number::Residue;
 use number::Whole;
@@ -23,8 +23,8 @@ ghost use Rattle.meaning.specs.Word.{numberAt, withoutFirst, sum};
 ghost use Rattle.meaning.specs.Known.{Known};
 ghost use Rattle.meaning.specs.Row.{holds};
 ghost use Rattle.meaning.specs.Gadget.Sum.{termsOf, sumLine};
-ghost use Rattle.table.specs.Cells.{sumOf, SumAsked};
-ghost use Rattle.table.specs.Rows.{rowsSeen, firstRefusal, NamesBelow, PlacesInside};
+ghost use Rattle.groups.specs.Rows.{rowsSeen, firstRefusal};
+ghost use Rattle.table.specs.Sum.{sumOf, SumAsked, NamesBelow, PlacesInside};
 ghost use Rattle.table.specs.LineValues.{ValuesAsked, WorkTold, CellsAsked, CellsTold};
 ghost use Rattle.table.specs.LineRows.{RowsAsked, RowsTold};
 

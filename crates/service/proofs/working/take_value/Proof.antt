@@ -5,7 +5,7 @@ use mir.Val.{SFits}
 use denote.Ref.{now}
 use Rattle.number.proofs.Word.{back}
 use Rattle.service.specs.Make.{withValue, isTrue}
-use Rattle.table.specs.declared.value.Worked.{Worked}
+use Rattle.groups.specs.declared.value.Worked.{Worked}
 use borrow.Author.Needs.{needs}
 use Rattle.service.proofs.working.take_value.Statement.{statement}
 use Rattle.service.proofs.working.take_value.Tie as tie

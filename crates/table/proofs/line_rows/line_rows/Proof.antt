@@ -6,8 +6,8 @@ use Rattle.meaning.specs.Gadget.Field.{fieldLine}
 use Rattle.meaning.specs.Gadget.Input.{inputLine}
 use Rattle.text.specs.Word.{wordOf}
 use Rattle.text.specs.declared.Word.{Word as Coded}
+use Rattle.groups.specs.declared.rows.Rows.{Rows}
 use Rattle.table.specs.LineRows.{RowsAsked, RowsTold}
-use Rattle.table.specs.declared.rows.Rows.{Rows}
 use Rattle.table.proofs.LineWord.{Coding, at-kind, by-word}
 use Rattle.table.proofs.LineWord.{field-kind, input-kind, span-kind, sum-kind, relu-kind, which-kind, max-kind, root-kind}
 use Rattle.table.proofs.RowsLine.{no-row}

@@ -5,8 +5,8 @@ use Rattle.meaning.specs.Word.{Word}
 use Rattle.text.specs.Word.{wordOf}
 use Rattle.text.specs.declared.Word.{Word as Coded}
 use Rattle.number.proofs.Word.{back}
+use Rattle.groups.specs.declared.value.Worked.{Worked}
 use Rattle.table.specs.LineValues.{ValuesAsked, WorkTold}
-use Rattle.table.specs.declared.value.Worked.{Worked}
 use Rattle.table.proofs.LineWord.{Coding, at-kind, by-word}
 use Rattle.table.proofs.LineWord.{field-kind, input-kind, span-kind, sum-kind, relu-kind, which-kind, max-kind, root-kind}
 use Rattle.table.proofs.WorksLine.{field-told}

@@ -13,7 +13,7 @@ use Rattle.meaning.specs.Gadget.Digits.{groupCells}
 use Rattle.meaning.proofs.Part.{written-after}
 use Rattle.number.proofs.Word.{back}
 use Rattle.number.proofs.Bounded.{bounded-more, bounded-difference, larger-bounded, difference-fits}
-use Rattle.table.specs.Cells.{maxCells}
+use Rattle.table.specs.Max.{maxCells}
 use borrow.Author.Needs.{needs}
 use Rattle.table.proofs.max.max_cells.Statement.{statement}
 use Rattle.table.proofs.max.max_cells.Tie as tie

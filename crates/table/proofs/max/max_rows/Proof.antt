@@ -3,8 +3,8 @@ use native.Mathlib.Omega.{arith}
 use lib.IntN.{pos}
 use borrow.Author.Needs.{needs}
 use Rattle.meaning.specs.Row.{cell, _⊖_}
-use Rattle.table.specs.Rows.{Leaves}
-use Rattle.table.proofs.RowsForm.{leaves-read, leaves-⊖, leaves-⊗, leaves-plain}
+use Rattle.groups.specs.Rows.{Leaves}
+use Rattle.groups.proofs.RowsForm.{leaves-read, leaves-⊖, leaves-⊗, leaves-plain}
 use Rattle.table.proofs.RowsMax.{max-rows-are, max-answer}
 use Rattle.table.proofs.max.max_rows.Statement.{statement}
 use Rattle.table.proofs.max.max_rows.Tie as tie

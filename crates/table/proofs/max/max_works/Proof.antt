@@ -8,7 +8,7 @@ use mir.Val.{SFits}
 use Rattle.algebra.proofs.Test.{test-≡, false-ltb, ltb-iff}
 use Rattle.number.proofs.Word.{back}
 use Rattle.number.proofs.Bounded.{bounded-more}
-use Rattle.table.proofs.WorksAnswer.{value-worked, false-worked}
+use Rattle.groups.proofs.WorksAnswer.{value-worked, false-worked}
 use borrow.Author.Needs.{needs}
 use Rattle.table.proofs.max.max_works.Statement.{statement}
 use Rattle.table.proofs.max.max_works.Tie as tie

@@ -5,7 +5,7 @@ use mir.Syntax.{w64}
 use mir.Val.{SFits}
 use Rattle.meaning.specs.Gadget.Sign.{signStatement}
 use Rattle.number.proofs.Word.{back}
-use Rattle.table.proofs.WorksAnswer.{value-worked, false-worked}
+use Rattle.groups.proofs.WorksAnswer.{value-worked, false-worked}
 use borrow.Author.Needs.{needs}
 use Rattle.table.proofs.relu.relu_works.Statement.{statement}
 use Rattle.table.proofs.relu.relu_works.Tie as tie

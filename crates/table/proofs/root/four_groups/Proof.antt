@@ -1,7 +1,7 @@
 -- `table::root::four_groups`: the groups one after another.
 use lib.IntN.{pos}
 use borrow.Author.Needs.{needs}
-use Rattle.table.proofs.RowsForm.{leaves-plain}
+use Rattle.groups.proofs.RowsForm.{leaves-plain}
 use Rattle.table.proofs.RowsRoot.{groups-answer}
 use Rattle.table.proofs.root.four_groups.Statement.{statement}
 use Rattle.table.proofs.root.four_groups.Tie as tie

@@ -1,6 +1,6 @@
 -- `table::root::rest_cells`: the two differences fit, and the groups are over them.
 use Rattle.number.proofs.Word.{back}
-use Rattle.table.specs.Cells.{restCells}
+use Rattle.table.specs.Root.{restCells}
 use Rattle.table.proofs.CellsRoot.{square-fits, twice-fits, next-fits, above-fits, below-fits, above-bounded, below-bounded}
 use borrow.Author.Needs.{needs}
 use Rattle.table.proofs.root.rest_cells.Statement.{statement}

@@ -15,7 +15,7 @@ use Rattle.meaning.specs.Gadget.Root.{rootValue}
 use Rattle.meaning.proofs.Part.{written-after}
 use Rattle.number.proofs.Word.{back}
 use Rattle.number.proofs.Bounded.{bounded-more}
-use Rattle.table.specs.Cells.{restCells}
+use Rattle.table.specs.Root.{restCells}
 use Rattle.table.proofs.CellsRoot.{root-bounded, rootStart, length-start, root-cells-are}
 use borrow.Author.Needs.{needs}
 use Rattle.table.proofs.root.root_cells.Statement.{statement}

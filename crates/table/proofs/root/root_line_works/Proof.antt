@@ -3,7 +3,7 @@ use mathlib.Core.Path.{_≡_, _∙_}
 use mir.Syntax.{w64}
 use mir.Val.{SFits, toZ, ofZ}
 use Rattle.number.proofs.Word.{back}
-use Rattle.table.specs.Cells.{GroupOf}
+use Rattle.groups.specs.Cells.{GroupOf}
 use Rattle.table.proofs.LineKinds.{root-word, base-asked, count-asked, one-name}
 use Rattle.table.proofs.LineValues.{named, value-asked, named-bounded, power-asked, group-read}
 use Rattle.table.proofs.WorksLine.{root-told}

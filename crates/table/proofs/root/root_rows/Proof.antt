@@ -4,9 +4,10 @@ use native.Mathlib.Omega.{arith}
 use lib.IntN.{pos}
 use borrow.Author.Needs.{needs}
 use Rattle.meaning.specs.Row.{cell, constant, _⊕_, _⊖_, _⊗_, _≅_, holds}
-use Rattle.table.specs.Rows.{Leaves, fourGroups}
-use Rattle.table.proofs.RowsFirst.{first-row}
-use Rattle.table.proofs.RowsForm.{leaves-read, leaves-constant, leaves-⊕, leaves-⊖, leaves-⊗, row-test}
+use Rattle.groups.specs.Rows.{Leaves}
+use Rattle.groups.proofs.RowsFirst.{first-row}
+use Rattle.groups.proofs.RowsForm.{leaves-read, leaves-constant, leaves-⊕, leaves-⊖, leaves-⊗, row-test}
+use Rattle.table.specs.Root.{fourGroups}
 use Rattle.table.proofs.RowsRoot.{root-rows-are, twice}
 use Rattle.table.proofs.root.root_rows.Statement.{statement}
 use Rattle.table.proofs.root.root_rows.Tie as tie

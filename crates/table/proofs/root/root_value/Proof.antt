@@ -9,11 +9,11 @@ use Rattle.algebra.proofs.Root.{root-below}
 use Rattle.meaning.specs.Gadget.Root.{rootValue}
 use Rattle.number.proofs.Word.{back, small}
 use Rattle.number.proofs.Bounded.{bounded-more}
-use Rattle.table.proofs.Whole.{pos-bounded, natAbs-from-zero}
+use Rattle.groups.proofs.Whole.{pos-bounded, natAbs-from-zero}
 use borrow.Author.Needs.{needs}
+use Rattle.groups.specs.Cells.{formBound, valueBound}
 use Rattle.table.proofs.root.root_value.Statement.{statement}
 use Rattle.table.proofs.root.root_value.Tie as tie
-use Rattle.table.specs.Cells.{formBound, valueBound}
 
 apart-requires : tie.Need-apart-requires
 apart-requires c κs = (rw (back (c .fits .v)) (bounded-more (c .pre) (lit≤ tt)), pos-bounded 0 formBound (lit≤ tt))

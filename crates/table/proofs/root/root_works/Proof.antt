@@ -7,8 +7,8 @@ use mir.Syntax.{w64}
 use mir.Val.{SFits}
 use Rattle.meaning.specs.Number.{between}
 use Rattle.number.proofs.Word.{back}
-use Rattle.table.proofs.Whole.{one-less-fits, one-less-is}
-use Rattle.table.proofs.WorksAnswer.{value-worked, false-worked}
+use Rattle.groups.proofs.Whole.{one-less-fits, one-less-is}
+use Rattle.groups.proofs.WorksAnswer.{value-worked, false-worked}
 use borrow.Author.Needs.{needs}
 use Rattle.table.proofs.root.root_works.Statement.{statement}
 use Rattle.table.proofs.root.root_works.Tie as tie

@@ -7,10 +7,10 @@ use mir.Val.{SFits, toZ, ofZ}
 use Rattle.meaning.specs.Number.{between}
 use Rattle.meaning.specs.Gadget.Span.{spanTop}
 use Rattle.number.proofs.Word.{back}
-use Rattle.table.specs.Cells.{GroupOf}
+use Rattle.groups.specs.Cells.{GroupOf}
+use Rattle.groups.proofs.WorksAnswer.{no-value-worked, false-worked}
 use Rattle.table.proofs.LineKinds.{span-word, base-asked, count-asked, one-name}
 use Rattle.table.proofs.LineValues.{named, value-asked, power-asked, group-read, power-positive}
-use Rattle.table.proofs.WorksAnswer.{no-value-worked, false-worked}
 use Rattle.table.proofs.WorksLine.{span-shift, span-told}
 use borrow.Author.Needs.{needs}
 use Rattle.table.proofs.span.span_line_works.Statement.{statement}

@@ -3,8 +3,8 @@ use borrow.Author.Needs.{needs}
 use Rattle.meaning.specs.Row.{cell, constant}
 use Rattle.meaning.specs.Gadget.Span.{spanLine}
 use Rattle.number.proofs.Word.{back}
-use Rattle.table.specs.Rows.{Leaves}
-use Rattle.table.proofs.RowsForm.{leaves-read, leaves-whole, leaves-⊖, leaves-number}
+use Rattle.groups.specs.Rows.{Leaves}
+use Rattle.groups.proofs.RowsForm.{leaves-read, leaves-whole, leaves-⊖, leaves-number}
 use Rattle.table.proofs.span.span_rows.Statement.{statement}
 use Rattle.table.proofs.span.span_rows.Tie as tie
 

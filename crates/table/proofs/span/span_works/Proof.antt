@@ -7,11 +7,11 @@ use Rattle.meaning.specs.Number.{between}
 use Rattle.meaning.specs.Gadget.Span.{spanTop}
 use Rattle.number.proofs.Word.{back, small}
 use Rattle.number.proofs.Bounded.{sum-fits}
-use Rattle.table.proofs.Whole.{pos-bounded}
+use Rattle.groups.proofs.Whole.{pos-bounded}
 use borrow.Author.Needs.{needs}
+use Rattle.groups.specs.Cells.{powerBound}
 use Rattle.table.proofs.span.span_works.Statement.{statement}
 use Rattle.table.proofs.span.span_works.Tie as tie
-use Rattle.table.specs.Cells.{powerBound}
 
 add-top : tie.Need-add-top
 add-top c =

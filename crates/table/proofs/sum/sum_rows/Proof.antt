@@ -10,8 +10,8 @@ use mir.Val.{SFits}
 use Rattle.meaning.specs.Number.{remainder}
 use Rattle.algebra.proofs.Congruence.{remainder-below}
 use Rattle.number.proofs.Word.{back}
-use Rattle.table.specs.Rows.{rowsSeen}
-use Rattle.table.proofs.RowsForm.{leaves-read}
+use Rattle.groups.specs.Rows.{rowsSeen}
+use Rattle.groups.proofs.RowsForm.{leaves-read}
 use Rattle.table.proofs.RowsSum.{SoFar, sum-start, sum-next, sum-end, Names, pair-names}
 use Rattle.table.proofs.sum.sum_rows.Statement.{statement}
 use Rattle.table.proofs.sum.sum_rows.Tie as tie

@@ -10,7 +10,8 @@ use mir.Val.{SFits, toZ, ofZ}
 use borrow.Author.Needs.{needs}
 use Rattle.number.proofs.Word.{back}
 use Rattle.number.proofs.Bounded.{bounded-fits}
-use Rattle.table.specs.Cells.{SumAsked, powerBound, valueBound}
+use Rattle.groups.specs.Cells.{powerBound, valueBound}
+use Rattle.table.specs.Sum.{SumAsked}
 use Rattle.table.proofs.WorksSum.{Summing, Turn, term, summing-start, summing-turn, summing-end}
 use Rattle.table.proofs.sum.sum_works.Statement.{statement}
 use Rattle.table.proofs.sum.sum_works.Tie as tie

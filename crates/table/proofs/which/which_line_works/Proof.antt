@@ -4,7 +4,7 @@ use native.Mathlib.Omega.{arith}
 use mir.Syntax.{w64}
 use mir.Val.{SFits, toZ, ofZ}
 use Rattle.number.proofs.Word.{back}
-use Rattle.table.specs.Cells.{GroupOf}
+use Rattle.groups.specs.Cells.{GroupOf}
 use Rattle.table.proofs.LineKinds.{which-word, base-asked, count-asked, two-first, two-second}
 use Rattle.table.proofs.LineValues.{named, value-asked, named-bounded, power-asked, group-read}
 use Rattle.table.proofs.WorksLine.{which-told}

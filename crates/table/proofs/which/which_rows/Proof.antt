@@ -5,9 +5,10 @@ use lib.IntN.{pos}
 use borrow.Author.Needs.{needs}
 use Rattle.meaning.specs.Known.{topPart}
 use Rattle.meaning.specs.Row.{cell, constant, _⊖_, _≅_}
-use Rattle.table.specs.Rows.{Leaves}
-use Rattle.table.proofs.RowsForm.{leaves-read, leaves-constant, leaves-whole, leaves-⊕, leaves-⊖, row-test}
-use Rattle.table.proofs.RowsSign.{sign-number, which-rows-are}
+use Rattle.groups.specs.Rows.{Leaves}
+use Rattle.groups.proofs.RowsForm.{leaves-read, leaves-constant, leaves-whole, leaves-⊕, leaves-⊖, row-test}
+use Rattle.groups.proofs.RowsSign.{sign-number}
+use Rattle.table.proofs.RowsSigned.{which-rows-are}
 use Rattle.table.proofs.which.which_rows.Statement.{statement}
 use Rattle.table.proofs.which.which_rows.Tie as tie
 

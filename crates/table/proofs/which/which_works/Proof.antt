@@ -7,7 +7,7 @@ use mir.Val.{SFits}
 use Rattle.meaning.specs.Gadget.Sign.{signStatement}
 use Rattle.number.proofs.Word.{back}
 use Rattle.number.proofs.Bounded.{difference-fits}
-use Rattle.table.proofs.WorksAnswer.{value-worked, false-worked}
+use Rattle.groups.proofs.WorksAnswer.{value-worked, false-worked}
 use borrow.Author.Needs.{needs}
 use Rattle.table.proofs.which.which_works.Statement.{statement}
 use Rattle.table.proofs.which.which_works.Tie as tie

@@ -1,0 +1,13 @@
+-- whole numbers and machine words
+pub mod Whole
+pub mod SignPower
+-- working a line
+pub mod WorksAnswer
+-- writing its cells
+pub mod CellsGroup
+pub mod CellsSign
+-- checking its rows
+pub mod RowsFirst
+pub mod RowsForm
+pub mod RowsGroup
+pub mod RowsSign

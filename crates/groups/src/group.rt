@@ -1,0 +1,133 @@
+// The digit group over a whole number x with a shift L: k cells, the lowest base-b digits of how far x is from L, lowest first. In a true
+// table x is not below L, so that this is x - L. Its rows are that each cell is a digit below b, and then that the digits' value is x - L
+// modulo p.
+use super::rows::Rows;
+use super::rows::row_before;
+use number::Cell;
+use number::Residue;
+use number::power::Power;
+use number::power::capped_power;
+ghost use mathlib.Core.Path.{_≡_};
+ghost use mathlib.Core.List.{_++_};
+ghost use Prim.Native.Nat.{_+_, _/_, _%_, _^_, _≤_, _<_, ℕ};
+ghost use lib.IntN.{pos, natAbs, _-ℤ_, ℤ};
+ghost use lib.ListN.{length, drop};
+ghost use Rattle.algebra.specs.Digits.{digits};
+ghost use Rattle.meaning.specs.Number.{remainder};
+ghost use Rattle.meaning.specs.Row.{Form, eval, holds, group};
+ghost use Rattle.meaning.specs.Gadget.Digits.{groupCells};
+ghost use Rattle.number.specs.Bounded.{Bounded};
+ghost use Rattle.groups.specs.Rows.{rowsSeen, firstRefusal};
+ghost use Rattle.groups.specs.Cells.{GroupOf, formBound, powerBound};
+
+// c = b ^ k.
+pub fn power_of(b: u32, k: usize) -> u64
+    requires { ⌜ (k ≤ 31) × (b ^ k ≤ powerBound) ⌝ }
+    ensures { λ r. ⌜ r ≡ b ^ k ⌝ }
+{
+    match capped_power(b as u64, k as u32, 2147483648) {
+        Power::Of(c) => c,
+        Power::AboveCap => 0,
+    }
+}
+
+// How far x and y are from each other.
+pub fn apart(x: i64, y: i64) -> u64
+    requires { ⌜ Bounded formBound x × Bounded formBound y ⌝ }
+    ensures { λ r. ⌜ r ≡ natAbs (x -ℤ y) ⌝ }
+{
+    if x <= y {
+        (y - x) as u64
+    } else {
+        (x - y) as u64
+    }
+}
+
+// ---- cells
+
+// n / b, and what it leaves. For base 2, the one most in use, the divisor stands in the code, and no division is left of it.
+pub fn divided(n: u64, b: u32) -> u64
+    requires { ⌜ 0 < b ⌝ }
+    ensures { λ r. ⌜ r ≡ n / b ⌝ }
+{
+    if b == 2 { n / 2 } else { n / b as u64 }
+}
+
+fn digit(n: u64, b: u32) -> u32
+    requires { ⌜ 0 < b ⌝ }
+    ensures { λ r. ⌜ r ≡ n % b ⌝ }
+{
+    if b == 2 {
+        (n % 2) as u32
+    } else {
+        (n % b as u64) as u32
+    }
+}
+
+// The digits of n, from the lowest on: each is what division by b leaves.
+pub fn group_cells(out: &mut [u32], n: u64, b: u32, k: usize)
+    requires { ⌜ (0 < b) × (k ≤ length (now out)) ⌝ }
+    ensures { λ _. ⌜ now (out .exit) ≡ digits b k n ++ drop k (now (out .entry)) ⌝ }
+{
+    let mut rest = n;
+    let mut i: usize = 0;
+    while i < k {
+        out[i] = digit(rest, b);
+        rest = divided(rest, b);
+        i += 1;
+    }
+}
+
+// The group over a whole number with a shift.
+pub fn form_cells(out: &mut [u32], form: i64, shift: i64, b: u32, k: usize)
+    requires { ⌜ (0 < b) × (k ≤ length (now out)) × Bounded formBound form × Bounded formBound shift ⌝ }
+    ensures { λ _. ⌜ now (out .exit) ≡ groupCells b k form shift ++ drop k (now (out .entry)) ⌝ }
+{
+    group_cells(out, apart(form, shift), b, k);
+}
+
+// Two groups with shift 0, one after the other.
+pub fn two_groups(out: &mut [u32], first: i64, second: i64, b: u32, k: usize)
+    requires { ⌜ (0 < b) × (k + k ≤ length (now out)) × Bounded formBound first × Bounded formBound second ⌝ }
+    ensures { λ _. ⌜ now (out .exit) ≡ groupCells b k first (pos 0) ++ groupCells b k second (pos 0) ++ drop (k + k) (now (out .entry)) ⌝ }
+{
+    form_cells(out, first, 0, b, k);
+    form_cells(&mut out[k..], second, 0, b, k);
+}
+
+// ---- rows
+
+// The rows of a group over the k cells from the one called `at`, whose number modulo p is `number`, for every p from b^k on. `first` is the
+// number that the first of these rows has in its line. Digits below b have a value below b^k, so that it is its own remainder: nothing is
+// reduced. In each turn it is the value of the digits before, and part is the power of b below which it is. Each power waits for the one
+// before it, and that is most of the time, so that a turn takes two digits to one step of the power. A last digit may be left over.
+pub fn group_rows(table: &[u32], number: Residue, first: usize, at: Cell, b: u32, k: usize) -> Rows
+    requires { ⌜ GroupOf b k (b ^ k) × (at .0 + k ≤ length (now table)) × (first + k < 2 ^ 64) ⌝ }
+    ensures { λ r. ⌜ ((p : ℕ) (f : Form) (L : ℤ) → b ^ k ≤ p → remainder p (eval (now (table .entry)) f -ℤ L) ≡ number .0
+        → rowsSeen r ≡ firstRefusal (holds p (now (table .entry))) first (group f L (at .0) b k)) ⌝ }
+{
+    let mut value: u32 = 0;
+    let mut part: u32 = 1;
+    let mut i: usize = 0;
+    while i + 1 < k {
+        let low = table[at.0 + i];
+        if b <= low {
+            return Rows::Fails(first + i);
+        }
+        let high = table[at.0 + i + 1];
+        if b <= high {
+            return Rows::Fails(first + i + 1);
+        }
+        value = value + (low + high * b) * part;
+        part = part * (b * b);
+        i += 2;
+    }
+    if i < k {
+        let digit = table[at.0 + i];
+        if b <= digit {
+            return Rows::Fails(first + i);
+        }
+        value = value + digit * part;
+    }
+    row_before(number.0 == value, first + k, Rows::AllHold)
+}

@@ -1,0 +1,43 @@
+// What a check of rows reads and what it answers, and how the answer for a list of rows is put together from those for its parts.
+// The answers of later rows are taken before they are needed: in a true table, the one that matters, every row is tested anyway.
+use number::Cell;
+use number::Residue;
+ghost use mathlib.Core.Path.{_≡_};
+ghost use mathlib.Core.Bool.{cond};
+ghost use mathlib.Core.Option.{some};
+ghost use Prim.Native.Nat.{_<_};
+ghost use lib.ListN.{length, getD};
+ghost use Rattle.meaning.specs.Reply.{reply};
+ghost use Rattle.groups.specs.Rows.{rowsSeen, firstOf};
+
+// The number of the first row that fails, counted from 0 in its line.
+pub enum Rows {
+    AllHold,
+    Fails(usize),
+}
+
+// What stands in a cell.
+pub fn residue_at(table: &[u32], at: Cell) -> Residue
+    requires { ⌜ at .0 < length (now table) ⌝ }
+    ensures { λ r. ⌜ r .0 ≡ getD (now (table .entry)) (at .0) 0 ⌝ }
+{
+    let place = at.0;
+    Residue(table[place])
+}
+
+// One row, of this number, and then others.
+pub fn row_before(holds: bool, row: usize, later: Rows) -> Rows
+    ensures { λ r. ⌜ rowsSeen r ≡ cond holds (rowsSeen later) (some (reply 15 row)) ⌝ }
+{
+    if holds { later } else { Rows::Fails(row) }
+}
+
+// Some rows, and then others.
+pub fn rows_before(earlier: Rows, later: Rows) -> Rows
+    ensures { λ r. ⌜ rowsSeen r ≡ firstOf (rowsSeen earlier) (rowsSeen later) ⌝ }
+{
+    match earlier {
+        Rows::AllHold => later,
+        Rows::Fails(row) => Rows::Fails(row),
+    }
+}
