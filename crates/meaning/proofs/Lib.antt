@@ -10,6 +10,7 @@ pub mod Group
 pub mod Law
 pub mod Gadget
 pub mod Ranks
+pub mod Words
 pub mod Kept
 pub mod Lines
 pub mod Induction

@@ -20,15 +20,8 @@ use Rattle.rules.specs.Rule.{earlyBroken, begunUnless}
 use Rattle.rules.specs.declared.rule.Begun.the-variants.{Stops}
 
 over-prime : (w : Word) (ns : List ℤ) → kindOf w .isField ≡ false → isOverPrime w ns ≡ true
-unfolding kindOf isOverPrime
-over-prime field ns e = let z : _≡_ {A = ℕ} 0 1 = cc in absurd (omega arith)
-over-prime input ns e = refl
-over-prime span ns e = refl
-over-prime sum ns e = refl
-over-prime relu ns e = refl
-over-prime which ns e = refl
-over-prime max ns e = refl
-over-prime root ns e = refl
+unfolding isOverPrime
+over-prime w ns e = rw e refl
 
 -- the first broken rule, or these ends
 abbrev pub toldWith : Known → Line → List Ends → Told

@@ -13,6 +13,8 @@ use lib.Seq.{getD-take, getD-drop}
 use Rattle.meaning.specs.Text.{bytes, sameBytes}
 use Rattle.meaning.specs.Word.{Word, field, input, span, sum, relu, which, max, root, words, kindOf}
 use Rattle.meaning.specs.Line.{wordAmong}
+use Rattle.meaning.specs.Refusal.{all}
+use Rattle.meaning.proofs.Words.{every-word}
 use Rattle.meaning.proofs.Results.{none-refused}
 use Rattle.text.specs.declared.Word.{Word as Read}
 use Rattle.text.specs.declared.Spelled.{Spelled}
@@ -22,6 +24,32 @@ use Rattle.text.specs.Place.{indexOf, Found, fieldAt}
 use Rattle.text.proofs.Bytes.{drop-more}
 use Rattle.text.proofs.Places.{Searched, search-past, search-stop, field-empty, field-more}
 use Rattle.text.proofs.Ends.{InLine, cut-length, cut-byte, before-end, place-next, field-ends}
+
+-- ---- what comparing asks of a spelling
+
+-- no byte of a spelling ends a field or a line
+allAbove : List ℕ → Bool
+allAbove [] = true
+allAbove (x ∷ xs) = ltb 10 x && allAbove xs
+
+above-both : (t u : Bool) → t && u ≡ true → (t ≡ true) × (u ≡ true)
+above-both true true q = (refl, refl)
+above-both true false q = (refl, q)
+above-both false u q = let z : _≡_ {A = ℕ} 0 1 = cc in absurd (omega arith)
+
+above-at : (xs : List ℕ) → allAbove xs ≡ true → (k : ℕ) → k < length xs → 10 < getD xs k 0
+unfolding allAbove
+above-at [] q k h = absurd (omega arith)
+above-at (x ∷ xs) q zero h = ltb-true 10 x (above-both (ltb 10 x) (allAbove xs) q .0)
+above-at (x ∷ xs) q (suc k) h = above-at xs (above-both (ltb 10 x) (allAbove xs) q .1) k (omega arith)
+
+-- a spelling has two bytes or more, which tell its word, and none that ends a field or a line
+isComparable : List ℕ → Bool
+isComparable spelled = ltb 1 (length spelled) && allAbove spelled
+
+spelling-comparable : (w : Word) → (ltb 1 (length (kindOf w .spelling)) ≡ true) × (allAbove (kindOf w .spelling) ≡ true)
+unfolding isComparable allAbove kindOf bytes words all
+spelling-comparable w = above-both _ _ (every-word (λ v. isComparable (kindOf v .spelling)) refl w)
 
 -- ---- the word that two bytes tell
 
@@ -42,17 +70,6 @@ told-spelling which = refl
 told-spelling max = refl
 told-spelling root = refl
 
-spelling-long : (w : Word) → 1 < length (kindOf w .spelling)
-unfolding kindOf bytes
-spelling-long field = omega arith
-spelling-long input = omega arith
-spelling-long span = omega arith
-spelling-long sum = omega arith
-spelling-long relu = omega arith
-spelling-long which = omega arith
-spelling-long max = omega arith
-spelling-long root = omega arith
-
 -- a byte of the field at a place is a byte of the text
 field-at : {text : List ℕ} {at end : ℕ} → InLine text at end → (k : ℕ) → k < length (fieldAt (take end text) at)
     → getD (fieldAt (take end text) at) k 0 ≡ getD text (at + k) 0
@@ -66,7 +83,7 @@ field-at {text} {at} {end} l k h =
 
 pub told-only : {text : List ℕ} {at end : ℕ} → InLine text at end → (w : Word) → fieldAt (take end text) at ≡ kindOf w .spelling → w ≡ toldBy (getD text at 0) (getD text (at + 1) 0)
 told-only {text} {at} {end} l w q =
-    let long = spelling-long w in
+    let long : 1 < length (kindOf w .spelling) = ltb-true 1 (length (kindOf w .spelling)) (spelling-comparable w .0) in
     let e : at + 0 ≡ at = omega arith in
     let same = ap length q in
     let first : getD (kindOf w .spelling) 0 0 ≡ getD text at 0 =
@@ -75,33 +92,6 @@ told-only {text} {at} {end} l w q =
     sym (told-spelling w) ∙ rw (first, second)
 
 -- ---- a field beside a spelling
-
--- no byte of a spelling ends a field or a line
-allAbove : List ℕ → Bool
-allAbove [] = true
-allAbove (x ∷ xs) = ltb 10 x && allAbove xs
-
-above-both : (t u : Bool) → t && u ≡ true → (t ≡ true) × (u ≡ true)
-above-both true true q = (refl, refl)
-above-both true false q = (refl, q)
-above-both false u q = let z : _≡_ {A = ℕ} 0 1 = cc in absurd (omega arith)
-
-above-at : (xs : List ℕ) → allAbove xs ≡ true → (k : ℕ) → k < length xs → 10 < getD xs k 0
-unfolding allAbove
-above-at [] q k h = absurd (omega arith)
-above-at (x ∷ xs) q zero h = ltb-true 10 x (above-both (ltb 10 x) (allAbove xs) q .0)
-above-at (x ∷ xs) q (suc k) h = above-at xs (above-both (ltb 10 x) (allAbove xs) q .1) k (omega arith)
-
-spelling-above : (w : Word) → allAbove (kindOf w .spelling) ≡ true
-unfolding allAbove kindOf bytes
-spelling-above field = refl
-spelling-above input = refl
-spelling-above span = refl
-spelling-above sum = refl
-spelling-above relu = refl
-spelling-above which = refl
-spelling-above max = refl
-spelling-above root = refl
 
 same-rest : {x : ℕ} {xs ys : List ℕ} → x ∷ xs ≡ x ∷ ys → xs ≡ ys
 same-rest q = cc
@@ -138,7 +128,7 @@ module _ {text : List ℕ} {at end : ℕ} (w : Word) {i : ℕ} (s : Spelling tex
 
     module _ (q : getD text (at + i) 0 ≡ getD (kindOf w .spelling) i 0) where
       letter : 10 < getD text (at + i) 0
-      letter = rw q (above-at (kindOf w .spelling) (spelling-above w) i h)
+      letter = rw q (above-at (kindOf w .spelling) (spelling-comparable w .1) i h)
 
       inside : at + i < end
       inside = before-end (s .place) (λ e. omega (arith, letter))
