@@ -52,7 +52,7 @@ told-made none m es e = (refl, sym (ap endsIn e))
 told-made (some r) m es e = absurd (subst IsMade e tt)
 
 module _ (s : Known) (l : Line) where
-  pub refused-step : (n : ℕ) → refuses n ≡ toldOf s l → stops n ≡ stepOf s l
+  pub refused-step : (n : ℕ) → refuses n ≡ toldOf s l → stops n ≡ stepOf 1 s l
   unfolding toldOf stepOf
   refused-step n e = told-refused (firstBroken rules 1 s l) (gadget s l .made) (after s l) n e
 
@@ -67,7 +67,7 @@ module _ (s : Known) (l : Line) where
   unfolding toldOf
   ends-made es e = told-made (firstBroken rules 1 s l) (gadget s l .made) es e .1
 
-  pub kept-step : firstBroken rules 1 s l ≡ none → goes (after s l) ≡ stepOf s l
+  pub kept-step : firstBroken rules 1 s l ≡ none → goes (after s l) ≡ stepOf 1 s l
   unfolding stepOf onSome
   kept-step e = rw e refl
 
@@ -118,7 +118,7 @@ left-by-entry made at c entry before h e f = rw (e, f) (left-entered made at c e
 module _ (p : ℕ) (s : Known) (l : Line) (c : Counts) (lows highs : List ℤ) (places : List ℕ) (is : s ≡ stateOf p c lows highs places)
     (sized : WithinLimits c (length lows) (length highs)) (made : Made) (e : madeSeen made ≡ toldOf s l) where
   -- a line that is refused
-  pub grown-refused : (n : ℕ) (ls hs : List ℤ) (ps : List ℕ) → made ≡ Breaks n → stepSeen p (Refused n) ls hs ps ≡ stepOf s l
+  pub grown-refused : (n : ℕ) (ls hs : List ℤ) (ps : List ℕ) → made ≡ Breaks n → stepSeen p (Refused n) ls hs ps ≡ stepOf 1 s l
   unfolding stepSeen madeSeen
   grown-refused n ls hs ps q = refused-step s l n (sym (ap madeSeen q) ∙ e)
 
@@ -146,7 +146,7 @@ module _ (p : ℕ) (s : Known) (l : Line) (c : Counts) (lows highs : List ℤ) (
 
     pub grown : length places ≡ valueLimit → (size : Counts) → (Keeps 1 s l → Grows s l size)
         → stepSeen p (Next (record { values = c .values + size .values; inputs = c .inputs + size .inputs; cells = c .cells + size .cells; rows = c .rows + size .rows }))
-        (set lows (c .values) low) (set highs (c .values) high) (placedAt c places) ≡ stepOf s l
+        (set lows (c .values) low) (set highs (c .values) high) (placedAt c places) ≡ stepOf 1 s l
     unfolding stepSeen stateOf placedAt after placesFrom
     grown long size grows-if =
         let grows = grows-if kept in

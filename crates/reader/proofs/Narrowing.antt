@@ -44,7 +44,7 @@ module _ (p : ℕ) (s : Known) (ns : List ℤ) (c : Counts) (lows highs : List �
   abbrev new : Ends
   new = shared (sizeAt ns 1) (sizeAt ns 2) (numberAt ns 3) (endsOf s (sizeAt ns 0))
 
-  pub narrowed-refused : (n : ℕ) (ls hs : List ℤ) → made ≡ Breaks n → stepSeen p (Refused n) ls hs (placedAt c places) ≡ stepOf s line
+  pub narrowed-refused : (n : ℕ) (ls hs : List ℤ) → made ≡ Breaks n → stepSeen p (Refused n) ls hs (placedAt c places) ≡ stepOf 1 s line
   unfolding stepSeen madeSeen spanTold stepOf
   narrowed-refused n ls hs q = told-refused (firstBroken rules 1 s line) (new ∷ []) (after s line) n (sym (ap madeSeen q) ∙ e)
 
@@ -80,7 +80,7 @@ module _ (p : ℕ) (s : Known) (ns : List ℤ) (c : Counts) (lows highs : List �
 
       pub narrowed : (size : Counts) → (Keeps 1 s line → Adds s line size)
           → stepSeen p (Next (record { values = c .values; inputs = c .inputs; cells = c .cells + size .cells; rows = c .rows + size .rows }))
-          (set lows at low) (set highs at high) (placedAt c places) ≡ stepOf s line
+          (set lows at low) (set highs at high) (placedAt c places) ≡ stepOf 1 s line
       unfolding stepSeen stateOf placedAt after gadget kindOf spanLine primeAfter placesFrom
       narrowed size adds-if =
           let adds = adds-if kept in

@@ -2,8 +2,7 @@
 use mathlib.Core.Path.{_≡_, refl, sym, ap, ap₂, _∙_}
 use mathlib.Core.Bool.{true, _&&_}
 use mathlib.Core.List.{List, [], _∷_}
-use mathlib.Core.Logic.{⊎-elim}
-use mathlib.Core.Option.{none, some}
+use mathlib.Core.Option.{Option, none, some}
 use Prim.Native.Nat.{ℕ, _*_, _%_, _≤_, _<_}
 use native.Mathlib.Omega.{arith}
 use lib.Dec.{T, eqb, leb, ltb, eqb→eq}
@@ -14,7 +13,7 @@ use lib.Signed.{_≤ℤ_, nonNeg}
 use Rattle.algebra.proofs.Integer.Linear.{linear}
 use Rattle.algebra.proofs.Test.{left, ≡-test}
 use Rattle.meaning.specs.Word.{field, input, span, sum, relu, which, max, root, numberAt, sizeAt, kindOf, mostNumbers}
-use Rattle.meaning.specs.Line.{Line, lineOf}
+use Rattle.meaning.specs.Line.{Line}
 use Rattle.meaning.specs.Word.{Word as Meant}
 use Rattle.meaning.specs.Known.{Known}
 use Rattle.meaning.specs.Gadget.Interface.{Gadget}
@@ -34,13 +33,17 @@ use Rattle.text.specs.Word.{wordOf}
 use Rattle.text.specs.declared.Word.{Word}
 use Rattle.text.specs.declared.Word.the-variants.{Field, In, Span, Sum, Relu, Which, Max, Root}
 use Rattle.text.proofs.Word.{the-type}
-use types.Run.{OneOf}
+use Rattle.text.specs.Parsed.{LineRead}
+use Rattle.text.specs.declared.Parsed.{Parsed}
+use Rattle.text.specs.declared.Parsed.the-variants.{Line as Spelled}
+use Rattle.text.proofs.Answers.{line-most, line-counted, line-small}
+use types.Run.{OneOf, miss}
 use denote.Enum.Declared.{tagOf}
 use Rattle.rules.specs.Ready.{Small, Seen}
 use Rattle.reader.specs.State.{stateOf}
 use Rattle.rules.specs.Told.{Told, refuses, toldOf, lineWith}
 use Rattle.reader.specs.Size.{Adds}
-use Rattle.reader.specs.Step.{toldBy, lineTold, Step, stops, Grows, stepOf, stepOption, stepBytes}
+use Rattle.reader.specs.Step.{ParsedLine, toldBy, lineTold, Step, stops, Grows, stepOf, stepOption}
 use Rattle.reader.specs.declared.state.Counts.{Counts}
 use Rattle.reader.proofs.Sizes.{length-groupRows, length-signRows, two-groups, four-groups}
 
@@ -86,13 +89,7 @@ pub not-span : (v : Word) → OneOf (0 ∷ 1 ∷ 3 ∷ 4 ∷ 5 ∷ 6 ∷ 7 ∷ [
 unfolding wordOf
 not-span Field h = tt
 not-span In h = tt
-not-span Span h =
-    ⊎-elim (λ e. omega (arith, e))
-    (⊎-elim (λ e. omega (arith, e))
-    (⊎-elim (λ e. omega (arith, e))
-    (⊎-elim (λ e. omega (arith, e))
-    (⊎-elim (λ e. omega (arith, e))
-    (⊎-elim (λ e. omega (arith, e)) (λ e. omega (arith, e))))))) h
+not-span Span h = absurd (miss (0 ∷ 1 ∷ 3 ∷ 4 ∷ 5 ∷ 6 ∷ 7 ∷ []) 2 tt h)
 not-span Sum h = tt
 not-span Relu h = tt
 not-span Which h = tt
@@ -150,15 +147,20 @@ name-counted s numbers n r h told kept =
     let made : T (nonNeg z && ltb (natAbs z) m) = left (nonNeg z && ltb (natAbs z) m) true (kept .names-made) in
     ap natAbs is ∙ sym (told (rw is at (not-below z (left (nonNeg z) (ltb (natAbs z) m) made))))
 
--- ---- the bytes of a line
+-- ---- bytes that spell a line or none
 
-pub no-line-step : (s : Known) (line : List ℕ) → lineOf line ≡ none → stops 3 ≡ stepBytes s line
-unfolding stepBytes stepOption
-no-line-step s line e = rw e refl
+pub no-line-step : (n : ℕ) (s : Known) {o : Option Line} → o ≡ none → stops 3 ≡ stepOption n s o
+unfolding stepOption
+no-line-step n s e = rw e refl
 
-pub line-step : (s : Known) (line : List ℕ) {l : Line} {x : Step} → lineOf line ≡ some l → x ≡ stepOf s l → x ≡ stepBytes s line
-unfolding stepBytes stepOption
-line-step s line e h = rw e h
+pub line-step : (n : ℕ) (s : Known) {o : Option Line} {l : Line} {x : Step} → o ≡ some l → x ≡ stepOf n s l → x ≡ stepOption n s o
+unfolding stepOption
+line-step n s e h = rw e h
+
+-- the line reader's answer, as a step asks for it
+pub line-parsed : {line : List ℕ} {before after : List ℤ} {r : Parsed} {w : Word} {n next : ℕ} → LineRead line before after r → length before ≡ mostNumbers
+    → r ≡ Spelled w n next → ParsedLine w n after
+line-parsed read long q = record { numbers-long = read .left .kept ∙ long; counted = line-counted read q; most = line-most read q; small = line-small read q }
 
 -- ---- no more inputs than values, at most two rows a cell, and no value lost
 

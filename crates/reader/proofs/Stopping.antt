@@ -8,25 +8,15 @@ use Rattle.meaning.specs.Known.{Known, fresh}
 use Rattle.meaning.specs.Meaning.{after}
 use Rattle.meaning.specs.Refusal.{Reading, refused, read, onSome, onReading, isPlaced, rulesWith, rulesWithin, rules, firstBroken, plain, consLine, readLine}
 use Rattle.reader.specs.Step.{Step, stops, goes, stepOf, stepOption}
-use Rattle.reader.specs.Read.{firstOption, refusedAt, surveyOf}
-
--- the step of line n
-unfoldable pub stepAt : ℕ → Known → Option Line → Step
-stepAt n s none = stops 3
-stepAt n s (some l) = onSome (firstBroken rules n s l) stops (goes (after s l))
-
-pub step-first : (o : Option Line) → firstOption o ≡ stepAt 0 fresh o
-unfolding firstOption stepAt
-step-first none = refl
-step-first (some l) = refl
+use Rattle.reader.specs.Read.{refusedAt, surveyOf}
 
 -- the rules are the same for every line after line 0
-step-after : (m : ℕ) (s : Known) (o : Option Line) → stepOption s o ≡ stepAt (suc m) s o
-unfolding stepOption stepOf stepAt rules rulesWith rulesWithin firstBroken isPlaced
+step-after : (m : ℕ) (s : Known) (o : Option Line) → stepOption 1 s o ≡ stepOption (suc m) s o
+unfolding stepOption stepOf rules rulesWith rulesWithin firstBroken isPlaced
 step-after m s none = refl
 step-after m s (some l) = refl
 
-pub step-later : (n : ℕ) → 1 ≤ n → (s : Known) (o : Option Line) → stepOption s o ≡ stepAt n s o
+pub step-later : (n : ℕ) → 1 ≤ n → (s : Known) (o : Option Line) → stepOption 1 s o ≡ stepOption n s o
 step-later zero h s o = absurd (omega arith)
 step-later (suc m) h s o = step-after m s o
 
@@ -62,13 +52,13 @@ module _ (n : ℕ) (s : Known) (rest : Known → Reading) where
   gone-by none l a b e = (refl, ap knownIn e, survey-cons l (rest a) ∙ ap (λ (z : Known). surveyOf (rest z)) (sym (ap knownIn e)))
   gone-by (some q) l a b e = absurd (subst Goes e tt)
 
-  pub stopped-at : (o : Option Line) (r : ℕ) → stops r ≡ stepAt n s o → surveyOf (readLine plain n s o rest) ≡ refusedAt r n
-  unfolding stepAt readLine surveyOf onReading
+  pub stopped-at : (o : Option Line) (r : ℕ) → stops r ≡ stepOption n s o → surveyOf (readLine plain n s o rest) ≡ refusedAt r n
+  unfolding stepOption stepOf readLine surveyOf onReading
   stopped-at none r e = ap (λ (i : ℕ). refusedAt i n) (sym (ap numberIn e))
   stopped-at (some l) r e = stopped-by (firstBroken rules n s l) l r (after s l) e
 
-  pub gone-at : (o : Option Line) (b : Known) → goes b ≡ stepAt n s o
+  pub gone-at : (o : Option Line) (b : Known) → goes b ≡ stepOption n s o
       → (l : Line) × (firstBroken rules n s l ≡ none) × (b ≡ after s l) × (surveyOf (readLine plain n s o rest) ≡ surveyOf (rest b))
-  unfolding stepAt readLine
+  unfolding stepOption stepOf readLine
   gone-at none b e = absurd (subst Goes e tt)
   gone-at (some l) b e = let g = gone-by (firstBroken rules n s l) l (after s l) b e in (l, g .0, g .1, g .2)

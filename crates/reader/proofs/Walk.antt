@@ -27,7 +27,7 @@ use Rattle.text.proofs.Places.{lines-none}
 use Rattle.text.proofs.Ends.{in-line, lines-at}
 use Rattle.rules.specs.Ready.{greatest, endsFrom, Ready}
 use Rattle.reader.specs.State.{stateOf}
-use Rattle.reader.specs.Step.{stepBytes, stepSeen, placedAt, valuesIn, WithinLimits}
+use Rattle.reader.specs.Step.{stepOption, stepSeen, placedAt, valuesIn, WithinLimits}
 use Rattle.reader.specs.Read.{only, counted, refusedAt, surveyOf}
 use Rattle.reader.specs.declared.state.Counts.{Counts}
 use Rattle.reader.specs.declared.state.Stepped.{Stepped}
@@ -150,16 +150,16 @@ module _ {list : List ℕ} {start p : ℕ} {numbers lows highs : List ℤ} {plac
     survey-here = w .survey-left ∙ rw (lines-at list at ended h) refl
 
     pub walk-stopped : (x : Stepped) (r : ℕ) (ls hs : List ℤ) (ps : List ℕ) → x ≡ Refused r
-        → stepSeen p x ls hs ps ≡ stepBytes (stateOf p c lows highs places) line
+        → stepSeen p x ls hs ps ≡ stepOption 1 (stateOf p c lows highs places) (lineOf line)
         → refusedAt r n ≡ surveyOf (readFrom plain 1 (only p) (linesFrom list start))
-    unfolding stepSeen stepBytes
+    unfolding stepSeen
     walk-stopped x r ls hs ps is e =
-        let stopped : stepSeen p (Refused r) ls hs ps ≡ stepBytes (stateOf p c lows highs places) line = ap (λ (y : Stepped). stepSeen p y ls hs ps) (sym is) ∙ e in
+        let stopped : stepSeen p (Refused r) ls hs ps ≡ stepOption 1 (stateOf p c lows highs places) (lineOf line) = ap (λ (y : Stepped). stepSeen p y ls hs ps) (sym is) ∙ e in
         sym (survey-here ∙ stopped-at n (stateOf p c lows highs places) rest (lineOf line) r (stopped ∙ step-later n (w .later) (stateOf p c lows highs places) (lineOf line)))
 
     -- the walk goes on with the next line
     module _ (x : Stepped) (next : Counts) (numbers′ ls hs : List ℤ) (ps : List ℕ) (is : x ≡ Next next)
-        (e : stepSeen p x ls hs ps ≡ stepBytes (stateOf p c lows highs places) line) (few-in : valuesIn x ≤ valueLimit) (numbers-long : length numbers′ ≡ mostNumbers) (lows-long : length ls ≡ length lows)
+        (e : stepSeen p x ls hs ps ≡ stepOption 1 (stateOf p c lows highs places) (lineOf line)) (few-in : valuesIn x ≤ valueLimit) (numbers-long : length numbers′ ≡ mostNumbers) (lows-long : length ls ≡ length lows)
         (highs-long : length hs ≡ length highs) (places-long : length ps ≡ length places) where
       abbrev s : Known
       s = stateOf p c lows highs places
@@ -172,7 +172,7 @@ module _ {list : List ℕ} {start p : ℕ} {numbers lows highs : List ℤ} {plac
       few-values = subst (λ (y : Stepped). valuesIn y ≤ valueLimit) is few-in
 
       gone : (l : Line) × (firstBroken rules n s l ≡ none) × (t ≡ after s l) × (surveyOf (readLine plain n s (lineOf line) rest) ≡ surveyOf (rest t))
-      unfolding stepSeen stepBytes
+      unfolding stepSeen
       gone = gone-at n s rest (lineOf line) t (ap (λ (y : Stepped). stepSeen p y ls hs ps) (sym is) ∙ e ∙ step-later n (w .later) s (lineOf line))
 
       keeps : Keeps n s (gone .0)

@@ -17,10 +17,9 @@ use Rattle.meaning.proofs.Kept.{keeps-all}
 use Rattle.meaning.proofs.Lines.{sound-after, sound-fresh}
 use Rattle.text.specs.Place.{endOf, lineAt, linesFrom}
 use Rattle.text.proofs.Ends.{in-line, lines-at}
-use Rattle.reader.specs.Read.{only, firstOption, firstSeen, refusedAt, surveyOf}
-use Rattle.reader.specs.declared.reading.First.{First}
-use Rattle.reader.specs.declared.reading.First.the-variants.{Prime, NotFirst}
-use Rattle.reader.proofs.Stopping.{step-first, stopped-at, gone-at}
+use Rattle.reader.specs.Step.{stops, goes, stepOption}
+use Rattle.reader.specs.Read.{only, refusedAt, surveyOf}
+use Rattle.reader.proofs.Stopping.{stopped-at, gone-at}
 
 pub ended-some : (text : List ℕ) → isEnded text ≡ true → 0 < length text
 unfolding isEnded
@@ -51,23 +50,19 @@ module _ (text : List ℕ) where
       unfolding readingBy readFrom
       survey-here = rw (le-leb (length text) textLimit short, ended, lines-at text 0 ended (ended-some text ended)) refl
 
-      module _ (x : First) (told : firstSeen x ≡ firstOption (lineOf line)) where
-        pub first-stopped : (n : ℕ) → x ≡ NotFirst n → refusedAt n 0 ≡ surveyOf (reading text)
-        unfolding firstSeen
-        first-stopped n is =
-            sym (survey-here ∙ stopped-at 0 fresh rest (lineOf line) n (ap firstSeen (sym is) ∙ told ∙ step-first (lineOf line)))
+      pub first-stopped : (n : ℕ) → stops n ≡ stepOption 0 fresh (lineOf line) → refusedAt n 0 ≡ surveyOf (reading text)
+      first-stopped n told = sym (survey-here ∙ stopped-at 0 fresh rest (lineOf line) n told)
 
-        module _ (p : ℕ) {next : ℕ} (is : x ≡ Prime p next) where
-          gone : (l : Line) × (firstBroken rules 0 fresh l ≡ none) × (only p ≡ after fresh l) × (surveyOf (readLine plain 0 fresh (lineOf line) rest) ≡ surveyOf (rest (only p)))
-          unfolding firstSeen
-          gone = gone-at 0 fresh rest (lineOf line) (only p) (ap firstSeen (sym is) ∙ told ∙ step-first (lineOf line))
+      module _ (p : ℕ) (told : goes (only p) ≡ stepOption 0 fresh (lineOf line)) where
+        gone : (l : Line) × (firstBroken rules 0 fresh l ≡ none) × (only p ≡ after fresh l) × (surveyOf (readLine plain 0 fresh (lineOf line) rest) ≡ surveyOf (rest (only p)))
+        gone = gone-at 0 fresh rest (lineOf line) (only p) told
 
-          pub first-is-prime : OddPrime p
-          unfolding only
-          first-is-prime =
-              let l = gone .0 in
-              let sound = sound-after 0 fresh l sound-fresh (keeps-all 0 fresh l (gone .1)) in
-              subst OddPrime (sym (ap (λ (z : Known). z .p) (gone .2))) (sound .prime (omega arith))
+        pub first-is-prime : OddPrime p
+        unfolding only
+        first-is-prime =
+            let l = gone .0 in
+            let sound = sound-after 0 fresh l sound-fresh (keeps-all 0 fresh l (gone .1)) in
+            subst OddPrime (sym (ap (λ (z : Known). z .p) (gone .2))) (sound .prime (omega arith))
 
-          pub survey-after : surveyOf (readFrom plain 1 (only p) (linesFrom text (endOf text 0 + 1))) ≡ surveyOf (reading text)
-          survey-after = sym (survey-here ∙ gone .3)
+        pub survey-after : surveyOf (readFrom plain 1 (only p) (linesFrom text (endOf text 0 + 1))) ≡ surveyOf (reading text)
+        survey-after = sym (survey-here ∙ gone .3)

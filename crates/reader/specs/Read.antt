@@ -1,49 +1,35 @@
 -- Reading a whole list: line 0, what is left of a list at a place, and how the code's answers are read as the definitions'.
-use Prim.Native.Nat.{ℕ, _+_, _≤_}
+use Prim.Native.Nat.{ℕ, _≤_}
 use mathlib.Core.Path.{_≡_}
 use mathlib.Core.Logic.{_↔_}
 use mathlib.Core.List.{List, []}
-use mathlib.Core.Option.{Option, none, some}
 use lib.ListN.{length}
-use Rattle.meaning.specs.Line.{Line}
-use Rattle.meaning.specs.Known.{Known, fresh}
-use Rattle.meaning.specs.Meaning.{after}
-use Rattle.meaning.specs.Refusal.{Reading, onSome, onReading, rules, firstBroken}
+use Rattle.meaning.specs.Known.{Known}
+use Rattle.meaning.specs.Refusal.{Reading, onReading}
 use Rattle.meaning.specs.Claims.{Fits, Before}
 use Rattle.meaning.specs.Reply.{reply, counts, refusal}
 use Rattle.meaning.specs.Reply.{Answer as Meant}
 use Rattle.meaning.specs.Number.{OddPrime}
-use Rattle.text.specs.Place.{endOf}
 use Rattle.rules.specs.Ready.{greatest}
 use Rattle.reader.specs.Step.{Step, stops, goes}
-use Rattle.reader.specs.declared.reading.First.{First}
-use Rattle.reader.specs.declared.reading.First.the-variants.{Prime, NotFirst}
+use Rattle.reader.specs.declared.first.First.{First}
+use Rattle.reader.specs.declared.first.First.the-variants.{Prime, NotFirst}
 use Rattle.reader.specs.declared.reading.Surveyed.{Surveyed}
 use Rattle.reader.specs.declared.reading.Surveyed.the-variants.{Counted, NotRead}
 use Rattle.reader.specs.declared.reading.Answer.{Answer}
 use Rattle.reader.specs.declared.reading.Answer.the-variants.{Read, Refused}
-
--- line 0
-unfoldable pub firstOption : Option Line → Step
-firstOption none = stops 3
-firstOption (some l) = onSome (firstBroken rules 0 fresh l) stops (goes (after fresh l))
 
 -- over p, nothing else is known
 unfoldable pub only : ℕ → Known
 only p = record { p = p; known = []; places = []; inputs = 0; cells = 0; rows = 0 }
 
 unfoldable pub firstSeen : First → Step
-firstSeen (Prime p next) = goes (only p)
+firstSeen (Prime p) = goes (only p)
 firstSeen (NotFirst n) = stops n
 
 unfoldable pub primeIn : First → ℕ
-primeIn (Prime p next) = p
+primeIn (Prime p) = p
 primeIn (NotFirst n) = 0
-
--- the place in the answer is where line 1 starts
-unfoldable pub SecondLine : List ℕ → First → Type 0
-SecondLine list (Prime p next) = next ≡ endOf list 0 + 1
-SecondLine list (NotFirst n) = Unit {0}
 
 -- what a list has, in counts, or its refusal
 pub data Survey : Type 0 where

@@ -1,15 +1,19 @@
--- What one line after line 0 does to what is known, and how the code's answer is read as it.
+-- What one line does to what is known, and how the code's answer is read as it.
 use mathlib.Core.Path.{_≡_}
+use mathlib.Core.Bool.{true}
 use Prim.Native.Nat.{ℕ, _*_, _≤_, _<_}
 use mathlib.Core.List.{List}
 use mathlib.Core.Option.{Option, none, some}
-use lib.ListN.{length, drop, set}
+use lib.ListN.{length, take, drop, set}
 use lib.IntN.{ℤ}
-use Rattle.meaning.specs.Word.{Word, field, input, span, sum, relu, which, max, root}
-use Rattle.meaning.specs.Line.{Line, lineOf}
+use Rattle.meaning.specs.Word.{Word, field, input, span, sum, relu, which, max, root, kindOf, mostNumbers}
+use Rattle.meaning.specs.Line.{Line}
 use Rattle.meaning.specs.Known.{Known}
 use Rattle.meaning.specs.Meaning.{gadget, after}
 use Rattle.meaning.specs.Refusal.{onSome, rules, firstBroken, cellLimit, valueLimit}
+use Rattle.text.specs.Word.{wordOf}
+use Rattle.text.specs.declared.Word.{Word as WordRead}
+use Rattle.rules.specs.Ready.{Small}
 use Rattle.rules.specs.Told.{Told, toldOf, spanTold}
 use Rattle.reader.specs.State.{stateOf}
 use Rattle.reader.specs.Size.{Adds}
@@ -18,6 +22,13 @@ use Rattle.rules.specs.declared.rule.Made.the-variants.{EndsOf, Breaks}
 use Rattle.reader.specs.declared.state.Counts.{Counts}
 use Rattle.reader.specs.declared.state.Stepped.{Stepped}
 use Rattle.reader.specs.declared.state.Stepped.the-variants.{Next, Refused}
+
+-- a line as the line reader gives it: as many numbers as belong to its word, the first ones of an array with room for the most
+pub record ParsedLine (w : WordRead) (count : ℕ) (numbers : List ℤ) : Type 0 where
+  pub numbers-long : length numbers ≡ mostNumbers
+  pub counted : kindOf (wordOf w) .isCounted (take count numbers) ≡ true
+  pub most : count ≤ mostNumbers
+  pub small : Small count numbers
 
 -- the first rule that a line breaks, or the ends of the value that it makes, or narrows, for every kind
 unfoldable pub toldBy : Word → Known → Line → Told
@@ -38,16 +49,14 @@ pub data Step : Type 0 where
   stops : (number : ℕ) → Step
   goes : Known → Step
 
-unfoldable pub stepOf : Known → Line → Step
-stepOf s l = onSome (firstBroken rules 1 s l) stops (goes (after s l))
+-- line n, with what is known before it
+unfoldable pub stepOf : ℕ → Known → Line → Step
+stepOf n s l = onSome (firstBroken rules n s l) stops (goes (after s l))
 
--- the same of the bytes of a line
-unfoldable pub stepOption : Known → Option Line → Step
-stepOption s none = stops 3
-stepOption s (some l) = stepOf s l
-
-unfoldable pub stepBytes : Known → List ℕ → Step
-stepBytes s line = stepOption s (lineOf line)
+-- the same of bytes that spell a line or none
+unfoldable pub stepOption : ℕ → Known → Option Line → Step
+stepOption n s none = stops 3
+stepOption n s (some l) = stepOf n s l
 
 unfoldable pub stepSeen : ℕ → Stepped → (lows highs : List ℤ) (places : List ℕ) → Step
 stepSeen p (Next c) lows highs places = goes (stateOf p c lows highs places)

@@ -1,5 +1,6 @@
 // Reads a list: what is known, line by line, and the refusals in their order. Others read a list by `read` or by `survey`, and count a line
 // of a list that was read by `line_size`. The rest is for reading alone.
+mod first;
 mod reading;
 mod size;
 mod state;

@@ -1,32 +1,24 @@
-// Reading a list: the text as a whole, line 0, then line after line until one is refused.
+// Reading a list: the text as a whole, line 0, then line after line until one is refused. A line is parsed here, and read in `first` and `step`.
+use super::first::First;
+use super::first::first_parsed;
 use super::state::Counts;
 use super::state::Stepped;
-use super::step::step;
-use number::prime::is_odd_prime;
+use super::step::step_parsed;
 use text::Parsed;
-use text::Word;
 use text::is_ended;
 use text::line_of;
 ghost use mathlib.Core.Path.{_≡_};
-ghost use Prim.Native.Nat.{_≤_, _<_};
+ghost use Prim.Native.Nat.{_≤_};
 ghost use lib.ListN.{length};
-ghost use Rattle.meaning.specs.Line.{lineOf};
 ghost use mathlib.Core.Bool.{true};
 ghost use Rattle.meaning.specs.Text.{isEnded};
-ghost use Rattle.meaning.specs.Word.{kindOf, mostNumbers};
 ghost use Rattle.meaning.specs.Refusal.{plain, readFrom, reading};
 ghost use Rattle.meaning.specs.Number.{OddPrime};
-ghost use Rattle.text.specs.Place.{lineAt, linesFrom};
+ghost use Rattle.text.specs.Place.{linesFrom};
 ghost use Rattle.meaning.specs.Reply.{readReply};
-ghost use Rattle.text.specs.Word.{wordOf};
 ghost use Rattle.rules.specs.Ready.{greatest};
-ghost use Rattle.reader.specs.Read.{only, surveyOf, surveySeen, PrimeFound, primeIn, firstOption, firstSeen, SecondLine, answerSeen, Exact};
-
-// p of line 0 and where line 1 starts, or the number of its refusal.
-enum First {
-    Prime(u32, usize),
-    NotFirst(u32),
-}
+ghost use Rattle.reader.specs.Read.{only, surveyOf, surveySeen, PrimeFound, answerSeen, Exact};
+ghost use Rattle.meaning.specs.Word.{mostNumbers};
 
 // A read list's p and all its counts, or its refusal.
 pub enum Surveyed {
@@ -38,45 +30,6 @@ pub enum Surveyed {
 pub enum Answer {
     Read(u32, usize, usize, usize),
     Refused(u32, usize),
-}
-
-fn is_field(word: Word) -> bool
-    ensures { λ r. ⌜ r ≡ kindOf (wordOf word) .isField ⌝ }
-{
-    match word {
-        Word::Field => true,
-        Word::In => false,
-        Word::Span => false,
-        Word::Sum => false,
-        Word::Relu => false,
-        Word::Which => false,
-        Word::Max => false,
-        Word::Root => false,
-    }
-}
-
-fn first_line(list: &[u8], numbers: &mut [i64]) -> First
-    requires { ⌜ (isEnded (now list) ≡ true) × (0 < length (now list)) × (length (now numbers) ≡ mostNumbers) ⌝ }
-    ensures told { λ r. ⌜ firstSeen r ≡ firstOption (lineOf (lineAt (now (list .entry)) 0)) ⌝ }
-    ensures small { λ r. ⌜ primeIn r ≤ greatest ⌝ }
-    ensures next { λ r. ⌜ SecondLine (now (list .entry)) r ⌝ }
-    ensures long { λ r. ⌜ length (now (numbers .exit)) ≡ length (now (numbers .entry)) ⌝ }
-{
-    let Parsed::Line(word, _, next) = line_of(list, 0, numbers) else {
-        return First::NotFirst(3);
-    };
-    if !is_field(word) {
-        return First::NotFirst(4);
-    }
-    let n = numbers[0];
-    if n < 0 {
-        return First::NotFirst(5);
-    }
-    let p = n as u32;
-    if !is_odd_prime(p) {
-        return First::NotFirst(5);
-    }
-    First::Prime(p, next)
 }
 
 // The public call: for every byte string the reply of document 01, and so the first refusal that fits the text, or none.
@@ -103,10 +56,13 @@ pub fn survey(list: &[u8]) -> Surveyed
         return Surveyed::NotRead(2, 0);
     }
     let mut numbers: [i64; 33] = [0; 33];
-    let first = first_line(list, &mut numbers);
+    let Parsed::Line(word, count, next) = line_of(list, 0, &mut numbers) else {
+        return Surveyed::NotRead(3, 0);
+    };
+    let first = first_parsed(word, &numbers, count);
     match first {
-        First::NotFirst(n) => Surveyed::NotRead(n, 0),
-        First::Prime(p, next) => survey_from(list, next, p, &mut numbers),
+        First::NotFirst(number) => Surveyed::NotRead(number, 0),
+        First::Prime(p) => survey_from(list, next, p, &mut numbers),
     }
 }
 
@@ -131,7 +87,7 @@ fn survey_from(list: &[u8], start: usize, p: u32, numbers: &mut [i64]) -> Survey
         let Parsed::Line(word, count, next) = line_of(list, at, numbers) else {
             return Surveyed::NotRead(3, n);
         };
-        let stepped = step(word, numbers, count, p, counts, &mut lows, &mut highs);
+        let stepped = step_parsed(word, numbers, count, p, counts, &mut lows, &mut highs);
         match stepped {
             Stepped::Refused(number) => {
                 return Surveyed::NotRead(number, n);

@@ -40,7 +40,7 @@ pub fn grow(
     requires { ⌜ WithinLimits counts (length (now lows)) (length (now highs)) × FewCounts size × Placed made (counts .values) ⌝ }
     ensures told { λ r. ⌜ ((p : ℕ) (s : Known) (l : Line) (places : List ℕ) → length places ≡ valueLimit → s ≡ stateOf p counts (now (lows .entry)) (now (highs .entry)) places
         → (Keeps 1 s l → Grows s l size) → madeSeen made ≡ toldOf s l
-        → stepSeen p r (now (lows .exit)) (now (highs .exit)) (placedAt counts places) ≡ stepOf s l) ⌝ }
+        → stepSeen p r (now (lows .exit)) (now (highs .exit)) (placedAt counts places) ≡ stepOf 1 s l) ⌝ }
     ensures held { λ r. ⌜ (valuesIn r ≤ valueLimit)
         × (r ≡ answered made (counted (counts .values + size .values) (counts .inputs + size .inputs) (counts .cells + size .cells) (counts .rows + size .rows)))
         × (now (lows .exit) ≡ entered made (counts .values) (λ low high. low) (now (lows .entry)))
@@ -75,7 +75,7 @@ pub fn narrow(
     ensures told { λ r. ⌜ ((p : ℕ) (s : Known) (ns : List ℤ) (places : List ℕ) → s ≡ stateOf p counts (now (lows .entry)) (now (highs .entry)) places
         → (Keeps 1 s (lineWith span ns) → (sizeAt ns 0 ≡ at) × Adds s (lineWith span ns) size)
         → madeSeen made ≡ spanTold s (lineWith span ns)
-        → stepSeen p r (now (lows .exit)) (now (highs .exit)) (placedAt counts places) ≡ stepOf s (lineWith span ns)) ⌝ }
+        → stepSeen p r (now (lows .exit)) (now (highs .exit)) (placedAt counts places) ≡ stepOf 1 s (lineWith span ns)) ⌝ }
     ensures held { λ r. ⌜ (valuesIn r ≤ valueLimit)
         × (r ≡ answered made (counted (counts .values) (counts .inputs) (counts .cells + size .cells) (counts .rows + size .rows)))
         × (now (lows .exit) ≡ entered made at (λ low high. low) (now (lows .entry)))

@@ -16,17 +16,15 @@ use rules::read_sum;
 use rules::read_which;
 use text::Word;
 ghost use mathlib.Core.Path.{_≡_};
-ghost use mathlib.Core.Bool.{true};
 ghost use Prim.Native.Nat.{ℕ, _≤_};
 ghost use mathlib.Core.List.{List};
 ghost use lib.ListN.{length, take};
-ghost use Rattle.meaning.specs.Word.{kindOf, mostNumbers};
 ghost use Rattle.meaning.specs.Known.{Known};
 ghost use Rattle.text.specs.Word.{wordOf};
-ghost use Rattle.rules.specs.Ready.{Small, Ready, Seen};
+ghost use Rattle.rules.specs.Ready.{Ready, Seen};
 ghost use Rattle.reader.specs.State.{stateOf};
 ghost use Rattle.rules.specs.Told.{madeSeen, lineWith};
-ghost use Rattle.reader.specs.Step.{lineTold, WithinLimits, Left, placedAt, valuesIn, stepSeen, stepOf};
+ghost use Rattle.reader.specs.Step.{ParsedLine, lineTold, WithinLimits, Left, placedAt, valuesIn, stepSeen, stepOf};
 ghost use Rattle.meaning.specs.Refusal.{valueLimit};
 
 // The ends of the value that a line makes, or narrows, or the number of the first rule that it breaks.
@@ -40,8 +38,7 @@ fn read_ends(
     lows: &[i64],
     highs: &[i64],
 ) -> Made
-    requires { ⌜ Ready p values cells (now lows) (now highs) × (length (now numbers) ≡ mostNumbers) × (kindOf (wordOf word) .isCounted (take count (now numbers)) ≡ true) × (count ≤ mostNumbers)
-        × Small count (now numbers) ⌝ }
+    requires { ⌜ Ready p values cells (now lows) (now highs) × ParsedLine word count (now numbers) ⌝ }
     ensures { λ r. ⌜ ((s : Known) → Seen s p values cells (now (lows .entry)) (now (highs .entry))
         → madeSeen r ≡ lineTold s (lineWith (wordOf word) (take count (now (numbers .entry))))) ⌝ }
 {
@@ -57,8 +54,9 @@ fn read_ends(
     }
 }
 
-// What a line with this word and these numbers does to what is known.
-pub fn step(
+// What a line with this word and the first `count` of these numbers does to what is known. Where the line comes from, text or not, is for the
+// caller.
+pub fn step_parsed(
     word: Word,
     numbers: &[i64],
     count: usize,
@@ -68,9 +66,9 @@ pub fn step(
     highs: &mut [i64],
 ) -> Stepped
     requires { ⌜ Ready p (counts .values) (counts .cells) (now lows) (now highs) × WithinLimits counts (length (now lows)) (length (now highs))
-        × (length (now numbers) ≡ mostNumbers) × (kindOf (wordOf word) .isCounted (take count (now numbers)) ≡ true) × (count ≤ mostNumbers) × Small count (now numbers) ⌝ }
+        × ParsedLine word count (now numbers) ⌝ }
     ensures told { λ r. ⌜ ((s : Known) (places : List ℕ) → length places ≡ valueLimit → s ≡ stateOf p counts (now (lows .entry)) (now (highs .entry)) places
-        → stepSeen p r (now (lows .exit)) (now (highs .exit)) (placedAt counts places) ≡ stepOf s (lineWith (wordOf word) (take count (now (numbers .entry))))) ⌝ }
+        → stepSeen p r (now (lows .exit)) (now (highs .exit)) (placedAt counts places) ≡ stepOf 1 s (lineWith (wordOf word) (take count (now (numbers .entry))))) ⌝ }
     ensures held { λ r. ⌜ (valuesIn r ≤ valueLimit) × Left r (now (lows .entry)) (now (lows .exit)) × Left r (now (highs .entry)) (now (highs .exit)) ⌝ }
 {
     let made = read_ends(

@@ -20,7 +20,7 @@ use Rattle.rules.specs.Rule.{earlyBroken, begunUnless}
 use Rattle.rules.specs.declared.rule.Begun.the-variants.{Stops}
 
 over-prime : (w : Word) (ns : List ℤ) → kindOf w .isField ≡ false → isOverPrime w ns ≡ true
-unfolding isOverPrime
+unfolding isOverPrime kindOf
 over-prime w ns e = rw e refl
 
 -- the first broken rule, or these ends

@@ -8,13 +8,13 @@ use lib.ListN.{length, replicate}
 use denote.Ref.{now}
 use borrow.Author.Needs.{needs}
 use Rattle.meaning.specs.Refusal.{valueLimit}
-use Rattle.text.specs.Place.{endOf, lineAt}
-use Rattle.text.proofs.Answers.{no-line-seen, line-seen, line-most, line-counted, line-small, line-next}
+use Rattle.text.specs.Place.{endOf}
+use Rattle.text.proofs.Answers.{no-line-seen, line-seen, line-next}
 use Rattle.reader.specs.Read.{surveySeen, PrimeFound}
 use Rattle.reader.specs.Step.{stepSeen, placedAt}
 use Rattle.reader.specs.State.{stateOf}
 use Rattle.reader.specs.declared.state.Stepped.the-variants.{Refused}
-use Rattle.reader.proofs.Steps.{no-line-step, line-step}
+use Rattle.reader.proofs.Steps.{no-line-step, line-step, line-parsed}
 use Rattle.reader.proofs.Walk.{Walked, placed-long, walk-ready, walk-start, walk-end, walk-stopped, walk-next}
 use Rattle.reader.proofs.reading.survey_from.Statement.{statement}
 use Rattle.reader.proofs.reading.survey_from.Tie as tie
@@ -50,12 +50,12 @@ returns c =
     let S = at-test .before .before .before in
     let s = stateOf (S .args .p) (now-at .counts) (now-at .lows) (now-at .highs) places in (
       walk-stopped (now-at .inv .1) (S .pre .0) (at-test .loop-test .taken) (Refused 3) 3 (now-at .lows) (now-at .highs) places refl
-          (no-line-step s (lineAt (now (S .args .list)) (now-at .at)) (no-line-seen (at-line .line-of .ensures .0) (c .enum-told .given .1))),
+          (no-line-step 1 s (no-line-seen (at-line .line-of .ensures .0) (c .enum-told .given .1))),
       tt,
     )
 
-step-requires : tie.Need-step-requires Inv-loop μ-loop
-step-requires c κs =
+step-parsed-requires : tie.Need-step-parsed-requires Inv-loop μ-loop
+step-parsed-requires c κs =
     let at-word = c .before .before .before .before in
     let at-line = at-word .before .before .before in
     let at-loop = at-line .before .before .before in
@@ -65,10 +65,7 @@ step-requires c κs =
     let q = at-word .word .given .1 in (
       walk-ready (S .args .p) _ _ _ _ (w .sized) _ (w .later) (S .pre .4) (w .sound) (w .ordered),
       w .sized,
-      read .left .kept ∙ w .numbers-long,
-      line-counted read q,
-      line-most read q,
-      line-small read q,
+      line-parsed read (w .numbers-long) q,
     )
 
 same-length-2 : tie.Need-same-length-2 Inv-loop μ-loop
@@ -86,7 +83,7 @@ returns-2 c =
     let S = at-test .before .before .before in
     let line = line-seen (at-line .line-of .ensures .0) (at-word .word .given .1) in (
       walk-stopped (now-at .inv .1) (S .pre .0) (at-test .loop-test .taken) _ (c .before .stepped .given .0 .0) _ _ (placedAt (now-at .counts) places) (c .before .stepped .given .1)
-          (line-step _ (lineAt (now (S .args .list)) (now-at .at)) line (at-step .step .ensures .0 _ places (now-at .inv .1 .places-long) refl)),
+          (line-step 1 _ line (at-step .step-parsed .ensures .0 _ places (now-at .inv .1 .places-long) refl)),
       tt,
     )
 
@@ -113,11 +110,11 @@ loop-again c =
     let S = at-test .before .before .before in
     let read = at-line .line-of .ensures .0 in
     let line = line-seen read (at-word .word .given .1) in
-    let stepped = at-step .step .ensures in
+    let stepped = at-step .step-parsed .ensures in
     rw (next-at c) (
       placedAt (now-at .counts) places,
       walk-next (now-at .inv .1) (S .pre .0) (at-test .loop-test .taken) _ (c .before .stepped2 .given .0 .0) _ _ _ (placedAt (now-at .counts) places) (c .before .stepped2 .given .1)
-          (line-step _ (lineAt (now (S .args .list)) (now-at .at)) line (stepped .0 _ places (now-at .inv .1 .places-long) refl)) (stepped .1 .0) (read .left .kept ∙ now-at .inv .1 .numbers-long) (stepped .1 .1 .long)
+          (line-step 1 _ line (stepped .0 _ places (now-at .inv .1 .places-long) refl)) (stepped .1 .0) (read .left .kept ∙ now-at .inv .1 .numbers-long) (stepped .1 .1 .long)
           (stepped .1 .2 .long) (placed-long (now-at .counts) places),
     )
 
@@ -142,7 +139,7 @@ survey-from-spec =
     returns
     (λ c. search needs)
     (λ c. search needs)
-    step-requires
+    step-parsed-requires
     (λ c. search needs)
     same-length-2
     returns-2

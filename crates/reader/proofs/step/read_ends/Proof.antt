@@ -16,41 +16,41 @@ read-span-requires : tie.Need-read-span-requires
 unfolding kindOf wordOf
 read-span-requires c κs =
     let S = c .before .before in
-    let counted = count-is (now (S .args .numbers)) 4 (S .args .count) (c .enum-told3 .given .1) (λ ns. refl) (S .pre .2) (omega (arith, S .pre .1, S .pre .3)) in
-    (S .pre .0, omega (arith, S .pre .1), fewer (now (S .args .numbers)) counted (S .pre .4))
+    let counted = count-is (now (S .args .numbers)) 4 (S .args .count) (c .enum-told3 .given .1) (λ ns. refl) (S .pre .1 .counted) (omega (arith, S .pre .1 .numbers-long, S .pre .1 .most)) in
+    (S .pre .0, omega (arith, S .pre .1 .numbers-long), fewer (now (S .args .numbers)) counted (S .pre .1 .small))
 
 read-sum-requires : tie.Need-read-sum-requires
 read-sum-requires c κs =
     let S = c .before .before in
-    (S .pre .0, omega (arith, S .pre .1, S .pre .3), S .pre .3, sum-count (c .enum-told4 .given .1) (now (S .args .numbers)) (S .args .count) (omega (arith, S .pre .1, S .pre .3)) (S .pre .2), S .pre .4)
+    (S .pre .0, omega (arith, S .pre .1 .numbers-long, S .pre .1 .most), S .pre .1 .most, sum-count (c .enum-told4 .given .1) (now (S .args .numbers)) (S .args .count) (omega (arith, S .pre .1 .numbers-long, S .pre .1 .most)) (S .pre .1 .counted), S .pre .1 .small)
 
 read-relu-requires : tie.Need-read-relu-requires
 unfolding kindOf wordOf
 read-relu-requires c κs =
     let S = c .before .before in
-    let counted = count-is (now (S .args .numbers)) 3 (S .args .count) (c .enum-told5 .given .1) (λ ns. refl) (S .pre .2) (omega (arith, S .pre .1, S .pre .3)) in
-    (S .pre .0, omega (arith, S .pre .1), fewer (now (S .args .numbers)) counted (S .pre .4))
+    let counted = count-is (now (S .args .numbers)) 3 (S .args .count) (c .enum-told5 .given .1) (λ ns. refl) (S .pre .1 .counted) (omega (arith, S .pre .1 .numbers-long, S .pre .1 .most)) in
+    (S .pre .0, omega (arith, S .pre .1 .numbers-long), fewer (now (S .args .numbers)) counted (S .pre .1 .small))
 
 read-which-requires : tie.Need-read-which-requires
 unfolding kindOf wordOf
 read-which-requires c κs =
     let S = c .before .before in
-    let counted = count-is (now (S .args .numbers)) 4 (S .args .count) (c .enum-told6 .given .1) (λ ns. refl) (S .pre .2) (omega (arith, S .pre .1, S .pre .3)) in
-    (S .pre .0, omega (arith, S .pre .1), fewer (now (S .args .numbers)) counted (S .pre .4))
+    let counted = count-is (now (S .args .numbers)) 4 (S .args .count) (c .enum-told6 .given .1) (λ ns. refl) (S .pre .1 .counted) (omega (arith, S .pre .1 .numbers-long, S .pre .1 .most)) in
+    (S .pre .0, omega (arith, S .pre .1 .numbers-long), fewer (now (S .args .numbers)) counted (S .pre .1 .small))
 
 read-max-requires : tie.Need-read-max-requires
 unfolding kindOf wordOf
 read-max-requires c κs =
     let S = c .before .before in
-    let counted = count-is (now (S .args .numbers)) 4 (S .args .count) (c .enum-told7 .given .1) (λ ns. refl) (S .pre .2) (omega (arith, S .pre .1, S .pre .3)) in
-    (S .pre .0, omega (arith, S .pre .1), fewer (now (S .args .numbers)) counted (S .pre .4))
+    let counted = count-is (now (S .args .numbers)) 4 (S .args .count) (c .enum-told7 .given .1) (λ ns. refl) (S .pre .1 .counted) (omega (arith, S .pre .1 .numbers-long, S .pre .1 .most)) in
+    (S .pre .0, omega (arith, S .pre .1 .numbers-long), fewer (now (S .args .numbers)) counted (S .pre .1 .small))
 
 read-root-requires : tie.Need-read-root-requires
 unfolding kindOf wordOf
 read-root-requires c κs =
     let S = c .before .before in
-    let counted = count-is (now (S .args .numbers)) 3 (S .args .count) (c .enum-told8 .given .1) (λ ns. refl) (S .pre .2) (omega (arith, S .pre .1, S .pre .3)) in
-    (S .pre .0, omega (arith, S .pre .1), fewer (now (S .args .numbers)) counted (S .pre .4))
+    let counted = count-is (now (S .args .numbers)) 3 (S .args .count) (c .enum-told8 .given .1) (λ ns. refl) (S .pre .1 .counted) (omega (arith, S .pre .1 .numbers-long, S .pre .1 .most)) in
+    (S .pre .0, omega (arith, S .pre .1 .numbers-long), fewer (now (S .args .numbers)) counted (S .pre .1 .small))
 
 returns : tie.Need-returns
 unfolding madeSeen
@@ -60,13 +60,13 @@ returns-2 : tie.Need-returns-2
 unfolding kindOf wordOf lineTold toldBy
 returns-2 c =
     let S = c .before .before .before in
-    λ s seen. at-word s (now (S .args .numbers)) _ (c .before .enum-told2 .given .1) (count-is (now (S .args .numbers)) 0 (S .args .count) (c .before .enum-told2 .given .1) (λ ns. refl) (S .pre .2) (omega (arith, S .pre .1, S .pre .3))) (c .read-input .ensures s seen)
+    λ s seen. at-word s (now (S .args .numbers)) _ (c .before .enum-told2 .given .1) (count-is (now (S .args .numbers)) 0 (S .args .count) (c .before .enum-told2 .given .1) (λ ns. refl) (S .pre .1 .counted) (omega (arith, S .pre .1 .numbers-long, S .pre .1 .most))) (c .read-input .ensures s seen)
 
 returns-3 : tie.Need-returns-3
 unfolding kindOf wordOf lineTold toldBy
 returns-3 c =
     let S = c .before .before .before in
-    λ s seen. at-word s (now (S .args .numbers)) _ (c .before .enum-told3 .given .1) (count-is (now (S .args .numbers)) 4 (S .args .count) (c .before .enum-told3 .given .1) (λ ns. refl) (S .pre .2) (omega (arith, S .pre .1, S .pre .3))) (c .read-span .ensures s seen)
+    λ s seen. at-word s (now (S .args .numbers)) _ (c .before .enum-told3 .given .1) (count-is (now (S .args .numbers)) 4 (S .args .count) (c .before .enum-told3 .given .1) (λ ns. refl) (S .pre .1 .counted) (omega (arith, S .pre .1 .numbers-long, S .pre .1 .most))) (c .read-span .ensures s seen)
 
 returns-4 : tie.Need-returns-4
 unfolding wordOf lineTold toldBy
@@ -78,25 +78,25 @@ returns-5 : tie.Need-returns-5
 unfolding kindOf wordOf lineTold toldBy
 returns-5 c =
     let S = c .before .before .before in
-    λ s seen. at-word s (now (S .args .numbers)) _ (c .before .enum-told5 .given .1) (count-is (now (S .args .numbers)) 3 (S .args .count) (c .before .enum-told5 .given .1) (λ ns. refl) (S .pre .2) (omega (arith, S .pre .1, S .pre .3))) (c .read-relu .ensures s seen)
+    λ s seen. at-word s (now (S .args .numbers)) _ (c .before .enum-told5 .given .1) (count-is (now (S .args .numbers)) 3 (S .args .count) (c .before .enum-told5 .given .1) (λ ns. refl) (S .pre .1 .counted) (omega (arith, S .pre .1 .numbers-long, S .pre .1 .most))) (c .read-relu .ensures s seen)
 
 returns-6 : tie.Need-returns-6
 unfolding kindOf wordOf lineTold toldBy
 returns-6 c =
     let S = c .before .before .before in
-    λ s seen. at-word s (now (S .args .numbers)) _ (c .before .enum-told6 .given .1) (count-is (now (S .args .numbers)) 4 (S .args .count) (c .before .enum-told6 .given .1) (λ ns. refl) (S .pre .2) (omega (arith, S .pre .1, S .pre .3))) (c .read-which .ensures s seen)
+    λ s seen. at-word s (now (S .args .numbers)) _ (c .before .enum-told6 .given .1) (count-is (now (S .args .numbers)) 4 (S .args .count) (c .before .enum-told6 .given .1) (λ ns. refl) (S .pre .1 .counted) (omega (arith, S .pre .1 .numbers-long, S .pre .1 .most))) (c .read-which .ensures s seen)
 
 returns-7 : tie.Need-returns-7
 unfolding kindOf wordOf lineTold toldBy
 returns-7 c =
     let S = c .before .before .before in
-    λ s seen. at-word s (now (S .args .numbers)) _ (c .before .enum-told7 .given .1) (count-is (now (S .args .numbers)) 4 (S .args .count) (c .before .enum-told7 .given .1) (λ ns. refl) (S .pre .2) (omega (arith, S .pre .1, S .pre .3))) (c .read-max .ensures s seen)
+    λ s seen. at-word s (now (S .args .numbers)) _ (c .before .enum-told7 .given .1) (count-is (now (S .args .numbers)) 4 (S .args .count) (c .before .enum-told7 .given .1) (λ ns. refl) (S .pre .1 .counted) (omega (arith, S .pre .1 .numbers-long, S .pre .1 .most))) (c .read-max .ensures s seen)
 
 returns-8 : tie.Need-returns-8
 unfolding kindOf wordOf lineTold toldBy
 returns-8 c =
     let S = c .before .before .before in
-    λ s seen. at-word s (now (S .args .numbers)) _ (c .before .enum-told8 .given .1) (count-is (now (S .args .numbers)) 3 (S .args .count) (c .before .enum-told8 .given .1) (λ ns. refl) (S .pre .2) (omega (arith, S .pre .1, S .pre .3))) (c .read-root .ensures s seen)
+    λ s seen. at-word s (now (S .args .numbers)) _ (c .before .enum-told8 .given .1) (count-is (now (S .args .numbers)) 3 (S .args .count) (c .before .enum-told8 .given .1) (λ ns. refl) (S .pre .1 .counted) (omega (arith, S .pre .1 .numbers-long, S .pre .1 .most))) (c .read-root .ensures s seen)
 
 pub read-ends-spec : {M : Type 1} → statement M
 read-ends-spec =

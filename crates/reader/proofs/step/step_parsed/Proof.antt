@@ -1,4 +1,4 @@
--- `reader::step::step`: what reading tells of the line, taken in by `grow`, or by `narrow` where it is a span line.
+-- `reader::step::step_parsed`: what reading tells of the line, taken in by `grow`, or by `narrow` where it is a span line.
 use mathlib.Core.Path.{_≡_, refl, _∙_}
 use mathlib.Core.List.{List, []}
 use Prim.Native.Nat.{ℕ, _+_, _<_}
@@ -23,8 +23,8 @@ use Rattle.reader.proofs.Narrowing.{named, named-within}
 use Rattle.reader.proofs.Sizes.{count-is}
 use Rattle.reader.proofs.Steps.{seen-state, not-span, told-by-word, grows-by-word, span-word, name-counted}
 use borrow.Author.Needs.{needs}
-use Rattle.reader.proofs.step.step.Statement.{statement}
-use Rattle.reader.proofs.step.step.Tie as tie
+use Rattle.reader.proofs.step.step_parsed.Statement.{statement}
+use Rattle.reader.proofs.step.step_parsed.Tie as tie
 
 grow-requires : tie.Need-grow-requires
 grow-requires c κs =
@@ -47,7 +47,7 @@ returns c =
     let made = c .before .before .before .before .before .before .before .read-ends .result in
     let size = c .before .before .before .before .before .before .line-size .result in
     let grows : (s : Known) → Keeps 1 s (lineWith w ns) → Grows s (lineWith w ns) size =
-    λ s kept. grows-by-word s size w ns other kept (c .before .before .before .before .before .before .line-size .ensures .0 1 (a .count) s (S .pre .3) kept) in
+    λ s kept. grows-by-word s size w ns other kept (c .before .before .before .before .before .before .line-size .ensures .0 1 (a .count) s (S .pre .2 .counted) kept) in
     let told : (s : Known) (places : List ℕ) → s ≡ stateOf (a .p) (a .counts) (now (a .lows)) (now (a .highs)) places → madeSeen made ≡ toldOf s (lineWith w ns) =
     λ s places is. c .before .before .before .before .before .before .before .read-ends .ensures s (seen-state (a .p) (a .counts) (now (a .lows)) (now (a .highs)) places is) ∙ told-by-word s w ns other in
     let s = stateOf (a .p) (a .counts) (now (a .lows)) (now (a .highs)) [] in
@@ -70,7 +70,7 @@ narrow-requires c κs =
     let s = stateOf (a .p) (a .counts) (now (a .lows)) (now (a .highs)) [] in
     let ns = take (a .count) (now (a .numbers)) in
     let word-is = c .before .before .before .before .enum-told .given .1 in
-    let four = count-is (now (a .numbers)) 4 (a .count) word-is (λ ns. refl) (S .pre .3) (omega (arith, S .pre .2, S .pre .4)) in
+    let four = count-is (now (a .numbers)) 4 (a .count) word-is (λ ns. refl) (S .pre .2 .counted) (omega (arith, S .pre .2 .numbers-long, S .pre .2 .most)) in
     let at-fits : SFits w64 (getD (now (a .numbers)) 0 (pos 0)) = search needs in
     let told = rw (span-word word-is) at (c .before .before .before .before .before .before .before .read-ends .ensures s (seen-state (a .p) (a .counts) (now (a .lows)) (now (a .highs)) [] refl)) in (
       S .pre .1,
@@ -86,7 +86,7 @@ returns-2 c =
     let a = S .args in
     let ns = take (a .count) (now (a .numbers)) in
     let word-is = c .before .before .before .before .before .before .before .enum-told .given .1 in
-    let four = count-is (now (a .numbers)) 4 (a .count) word-is (λ ns. refl) (S .pre .3) (omega (arith, S .pre .2, S .pre .4)) in
+    let four = count-is (now (a .numbers)) 4 (a .count) word-is (λ ns. refl) (S .pre .2 .counted) (omega (arith, S .pre .2 .numbers-long, S .pre .2 .most)) in
     let at-fits : SFits w64 (getD (now (a .numbers)) 0 (pos 0)) = search needs in
     let made = c .before .before .before .before .before .before .before .before .before .before .read-ends .result in
     let at = c .before .before .before .before .before .natural .result in
@@ -99,7 +99,7 @@ returns-2 c =
     λ low high q. named (a .p) s ns (a .counts) (now (a .lows)) (now (a .highs)) [] refl (S .pre .1) made (told s [] refl) low high q at (at-is s) in
     let narrowed = c .before .before .narrow .ensures in (
       λ s places long is. rw (span-word word-is) (narrowed .0 (a .p) s ns places is
-          (λ kept. (at-is s kept, (rw (span-word word-is) at (c .before .before .before .before .before .before .before .before .before .line-size .ensures .0 1 (a .count) s (S .pre .3))) kept))
+          (λ kept. (at-is s kept, (rw (span-word word-is) at (c .before .before .before .before .before .before .before .before .before .line-size .ensures .0 1 (a .count) s (S .pre .2 .counted))) kept))
           (told s places is)),
       (
         narrowed .1 .0,
@@ -108,8 +108,8 @@ returns-2 c =
       ),
     )
 
-pub step-spec : {M : Type 1} → statement M
-step-spec =
+pub step-parsed-spec : {M : Type 1} → statement M
+step-parsed-spec =
     tie.close
     (tie.spec
     (λ c κs. search needs)

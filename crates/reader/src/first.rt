@@ -1,0 +1,38 @@
+// Line 0 in reading: a field line over an odd prime, or its refusal.
+use number::prime::is_odd_prime;
+use text::Word;
+ghost use mathlib.Core.Path.{_≡_};
+ghost use Prim.Native.Nat.{_≤_};
+ghost use lib.ListN.{take};
+ghost use Rattle.meaning.specs.Known.{fresh};
+ghost use Rattle.text.specs.Word.{wordOf};
+ghost use Rattle.rules.specs.Ready.{greatest};
+ghost use Rattle.rules.specs.Told.{lineWith};
+ghost use Rattle.reader.specs.Step.{ParsedLine, stepOf};
+ghost use Rattle.reader.specs.Read.{primeIn, firstSeen};
+
+// p, or the number of the refusal.
+pub enum First {
+    Prime(u32),
+    NotFirst(u32),
+}
+
+// Line 0 with this word and the first `count` of these numbers. Where the line comes from, text or not, is for the caller.
+pub fn first_parsed(word: Word, numbers: &[i64], count: usize) -> First
+    requires { ⌜ ParsedLine word count (now numbers) ⌝ }
+    ensures told { λ r. ⌜ firstSeen r ≡ stepOf 0 fresh (lineWith (wordOf word) (take count (now (numbers .entry)))) ⌝ }
+    ensures small { λ r. ⌜ primeIn r ≤ greatest ⌝ }
+{
+    let Word::Field = word else {
+        return First::NotFirst(4);
+    };
+    let n = numbers[0];
+    if n < 0 {
+        return First::NotFirst(5);
+    }
+    let p = n as u32;
+    if !is_odd_prime(p) {
+        return First::NotFirst(5);
+    }
+    First::Prime(p)
+}
