@@ -4,10 +4,10 @@
 // answering, which return a count.
 use desk::Desk;
 use program::respond;
-use reader::Answer;
-use reader::read;
+use service::Answer;
 use service::check;
 use service::make;
+use service::read;
 use service::show;
 ghost use mathlib.Core.Path.{_≡_};
 ghost use Prim.Native.Nat.{_+_, _≤_};
