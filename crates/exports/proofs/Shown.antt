@@ -16,7 +16,7 @@ use Rattle.meaning.specs.Word.{Word, field, input, span, sum, relu, which, max,
 use Rattle.meaning.specs.Line.{Line}
 use Rattle.meaning.specs.Known.{Known, fresh}
 use Rattle.meaning.specs.Meaning.{gadget, after}
-use Rattle.meaning.specs.Refusal.{isPlaced, isRanged, rules, firstBroken, Reading, refused, read, onReading, reading}
+use Rattle.meaning.specs.Refusal.{isPlaced, isRanged, rules, firstBroken, Reading, refused, read, onReading, reading, cellLimit}
 use Rattle.meaning.specs.Gadget.Input.{inputLine}
 use Rattle.meaning.specs.Gadget.Span.{spanLine}
 use Rattle.meaning.specs.Gadget.Sum.{sumLine}
@@ -108,13 +108,13 @@ shown-at list t line = by (reading list) refl
 
 -- ---- no list has more cells than 4,096
 
-cells-within : (ls : List Line) (n : ℕ) (s last : Known) → Kept n s ls last → s .cells ≤ 4096 → last .cells ≤ 4096
+cells-within : (ls : List Line) (n : ℕ) (s last : Known) → Kept n s ls last → s .cells ≤ cellLimit → last .cells ≤ cellLimit
 unfolding after
 cells-within [] n s last k h = omega (arith, ap (λ (q : Known). q .cells) k)
 cells-within (l ∷ ls) n s last k h =
-    cells-within ls (suc n) (after s l) last (k .1) (leb→le (s .cells + gadget s l .width) 4096 (keeps-all n s l (k .0) .cells-fit))
+    cells-within ls (suc n) (after s l) last (k .1) (leb→le (s .cells + gadget s l .width) cellLimit (keeps-all n s l (k .0) .cells-fit))
 
-shown-too-long : (list t : List ℕ) (line : ℕ) → 4096 < length t → shown list t line ≡ []
+shown-too-long : (list t : List ℕ) (line : ℕ) → cellLimit < length t → shown list t line ≡ []
 unfolding shown onReading fresh
 shown-too-long list t line long = by (reading list) refl
   where
@@ -145,7 +145,7 @@ module _ (list t : List ℕ) (line : ℕ) where
   so-many-shown : length (shown list t line) ≡ w .count
   so-many-shown = ap (λ (r : List ℕ). length r) (w .is t refl) ∙ length-stretch (w .first) (w .count) t (w .inside)
 
-  pub too-long-told : 4096 < length t → Told list t line 0 0
+  pub too-long-told : cellLimit < length t → Told list t line 0 0
   too-long-told long = record {
     part = sym (shown-too-long list t line long);
     counted = sym (ap (λ (r : List ℕ). length r) (shown-too-long list t line long));

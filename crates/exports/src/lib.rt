@@ -4,14 +4,15 @@
 // answering, which return a count.
 use desk::Desk;
 use program::respond;
-use reader::Answer;
-use reader::read;
+use service::Answer;
 use service::check;
 use service::make;
+use service::read;
 use service::show;
 ghost use mathlib.Core.Path.{_≡_};
 ghost use Prim.Native.Nat.{_+_, _≤_};
 ghost use lib.ListN.{length, getD, take, drop};
+ghost use Rattle.meaning.specs.Refusal.{cellLimit};
 ghost use Rattle.meaning.specs.Reply.{reply, making, readReply, checkReply, makeReply, shown, shownFrom};
 ghost use Rattle.meaning.specs.Program.{respond as responseTo};
 ghost use Rattle.meaning.specs.Desk.{counted, called, deskCall};
@@ -159,7 +160,7 @@ fn wide(cell: u32) -> usize
 
 // Each cell holds its own number.
 fn number_cells(cells: &mut [u32])
-    requires { ⌜ length (now cells) ≤ 4096 ⌝ }
+    requires { ⌜ length (now cells) ≤ cellLimit ⌝ }
     ensures { λ _. ⌜ now (cells .exit) ≡ upFrom 0 (length (now (cells .entry))) ⌝ }
 {
     let mut i: usize = 0;

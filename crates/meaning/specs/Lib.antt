@@ -1,3 +1,4 @@
+pub mod Machine
 pub mod Number
 pub mod Text
 pub mod Known

@@ -2,7 +2,7 @@
 -- `search (needs, sum-fits)` shows what `whole_sum` asks of two bounded numbers, and so for the other operations.
 use mathlib.Core.Path.{_≡_, refl}
 use mathlib.Core.Logic.{_⊎_, inl, inr, ⊎-elim}
-use Prim.Native.Nat.{ℕ, zero, _+_, _*_, _^_, _≤_, _<_}
+use Prim.Native.Nat.{ℕ, zero, _+_, _*_, _≤_, _<_}
 use native.Mathlib.Omega.{arith}
 use native.Mathlib.Nat.{mul-le-mul}
 use lib.Dec.{T, ltb, ltb→lt}
@@ -10,6 +10,7 @@ use lib.IntN.{ℤ, pos, negsuc, negℤ, _+ℤ_, _-ℤ_, _*ℤ_}
 use lib.Signed.{_≤ℤ_, leZ}
 use mir.Syntax.{w64}
 use mir.Val.{SFits}
+use Rattle.meaning.specs.Machine.{pastI32, pastU32, pastI64}
 use Rattle.meaning.specs.Known.{larger, smaller}
 use Rattle.meaning.specs.Number.{half, highest, signed}
 use Rattle.algebra.proofs.Test.{cond-cases, leZ-iff, leZ-false}
@@ -69,26 +70,26 @@ module _ {bound : ℕ} {a b : ℤ} where
 
 -- ---- what fits
 
-pub bounded-fits : (bound : ℕ) {z : ℤ} → Bounded bound z → T (ltb bound (2 ^ 63)) → SFits w64 z
+pub bounded-fits : (bound : ℕ) {z : ℤ} → Bounded bound z → T (ltb bound pastI64) → SFits w64 z
 bounded-fits bound {z} s t =
-    let l : bound < 2 ^ 63 = ltb→lt bound (2 ^ 63) t in
+    let l : bound < pastI64 = ltb→lt bound pastI64 t in
     parts-fit z (omega (arith, s .size, natAbs-parts z)) (omega (arith, s .size, natAbs-parts z))
 
 module _ {A B : ℕ} (a b : ℤ) where
-  pub sum-fits : Bounded A a → Bounded B b → T (ltb (A + B) (2 ^ 63)) → SFits w64 (a +ℤ b)
+  pub sum-fits : Bounded A a → Bounded B b → T (ltb (A + B) pastI64) → SFits w64 (a +ℤ b)
   sum-fits s t l = bounded-fits (A + B) (bounded-sum s t) l
 
-  pub difference-fits : Bounded A a → Bounded B b → T (ltb (A + B) (2 ^ 63)) → SFits w64 (a -ℤ b)
+  pub difference-fits : Bounded A a → Bounded B b → T (ltb (A + B) pastI64) → SFits w64 (a -ℤ b)
   difference-fits s t l = bounded-fits (A + B) (bounded-difference s t) l
 
-  pub product-fits : Bounded A a → Bounded B b → T (ltb (A * B) (2 ^ 63)) → SFits w64 (a *ℤ b)
+  pub product-fits : Bounded A a → Bounded B b → T (ltb (A * B) pastI64) → SFits w64 (a *ℤ b)
   product-fits s t l = bounded-fits (A * B) (bounded-product s t) l
 
 -- ---- the signed reading of a remainder, for every p that a u32 holds
 
-pub signed-bounded : (p cell : ℕ) → cell < p → p < 2 ^ 32 → Bounded (2 ^ 31) (signed p cell)
+pub signed-bounded : (p cell : ℕ) → cell < p → p < pastU32 → Bounded pastI32 (signed p cell)
 unfolding signed highest half
-signed-bounded p cell h l = cond-cases (Bounded (2 ^ 31)) (leZ (pos cell) (highest p)) (pos cell) (pos cell -ℤ pos p)
+signed-bounded p cell h l = cond-cases (Bounded pastI32) (leZ (pos cell) (highest p)) (pos cell) (pos cell -ℤ pos p)
     (λ t. let k = leZ-iff (pos cell) (highest p) .0 t in by-parts (pos cell) (omega linear) (omega linear))
     (λ f. let k = leZ-false (pos cell) (highest p) f in
     by-parts (pos cell -ℤ pos p) (omega (linear, minus (pos cell) (pos p))) (omega (linear, minus (pos cell) (pos p))))

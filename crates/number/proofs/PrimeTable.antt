@@ -15,7 +15,7 @@ use Rattle.meaning.proofs.Number.{odd-prime}
 use Rattle.algebra.specs.Prime.{Prime}
 use Rattle.algebra.proofs.Test.{left, right, not-false, either, every, every-at, everyBelow, everyBelow-at}
 use Rattle.algebra.proofs.Prime.{prime-by-trial, prime-no-remainder}
-use Rattle.number.specs.Table.{primes, wheel, Listed, FirstDivisor}
+use Rattle.number.specs.Table.{primes, wheel, Listed, FirstDivisor, tableEnd, tableLength}
 use Rattle.algebra.proofs.PrimeDivisor.{prime-by-prime-roots}
 use Rattle.number.proofs.OddPrime.{odd-prime-passes}
 
@@ -38,7 +38,7 @@ isPrime : ℕ → Bool
 isPrime n = eqb n 2 || oddPrime n
 
 entry-test : ℕ → Bool
-entry-test q = isPrime q && ltb q 256
+entry-test q = isPrime q && ltb q tableEnd
 
 listed-test : ℕ → Bool
 listed-test q = not (isPrime q) || listed q primes
@@ -47,7 +47,7 @@ entries-right : T (every entry-test primes)
 unfolding entry-test isPrime oddPrime noDivisor
 entries-right = tt
 
-primes-listed : T (everyBelow listed-test 256)
+primes-listed : T (everyBelow listed-test tableEnd)
 unfolding listed-test isPrime oddPrime noDivisor
 primes-listed = tt
 
@@ -69,24 +69,24 @@ prime-test n P = elim (ℕ-discrete n 2) [
     or-true true = refl
     or-true false = refl
 
-pub entry-prime : (i : ℕ) → i < 54 → Prime (getD primes i 0)
+pub entry-prime : (i : ℕ) → i < tableLength → Prime (getD primes i 0)
 unfolding entry-test
-entry-prime i h = let q = getD primes i 0 in test-prime q (left (isPrime q) (ltb q 256) (every-at entry-test primes entries-right i h))
+entry-prime i h = let q = getD primes i 0 in test-prime q (left (isPrime q) (ltb q tableEnd) (every-at entry-test primes entries-right i h))
 
-pub entry-below : (i : ℕ) → i < 54 → getD primes i 0 < 256
+pub entry-below : (i : ℕ) → i < tableLength → getD primes i 0 < tableEnd
 unfolding entry-test
 entry-below i h =
     let q = getD primes i 0 in
-    ltb→lt q 256 (right (isPrime q) (ltb q 256) (every-at entry-test primes entries-right i h))
+    ltb→lt q tableEnd (right (isPrime q) (ltb q tableEnd) (every-at entry-test primes entries-right i h))
 
-pub prime-listed : (q : ℕ) → Prime q → q < 256 → (i : ℕ) × (i < 54) × (getD primes i 0 ≡ q)
+pub prime-listed : (q : ℕ) → Prime q → q < tableEnd → (i : ℕ) × (i < tableLength) × (getD primes i 0 ≡ q)
 unfolding listed-test
 prime-listed q P h =
-    let t : T (listed-test q) = everyBelow-at listed-test 256 primes-listed q h in
+    let t : T (listed-test q) = everyBelow-at listed-test tableEnd primes-listed q h in
     listed-place q primes (rw (prime-test q P) at t)
 
 -- a number from 3 on and below 256 is an odd prime exactly where the table has it
-pub listed-decides : (n : ℕ) (r : Bool) → 3 ≤ n → n < 256 → Listed n primes r → r ≡ oddPrime n
+pub listed-decides : (n : ℕ) (r : Bool) → 3 ≤ n → n < tableEnd → Listed n primes r → r ≡ oddPrime n
 listed-decides n true h l w = let p = w .found refl in odd-prime-passes n h (rw (p .2) at (entry-prime (p .0) (p .1)))
 listed-decides n false h l w = sym (not-false (oddPrime n) (λ t.
     let p = prime-listed n (odd-prime n t .prime) l in
@@ -98,14 +98,14 @@ listed-decides n false h l w = sym (not-false (oddPrime n) (λ t.
 abbrev pub Tried : ℕ → Type 0
 Tried d = (d % 2 ≢ 0) × (d % 3 ≢ 0) × (d % 5 ≢ 0)
 
-pub prime-by-table : (n : ℕ) → 3 ≤ n → FirstDivisor n 0 primes 54 → ((d : ℕ) → 256 ≤ d → Tried d → d * d ≤ n → n % d ≢ 0) → Prime n
+pub prime-by-table : (n : ℕ) → 3 ≤ n → FirstDivisor n 0 primes tableLength → ((d : ℕ) → tableEnd ≤ d → Tried d → d * d ≤ n → n % d ≢ 0) → Prime n
 prime-by-table n l f t = prime-by-prime-roots n (omega arith) try
   where
     try : (q : ℕ) → Prime q → q * q ≤ n → n % q ≢ 0
-    try q P s e = elim (decLt q 256) [
+    try q P s e = elim (decLt q tableEnd) [
       | yes h ↦ let w = prime-listed q P h in f .earlier (w .0) (w .1) (rw (zero-add, w .2) e)
       | no h ↦
-          let free : (d : ℕ) → 1 < d → d < 256 → q % d ≢ 0 = λ d l k. prime-no-remainder q P d l (omega arith) in
+          let free : (d : ℕ) → 1 < d → d < tableEnd → q % d ≢ 0 = λ d l k. prime-no-remainder q P d l (omega arith) in
           t q (omega arith) (free 2 (omega arith) (omega arith), free 3 (omega arith) (omega arith), free 5 (omega arith) (omega arith)) s e
     ]
 

@@ -2,7 +2,7 @@
 -- where x fits. What fits is said by the two parts of an integer, as algebra has them, so that `omega` decides it.
 use mathlib.Core.Path.{_≡_, refl}
 use mathlib.Core.Bool.{Bool, true, false}
-use Prim.Native.Nat.{ℕ, suc, _+_, _*_, _%_, _^_, _≤_, _<_}
+use Prim.Native.Nat.{ℕ, suc, _+_, _-_, _*_, _%_, _≤_, _<_}
 use native.Mathlib.Omega.{arith}
 use native.Mathlib.Nat.{mul-le-mul, mod-lt}
 use lib.Dec.{T, ltb, ltb→lt}
@@ -11,6 +11,7 @@ use lib.Signed.{mag, ltZ, leZ, _≤ℤ_, _<ℤ_, ltZ-no}
 use mir.Syntax.{w32, w64}
 use mir.Val.{Fits, SFits, toZ, ofZ}
 use mir.ValLaws.{toZ-ofZ, toZ-pos}
+use Rattle.meaning.specs.Machine.{pastU32, pastI64}
 use Rattle.algebra.proofs.Test.{≡-test, false-test}
 use Rattle.algebra.proofs.Integer.Order.{positivePart, negativePart, integer}
 
@@ -20,22 +21,22 @@ pub back : {z : ℤ} → SFits w64 z → toZ w64 (ofZ w64 z) ≡ z
 back {z} f = toZ-ofZ w64 z f
 
 -- bits below 2 ^ 63 are that number
-pub small : (n : ℕ) → n < 2 ^ 63 → toZ w64 n ≡ pos n
+pub small : (n : ℕ) → n < pastI64 → toZ w64 n ≡ pos n
 small n h = toZ-pos w64 n h
 
 -- ---- what fits, by the two parts
 
-pub fits-parts : (z : ℤ) → SFits w64 z → (positivePart z < 2 ^ 63) × (negativePart z ≤ 2 ^ 63)
+pub fits-parts : (z : ℤ) → SFits w64 z → (positivePart z < pastI64) × (negativePart z ≤ pastI64)
 fits-parts (pos n) h = (h .sfits, omega arith)
 fits-parts (negsuc n) h = (omega arith, omega (arith, h .sfits))
 
-pub parts-fit : (z : ℤ) → positivePart z < negativePart z + 2 ^ 63 → negativePart z ≤ positivePart z + 2 ^ 63 → SFits w64 z
+pub parts-fit : (z : ℤ) → positivePart z < negativePart z + pastI64 → negativePart z ≤ positivePart z + pastI64 → SFits w64 z
 parts-fit (pos n) h k = record { sfits = omega arith }
 parts-fit (negsuc n) h k = record { sfits = omega arith }
 
 -- a number written out: `literal (pos 0) tt`
-pub literal : (z : ℤ) → T (ltb (mag z) (2 ^ 63)) → SFits w64 z
-literal z t = record { sfits = ltb→lt (mag z) (2 ^ 63) t }
+pub literal : (z : ℤ) → T (ltb (mag z) pastI64) → SFits w64 z
+literal z t = record { sfits = ltb→lt (mag z) pastI64 t }
 
 -- ---- the test `z < 0` of an i64, and the cast to a u64
 
@@ -60,12 +61,12 @@ test-≤ fa fb t e = rw (back fa, back fb) at e
 -- ---- unsigned words
 
 -- the product of two u32 in a u64
-pub wide-product : {a b : ℕ} → a < 2 ^ 32 → b < 2 ^ 32 → Fits w64 (a * b)
+pub wide-product : {a b : ℕ} → a < pastU32 → b < pastU32 → Fits w64 (a * b)
 wide-product {a} {b} h k =
-    let l : a ≤ 4294967295 = omega arith in
-    let m : b ≤ 4294967295 = omega arith in
+    let l : a ≤ pastU32 - 1 = omega arith in
+    let m : b ≤ pastU32 - 1 = omega arith in
     record { fits = omega (arith, mul-le-mul l m) }
 
 -- a remainder by a u32
-pub remainder-fits : (n : ℕ) {p : ℕ} → 0 < p → p < 2 ^ 32 → Fits w32 (n % p)
+pub remainder-fits : (n : ℕ) {p : ℕ} → 0 < p → p < pastU32 → Fits w32 (n % p)
 remainder-fits n {p} h k = record { fits = omega (arith, mod-lt n h) }

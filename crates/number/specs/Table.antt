@@ -7,6 +7,14 @@ use mathlib.Core.Logic.{_≢_}
 use Prim.Native.Nat.{ℕ, _+_, _%_, _≤_, _<_}
 use lib.ListN.{length, getD}
 
+-- the table has each prime below this
+abbrev pub tableEnd : ℕ
+tableEnd = 256
+
+-- and has so many
+abbrev pub tableLength : ℕ
+tableLength = 54
+
 abbrev pub primes : List ℕ
 primes =
     2 ∷ 3 ∷ 5 ∷ 7 ∷ 11 ∷ 13 ∷ 17 ∷ 19 ∷ 23 ∷ 29 ∷ 31 ∷ 37 ∷ 41 ∷ 43 ∷ 47 ∷ 53 ∷ 59 ∷ 61 ∷

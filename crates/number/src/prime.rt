@@ -3,10 +3,11 @@
 // first, then the odd numbers from 241 on up to the square root, but for multiples of 3 and 5: each test is one division of 32-bit numbers.
 use super::root::square_root;
 ghost use mathlib.Core.Path.{_≡_};
-ghost use Prim.Native.Nat.{ℕ, _+_, _^_, _≤_, _<_};
+ghost use Prim.Native.Nat.{ℕ, _+_, _≤_, _<_};
 ghost use lib.ListN.{length, getD};
+ghost use Rattle.meaning.specs.Machine.{pastU32};
 ghost use Rattle.meaning.specs.Number.{oddPrime};
-ghost use Rattle.number.specs.Table.{primes, Listed, FirstDivisor};
+ghost use Rattle.number.specs.Table.{primes, Listed, FirstDivisor, tableLength};
 
 // The primes below 256.
 const PRIMES: [u32; 54] = [
@@ -110,7 +111,7 @@ fn is_listed(n: u32, table: &[u32]) -> bool
 
 // The place of the first number of the table that with d added divides n, or its length where none does.
 fn first_divisor(n: u32, d: u32, table: &[u32]) -> usize
-    requires { ⌜ ((k : ℕ) → k < length (now table) → (0 < getD (now table) k 0) × (d + getD (now table) k 0 < 2 ^ 32)) ⌝ }
+    requires { ⌜ ((k : ℕ) → k < length (now table) → (0 < getD (now table) k 0) × (d + getD (now table) k 0 < pastU32)) ⌝ }
     ensures { λ r. ⌜ FirstDivisor n d (now (table .entry)) r ⌝ }
 {
     let mut i: usize = 0;
@@ -126,7 +127,7 @@ fn first_divisor(n: u32, d: u32, table: &[u32]) -> usize
 // Whether n is prime, where no prime of the table divides it: the odd numbers above are left to try, up to the square root, which is
 // taken once. 3 and 5 were tried, so their multiples need not be: of 30 numbers a turn tries eight.
 fn passes_odd_trial(n: u32) -> bool
-    requires { ⌜ (3 ≤ n) × FirstDivisor n 0 primes 54 ⌝ }
+    requires { ⌜ (3 ≤ n) × FirstDivisor n 0 primes tableLength ⌝ }
     ensures { λ r. ⌜ r ≡ oddPrime n ⌝ }
 {
     let root = square_root(n as u64) as u32;

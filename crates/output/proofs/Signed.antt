@@ -2,12 +2,13 @@
 use mathlib.Core.Path.{_≡_, _∙_, ap}
 use mathlib.Core.Bool.{true, false}
 use mathlib.Core.List.{_∷_}
-use Prim.Native.Nat.{ℕ, _+_, _^_, _<_}
+use Prim.Native.Nat.{ℕ, _+_, _<_}
 use native.Mathlib.Omega.{arith}
 use lib.IntN.{ℤ, pos}
 use lib.Signed.{mag, ltZ}
 use mir.Syntax.{w64}
 use mir.Val.{SFits, toZ, ofZ}
+use Rattle.meaning.specs.Machine.{pastI64}
 use Rattle.meaning.specs.Text.{decimalOf, numberText}
 use Rattle.meaning.proofs.Decimal.{number-plain, number-signed}
 use Rattle.number.proofs.Word.{back, negative, not-negative}
@@ -22,5 +23,5 @@ module _ {z : ℤ} (fits : SFits w64 z) {size : ℕ} (is : size ≡ mag (toZ w64
   pub plain-text : ltZ (toZ w64 (ofZ w64 z)) (pos 0) ≡ false → numberText z ≡ decimalOf size
   plain-text not-below = rw sized (number-plain z (not-negative fits not-below))
 
-  pub size-most : size < 2 ^ 63
+  pub size-most : size < pastI64
   size-most = omega (arith, sized, fits .sfits)

@@ -16,9 +16,9 @@ use Rattle.meaning.specs.Program.{refusalText, tableText, makingText}
 use Rattle.service.specs.Reply.{replySeen, Makes}
 use Rattle.service.specs.declared.reply.Reply.{Reply as Replied}
 use Rattle.output.specs.Written.{Written}
-use Rattle.program.specs.Answered.{Answered, longest}
+use Rattle.program.specs.Answered.{Answered, longestAnswer}
 
-module _ {answer before : List ℕ} (short : length answer ≤ longest) where
+module _ {answer before : List ℕ} (short : length answer ≤ longestAnswer) where
   pub answered-room : {after : List ℕ} {r : ℕ} → Written answer before after r → length answer ≤ length before → Answered answer before after r
   answered-room w h =
       let room = le-leb (length answer) (length before) h in

@@ -10,6 +10,7 @@ use native.Mathlib.Numerals.{add-one}
 use lib.IntN.{ℤ}
 use lib.ListN.{length, take, set, length-append, length-set}
 use lib.Seq.{take-all, take-append-le, take-suc-set, set-out}
+use Rattle.meaning.specs.Refusal.{valueLimit}
 use Rattle.meaning.specs.Text.{isEnded, number}
 use Rattle.meaning.specs.Line.{numbersOf}
 use Rattle.meaning.specs.Reply.{reply, firstFail, refusalAt}
@@ -30,12 +31,12 @@ pub record Reading (input : List ℕ) (start : ℕ) (stored : List ℤ) (at coun
   pub inside : at ≤ length input
   pub few : count ≤ at
   pub counted : count ≡ length numbers
-  pub room : length stored ≡ 256
-  pub stands : take 256 numbers ≡ take count stored
+  pub room : length stored ≡ valueLimit
+  pub stands : take valueLimit numbers ≡ take count stored
   pub fails-left : firstFail (λ l. isSome (number l)) 0 (linesFrom input start) ≡ firstFail (λ l. isSome (number l)) count (linesFrom input at)
   pub numbers-left : numbersOf (linesFrom input start) ≡ afterNumbers numbers (numbersOf (linesFrom input at))
 
-pub reading-start : (input : List ℕ) (start : ℕ) (stored : List ℤ) → start ≤ length input → length stored ≡ 256 → Reading input start stored start 0
+pub reading-start : (input : List ℕ) (start : ℕ) (stored : List ℤ) → start ≤ length input → length stored ≡ valueLimit → Reading input start stored start 0
 reading-start input start stored h room = record {
   numbers = [];
   inside = h;
@@ -48,23 +49,23 @@ reading-start input start stored h room = record {
 }
 
 -- one number more is stored where it has room
-stored-more : (numbers stored : List ℤ) (n : ℤ) (count : ℕ) → count ≡ length numbers → length stored ≡ 256 → take 256 numbers ≡ take count stored
-    → take 256 (numbers ++ n ∷ []) ≡ take (count + 1) (set stored count n)
-stored-more numbers stored n count e room stands = elim (decLt count 256)
+stored-more : (numbers stored : List ℤ) (n : ℤ) (count : ℕ) → count ≡ length numbers → length stored ≡ valueLimit → take valueLimit numbers ≡ take count stored
+    → take valueLimit (numbers ++ n ∷ []) ≡ take (count + 1) (set stored count n)
+stored-more numbers stored n count e room stands = elim (decLt count valueLimit)
     [ yes h ↦ fits h | no h ↦ full (omega arith) ]
   where
     all : length (numbers ++ n ∷ []) ≡ count + 1
     all = omega (arith, length-append numbers (n ∷ []))
 
-    fits : count < 256 → take 256 (numbers ++ n ∷ []) ≡ take (count + 1) (set stored count n)
+    fits : count < valueLimit → take valueLimit (numbers ++ n ∷ []) ≡ take (count + 1) (set stored count n)
     fits h =
-        take-all 256 (numbers ++ n ∷ []) (omega (arith, all))
-        ∙ ap (λ (ns : List ℤ). ns ++ n ∷ []) (sym (take-all 256 numbers (omega arith)) ∙ stands)
+        take-all valueLimit (numbers ++ n ∷ []) (omega (arith, all))
+        ∙ ap (λ (ns : List ℤ). ns ++ n ∷ []) (sym (take-all valueLimit numbers (omega arith)) ∙ stands)
         ∙ sym (rw (add-one count) (take-suc-set stored count n (omega arith)))
 
-    full : 256 ≤ count → take 256 (numbers ++ n ∷ []) ≡ take (count + 1) (set stored count n)
+    full : valueLimit ≤ count → take valueLimit (numbers ++ n ∷ []) ≡ take (count + 1) (set stored count n)
     full h =
-        take-append-le 256 numbers (n ∷ []) (omega arith) ∙ stands ∙ take-all count stored (omega arith)
+        take-append-le valueLimit numbers (n ∷ []) (omega arith) ∙ stands ∙ take-all count stored (omega arith)
         ∙ sym (ap (take (count + 1)) (set-out stored count n (omega arith)) ∙ take-all (count + 1) stored (omega arith))
 
 module _ {input : List ℕ} {start : ℕ} {stored : List ℤ} {at count : ℕ} (r : Reading input start stored at count) where
@@ -74,7 +75,7 @@ module _ {input : List ℕ} {start : ℕ} {stored : List ℤ} {at count : ℕ} (
     all = r .fails-left ∙ ap (firstFail (λ l. isSome (number l)) count) (lines-none input at h);
     counted = r .counted ∙ sym (ap length all);
     room = r .room;
-    stands = ap (take 256) all ∙ r .stands;
+    stands = ap (take valueLimit) all ∙ r .stands;
   }
     where
       all : orNone (numbersOf (linesFrom input start)) ≡ r .numbers

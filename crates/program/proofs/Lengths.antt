@@ -6,12 +6,14 @@ use native.Mathlib.Omega.{arith}
 use native.Mathlib.Numerals.{add-one}
 use lib.ListN.{length, getD, drop, length-append, drop-of-length-le}
 use lib.Seq.{drop-cons}
+use Rattle.meaning.specs.Refusal.{cellLimit}
+use Rattle.meaning.specs.Machine.{pastU32, pastU64}
 use Rattle.meaning.specs.Text.{bytes, decimalOf}
 use Rattle.meaning.specs.Reply.{reply}
 use Rattle.meaning.specs.Program.{tabbed, refusalText, cellsText, tableText}
 use Rattle.meaning.proofs.Decimal.{decimal-most, decimal-of-32, decimal-of-64}
-use Rattle.program.specs.Texts.{pairText, headingText}
-use Rattle.program.specs.Answered.{longest}
+use Rattle.program.specs.Texts.{pairText, headingText, longestPair}
+use Rattle.program.specs.Answered.{longestAnswer}
 use Rattle.program.proofs.Texts.{table-parts, cell-parts}
 
 pub pair-length : (first second : ℕ) → length (pairText first second) ≡ length (decimalOf first) + length (decimalOf second) + 2
@@ -20,7 +22,7 @@ pair-length first second =
     omega (arith, length-append (tabbed (decimalOf first) (decimalOf second)) (10 ∷ []), length-append (decimalOf first) (9 ∷ decimalOf second))
 
 -- of two numbers of 64 bits
-pub pair-most : (first second : ℕ) → first < 18446744073709551616 → second < 18446744073709551616 → length (pairText first second) ≤ 42
+pub pair-most : (first second : ℕ) → first < pastU64 → second < pastU64 → length (pairText first second) ≤ longestPair
 pair-most first second h k = omega (arith, pair-length first second, decimal-of-64 first h, decimal-of-64 second k)
 
 pub refusal-length : (number place : ℕ) → length (refusalText (reply number place)) ≡ 8 + length (pairText number place)
@@ -42,14 +44,14 @@ cell-length i c cs = ap length (cell-parts i c cs) ∙ length-append (pairText i
 -- so many bytes stand before the line of cell i
 pub record Summing (table : List ℕ) (total i : ℕ) : Type 0 where
   pub within : i ≤ length table
-  pub few : total ≤ 27 + 42 * i
+  pub few : total ≤ 27 + longestPair * i
   pub sum : total + length (cellsText i (drop i table)) ≡ length (tableText table)
 
-pub summing-start : (table : List ℕ) (count : ℕ) → length table < 18446744073709551616 → count ≡ length (decimalOf (length table)) → Summing table (7 + count) 0
+pub summing-start : (table : List ℕ) (count : ℕ) → length table < pastU64 → count ≡ length (decimalOf (length table)) → Summing table (7 + count) 0
 summing-start table count h e = record { within = omega arith; few = omega (arith, decimal-of-64 (length table) h); sum = omega (arith, table-length table) }
 
 module _ {table : List ℕ} {total i : ℕ} (s : Summing table total i) where
-  pub summing-turn : i < length table → (n : ℕ) → n ≡ length (pairText i (getD table i 0)) → n ≤ 42 → Summing table (total + n) (i + 1)
+  pub summing-turn : i < length table → (n : ℕ) → n ≡ length (pairText i (getD table i 0)) → n ≤ longestPair → Summing table (total + n) (i + 1)
   summing-turn h n e short = record {
     within = omega arith;
     few = omega (arith, s .few);
@@ -68,17 +70,15 @@ module _ {table : List ℕ} {total i : ℕ} (s : Summing table total i) where
 
 -- ---- the longest
 
-cells-most : (i : ℕ) (t : List ℕ) → i + length t ≤ 4096 → ((j : ℕ) → getD t j 0 < 4294967296) → length (cellsText i t) ≤ 16 * length t
+cells-most : (i : ℕ) (t : List ℕ) → i + length t ≤ cellLimit → ((j : ℕ) → getD t j 0 < pastU32) → length (cellsText i t) ≤ 16 * length t
 unfolding cellsText
 cells-most i [] h small = omega arith
 cells-most i (c ∷ cs) h small =
     omega (arith, cell-length i c cs, pair-length i c, decimal-most 3 i (omega arith), decimal-of-32 c (small 0), cells-most (suc i) cs (omega arith) (λ j. small (suc j)))
 
 -- 4,096 lines of at most 16 bytes, after a first line of 11
-pub table-most : (t : List ℕ) → length t ≤ 4096 → ((j : ℕ) → getD t j 0 < 4294967296) → length (tableText t) ≤ longest
-unfolding longest
+pub table-most : (t : List ℕ) → length t ≤ cellLimit → ((j : ℕ) → getD t j 0 < pastU32) → length (tableText t) ≤ longestAnswer
 table-most t h small = omega (arith, table-length t, decimal-most 3 (length t) (omega arith), cells-most 0 t (omega arith) small)
 
-pub refusal-most : (number place : ℕ) → number < 4294967296 → place < 18446744073709551616 → length (refusalText (reply number place)) ≤ longest
-unfolding longest
+pub refusal-most : (number place : ℕ) → number < pastU32 → place < pastU64 → length (refusalText (reply number place)) ≤ longestAnswer
 refusal-most number place h k = omega (arith, refusal-length number place, pair-length number place, decimal-of-32 number h, decimal-of-64 place k)

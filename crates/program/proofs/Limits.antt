@@ -5,6 +5,7 @@ use Prim.Native.Nat.{ℕ, suc, _+_, _-_, _≤_}
 use native.Mathlib.Omega.{arith}
 use lib.Dec.{leb→le}
 use lib.ListN.{length, length-append}
+use Rattle.meaning.specs.Refusal.{valueLimit, cellLimit}
 use Rattle.meaning.specs.Line.{Line}
 use Rattle.meaning.specs.Known.{Known, fresh}
 use Rattle.meaning.specs.Meaning.{gadget, after}
@@ -19,9 +20,9 @@ use Rattle.service.specs.Walk.{ListRead}
 -- ---- the most that a list which is read has
 
 pub record Most (s : Known) : Type 0 where
-  pub values-most : length (s .known) ≤ 256
+  pub values-most : length (s .known) ≤ valueLimit
   pub inputs-most : s .inputs ≤ length (s .known)
-  pub cells-most : s .cells ≤ 4096
+  pub cells-most : s .cells ≤ cellLimit
 
 most-after : (n : ℕ) (s : Known) (l : Line) → Keeps n s l → Most s → Most (after s l)
 unfolding after
@@ -30,9 +31,9 @@ most-after n s l keeps m =
     let f = few n s l keeps in
     let all = length-append (g .narrowed) (g .made) in
     record {
-      values-most = omega (arith, all, f .2, leb→le (length (s .known) + length (g .made)) 256 (keeps .values-fit));
+      values-most = omega (arith, all, f .2, leb→le (length (s .known) + length (g .made)) valueLimit (keeps .values-fit));
       inputs-most = omega (arith, all, f .0, f .2, m .inputs-most);
-      cells-most = omega (arith, leb→le (s .cells + g .width) 4096 (keeps .cells-fit));
+      cells-most = omega (arith, leb→le (s .cells + g .width) cellLimit (keeps .cells-fit));
     }
 
 most-kept : (ls : List Line) (n : ℕ) (s last : Known) → Kept n s ls last → Most s → Most last

@@ -3,7 +3,7 @@ use mathlib.Core.Path.{_≡_, sym, ap, subst, _∙_}
 use mathlib.Core.Bool.{Bool, true, false}
 use mathlib.Core.List.{List, []}
 use mathlib.Core.Option.{none, some}
-use Prim.Native.Nat.{ℕ, suc, _+_, _-_, _≤_, _<_}
+use Prim.Native.Nat.{ℕ, suc, _+_, _-_, _*_, _≤_, _<_}
 use native.Mathlib.Omega.{arith}
 use borrow.Author.Tests.{le-leb, lt-leb}
 use lib.IntN.{ℤ}
@@ -11,7 +11,7 @@ use lib.ListN.{length, take, drop, replicate, length-drop, length-replicate}
 use lib.Seq.{take-all, length-take-le}
 use Rattle.meaning.specs.Text.{linesOf, isEnded, number}
 use Rattle.meaning.specs.Line.{numbersOf}
-use Rattle.meaning.specs.Refusal.{onSome, refused, read, onReading, reading}
+use Rattle.meaning.specs.Refusal.{onSome, refused, read, onReading, reading, textLimit, valueLimit}
 use Rattle.meaning.specs.Reply.{reply, firstFail, made, makeReply}
 use Rattle.meaning.specs.Program.{refusalText, makingText, Parts, partsOf, joined, isSome, orNone, answerParts, onParts, respond}
 use Rattle.meaning.proofs.Results.{refused-none, refusal-place}
@@ -64,7 +64,7 @@ module _ {input : List ℕ} {end lines : ℕ} (asked : ListAsked input end lines
     here : reading (joined (parts .list)) ≡ read (l .lines) (l .last)
     here = ap reading (sym (asked .ends .listed)) ∙ l .is-read
 
-    pub place-fits : (i : ℕ) → firstFail isNumber 0 (linesFrom input (end + 4)) ≡ some i → lines + 1 + i ≤ 131073
+    pub place-fits : (i : ℕ) → firstFail isNumber 0 (linesFrom input (end + 4)) ≡ some i → lines + 1 + i ≤ 2 * textLimit + 1
     place-fits i e =
         omega (
           arith,
@@ -104,19 +104,19 @@ module _ {input : List ℕ} {end lines : ℕ} (asked : ListAsked input end lines
           rw (here, passed, asked .ends .left) in
           answer ∙ whole
 
-      pub too-many : 256 < count → refusalText (reply 16 0) ≡ onParts (partsOf (linesOf input))
+      pub too-many : valueLimit < count → refusalText (reply 16 0) ≡ onParts (partsOf (linesOf input))
       unfolding makingText
       too-many h =
           ap makingText (made-wrong-count (l .last) (l .lines) column zeros (length-replicate (l .last .cells) 0)
           (λ e. omega (arith, n .counted, list-most l .inputs-most, list-most l .values-most)))
           ∙ made-whole
 
-      pub made-answer : (cells : ℕ) → count ≤ 256 → l .last .cells ≡ cells
+      pub made-answer : (cells : ℕ) → count ≤ valueLimit → l .last .cells ≡ cells
           → makingText (makeReply (take (end - 0) input) (take (count - 0) stored) (replicate cells 0)) ≡ onParts (partsOf (linesOf input))
       made-answer cells h e =
           let same : count - 0 ≡ count = omega arith in
           let all : take count stored ≡ column =
-          sym (n .stands) ∙ take-all 256 column (omega (arith, n .counted)) in
+          sym (n .stands) ∙ take-all valueLimit column (omega (arith, n .counted)) in
           rw (← e, upto, same, all) (ap makingText (sym (make-read (take end input) column zeros l)) ∙ made-whole)
 
 -- ---- what was read of the inputs
@@ -133,19 +133,19 @@ module _ (ls : List (List ℕ)) (stored : List ℤ) {x : Inputs} (told : InputsR
 -- ---- the whole input
 
 module _ (input : List ℕ) where
-  pub respond-long : 65536 < length input → refusalText (reply 1 0) ≡ respond input
+  pub respond-long : textLimit < length input → refusalText (reply 1 0) ≡ respond input
   unfolding respond
-  respond-long h = rw (lt-leb (length input) 65536 h)
+  respond-long h = rw (lt-leb (length input) textLimit h)
 
-  module _ (short : length input ≤ 65536) where
+  module _ (short : length input ≤ textLimit) where
     pub respond-unended : isEnded input ≡ false → refusalText (reply 2 0) ≡ respond input
     unfolding respond
-    respond-unended e = rw (le-leb (length input) 65536 short, e)
+    respond-unended e = rw (le-leb (length input) textLimit short, e)
 
     module _ (ended : isEnded input ≡ true) where
       pub respond-parts : onParts (partsOf (linesOf input)) ≡ respond input
       unfolding respond
-      respond-parts = rw (le-leb (length input) 65536 short, ended)
+      respond-parts = rw (le-leb (length input) textLimit short, ended)
 
       module _ {x : Ending} (found : EndFound input x) where
         pub respond-missing : x ≡ Missing → refusalText (reply 2 0) ≡ respond input

@@ -8,7 +8,7 @@ use lib.IntN.{ℤ}
 use lib.ListN.{length, take}
 use Rattle.meaning.specs.Text.{linesOf, number}
 use Rattle.meaning.specs.Line.{numbersOf}
-use Rattle.meaning.specs.Refusal.{refusedBy, orRefused}
+use Rattle.meaning.specs.Refusal.{refusedBy, orRefused, valueLimit}
 use Rattle.meaning.specs.Reply.{reply, firstFail, refusalAt}
 use Rattle.meaning.specs.Program.{Parts, partsOf, joined, isSome, orNone}
 use Rattle.text.specs.Place.{linesFrom}
@@ -34,8 +34,8 @@ EndFound input Missing = orRefused 2 (partsOf (linesOf input)) ≡ refusedBy 2
 pub record NumbersRead (lines : List (List ℕ)) (stored : List ℤ) (count : ℕ) : Type 0 where
   pub all : firstFail (λ l. isSome (number l)) 0 lines ≡ none
   pub counted : count ≡ length (orNone (numbersOf lines))
-  pub room : length stored ≡ 256
-  pub stands : take 256 (orNone (numbersOf lines)) ≡ take count stored
+  pub room : length stored ≡ valueLimit
+  pub stands : take valueLimit (orNone (numbersOf lines)) ≡ take count stored
 
 unfoldable pub InputsRead : List (List ℕ) → List ℤ → Inputs → Type 0
 InputsRead lines stored (Numbers count) = NumbersRead lines stored count

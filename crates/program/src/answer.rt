@@ -12,6 +12,7 @@ use service::make;
 ghost use mathlib.Core.Path.{_≡_};
 ghost use Prim.Native.Nat.{_≤_};
 ghost use lib.ListN.{length, take, replicate};
+ghost use Rattle.meaning.specs.Refusal.{cellLimit};
 ghost use Rattle.meaning.specs.Text.{linesOf};
 ghost use Rattle.meaning.specs.Reply.{reply, making, makeReply};
 ghost use Rattle.meaning.specs.Program.{refusalText, tableText, makingText, partsOf, onParts};
@@ -28,7 +29,7 @@ pub fn answer_refusal(output: &mut [u8], number: u32, place: usize) -> usize
 }
 
 fn answer_table(output: &mut [u8], table: &[u32]) -> usize
-    requires { ⌜ length (now table) ≤ 4096 ⌝ }
+    requires { ⌜ length (now table) ≤ cellLimit ⌝ }
     ensures { λ r. ⌜ Answered (tableText (now (table .entry))) (now (output .entry)) (now (output .exit)) r ⌝ }
 {
     if output.len() < table_length(table) {
@@ -39,7 +40,7 @@ fn answer_table(output: &mut [u8], table: &[u32]) -> usize
 
 // What making answers: the table, or the refusal that it replies.
 fn answer_making(output: &mut [u8], reply: Reply, table: &[u32]) -> usize
-    requires { ⌜ length (now table) ≤ 4096 ⌝ }
+    requires { ⌜ length (now table) ≤ cellLimit ⌝ }
     ensures { λ r. ⌜ Answered (makingText (making (replySeen reply) (now (table .entry)))) (now (output .entry)) (now (output .exit)) r ⌝ }
 {
     if reply.number == 0 {
@@ -50,7 +51,7 @@ fn answer_making(output: &mut [u8], reply: Reply, table: &[u32]) -> usize
 
 // The list is made into a table of so many cells, all 0 before.
 fn answer_made(output: &mut [u8], list: &[u8], inputs: &[i64], cells: usize) -> usize
-    requires { ⌜ cells ≤ 4096 ⌝ }
+    requires { ⌜ cells ≤ cellLimit ⌝ }
     ensures { λ r. ⌜ Answered (makingText (makeReply (now (list .entry)) (now (inputs .entry)) (replicate cells 0)))
         (now (output .entry)) (now (output .exit)) r ⌝ }
 {
@@ -66,7 +67,7 @@ fn answer_within(
     table: &mut [u32],
     cells: usize,
 ) -> usize
-    requires { ⌜ (cells ≤ 4096) × (cells ≤ length (now table)) × (take cells (now table) ≡ replicate cells 0) ⌝ }
+    requires { ⌜ (cells ≤ cellLimit) × (cells ≤ length (now table)) × (take cells (now table) ≡ replicate cells 0) ⌝ }
     ensures { λ r. ⌜ Answered (makingText (makeReply (now (list .entry)) (now (inputs .entry)) (replicate cells 0)))
         (now (output .entry)) (now (output .exit)) r ⌝ }
 {

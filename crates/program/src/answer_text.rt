@@ -5,10 +5,11 @@ use output::write_field;
 ghost use mathlib.Core.Path.{_≡_};
 ghost use Prim.Native.Nat.{_≤_};
 ghost use lib.ListN.{length};
+ghost use Rattle.meaning.specs.Refusal.{cellLimit};
 ghost use Rattle.meaning.specs.Reply.{reply};
 ghost use Rattle.meaning.specs.Program.{refusalText, cellsText, tableText};
 ghost use Rattle.output.specs.Written.{Written};
-ghost use Rattle.program.specs.Texts.{pairText, headingText};
+ghost use Rattle.program.specs.Texts.{longestPair, pairText, headingText};
 
 const TAB: u8 = 9;
 
@@ -19,7 +20,7 @@ const LINE_END: u8 = 10;
 // How long a line of two numbers is.
 fn pair_length(first: u64, second: u64) -> usize
     ensures told { λ r. ⌜ r ≡ length (pairText first second) ⌝ }
-    ensures short { λ r. ⌜ r ≤ 42 ⌝ }
+    ensures short { λ r. ⌜ r ≤ longestPair ⌝ }
 {
     decimal_length(first) + decimal_length(second) + 2
 }
@@ -52,7 +53,7 @@ pub fn write_refusal(part: &mut [u8], number: u32, place: usize) -> usize
 // ---- a table
 
 pub fn table_length(table: &[u32]) -> usize
-    requires { ⌜ length (now table) ≤ 4096 ⌝ }
+    requires { ⌜ length (now table) ≤ cellLimit ⌝ }
     ensures { λ r. ⌜ r ≡ length (tableText (now (table .entry))) ⌝ }
 {
     let mut total = 7 + decimal_length(table.len() as u64);

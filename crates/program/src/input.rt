@@ -7,6 +7,7 @@ ghost use mathlib.Core.Path.{_≡_};
 ghost use mathlib.Core.Bool.{true};
 ghost use Prim.Native.Nat.{_≤_};
 ghost use lib.ListN.{length, set};
+ghost use Rattle.meaning.specs.Refusal.{valueLimit};
 ghost use Rattle.meaning.specs.Text.{isEnded};
 ghost use Rattle.text.specs.Place.{linesFrom};
 ghost use Rattle.program.specs.Input.{EndFound, InputsRead};
@@ -42,7 +43,7 @@ pub fn find_end(input: &[u8]) -> Ending
 
 // Stores the first of the numbers, as many as have room; those after them are counted.
 pub fn read_inputs(input: &[u8], start: usize, inputs: &mut [i64]) -> Inputs
-    requires { ⌜ (isEnded (now input) ≡ true) × (start ≤ length (now input)) × (length (now inputs) ≡ 256) ⌝ }
+    requires { ⌜ (isEnded (now input) ≡ true) × (start ≤ length (now input)) × (length (now inputs) ≡ valueLimit) ⌝ }
     ensures { λ r. ⌜ InputsRead (linesFrom (now (input .entry)) start) (now (inputs .exit)) r ⌝ }
 {
     let mut at = start;

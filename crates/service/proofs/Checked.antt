@@ -3,12 +3,13 @@ use mathlib.Core.Path.{_≡_, refl, sym, ap, ap₂, _∙_}
 use mathlib.Core.Bool.{Bool, true, false}
 use mathlib.Core.List.{List, [], _∷_}
 use mathlib.Core.Option.{Option, none, some}
-use Prim.Native.Nat.{ℕ, suc, _+_, _-_, _^_, _≤_, _<_}
+use Prim.Native.Nat.{ℕ, suc, _+_, _-_, _≤_, _<_}
 use native.Mathlib.Omega.{arith}
 use borrow.Author.Tests.{eq-eqb, ne-eqb, lt-ltb, le-ltb}
 use lib.Dec.{T, ltb, leb→le}
 use lib.IntN.{ℤ}
 use lib.ListN.{length, getD}
+use Rattle.meaning.specs.Machine.{pastU64}
 use Rattle.algebra.specs.Digits.{Below}
 use Rattle.algebra.proofs.Test.{ltb-iff}
 use Rattle.meaning.specs.Line.{Line}
@@ -185,7 +186,7 @@ module _ {list table : List ℕ} {p : ℕ} {numbers : List ℤ} {places : List �
           so-many = omega (arith, w .stands .counted .rows-are, stands .counted .rows-are)
 
   -- the number of a row in the list is small
-  pub row-fits : (l : Line) → Keeps (w .number) (w .state) l → {i : ℕ} → i < length (gadget (w .state) l .rows) → c .rows + i < 2 ^ 64
+  pub row-fits : (l : Line) → Keeps (w .number) (w .state) l → {i : ℕ} → i < length (gadget (w .state) l .rows) → c .rows + i < pastU64
   row-fits l keeps h = omega (
     arith,
     few (w .number) (w .state) l keeps .1,

@@ -1,4 +1,5 @@
-// The public calls of the product: checking, making and showing, each promised by equations with the definitions of `meaning`.
+// The public calls of the product: reading, checking, making and showing, each promised by equations with the definitions of `meaning`.
+// Reading is the reader's, offered here beside the others.
 pub mod checking;
 pub mod making;
 pub mod reply;
@@ -9,5 +10,7 @@ mod writing;
 
 pub use checking::check;
 pub use making::make;
+pub use reader::Answer;
+pub use reader::read;
 pub use reply::Reply;
 pub use showing::show;

@@ -4,11 +4,11 @@ use super::print::print_cells;
 use super::print::print_count;
 use super::print::print_inputs;
 use super::print::print_list;
-use reader::Answer;
-use reader::read;
+use service::Answer;
 use service::Reply;
 use service::check;
 use service::make;
+use service::read;
 use service::show;
 ghost use Rattle.io.specs.Counts.{Counts};
 

@@ -1,5 +1,6 @@
 -- `exports::digit_table_show`: `show` is asked for the part of the numbered table, which tells where the part of every table starts.
 use denote.Ref.{now}
+use Rattle.meaning.specs.Refusal.{cellLimit}
 use Rattle.exports.proofs.Shown.{too-long-told, first-told}
 use borrow.Author.Needs.{needs}
 use Rattle.exports.proofs.digit_table_show.Statement.{statement}
@@ -15,7 +16,7 @@ returns-2 : tie.Need-returns-2
 returns-2 c =
     let S = c .before .before .before .before .before .before .before .before .before .before in
     let fills = c .before .before .before .before .before .number-cells .ensures in
-    let told = first-told (now (S .args .list)) (now (S .args .table)) (S .args .line) _ _ 4096 _ fills (c .before .before .before .before .before .before .before .if1 .left) (c .before .show .ensures .0) (c .first-of .ensures) in
+    let told = first-told (now (S .args .list)) (now (S .args .table)) (S .args .line) _ _ cellLimit _ fills (c .before .before .before .before .before .before .before .if1 .left) (c .before .show .ensures .0) (c .first-of .ensures) in
     (told .part, (told .counted, (told .starts, told .inside)))
 
 pub digit-table-show-spec : {M : Type 1} → statement M

@@ -4,13 +4,14 @@ use Prim.Native.Nat.{_+_, _<_}
 use native.Mathlib.Omega.{arith}
 use lib.ListN.{length}
 use borrow.Author.Needs.{needs}
+use Rattle.meaning.specs.Machine.{pastU64}
 use Rattle.meaning.specs.Text.{decimalOf}
 use Rattle.meaning.proofs.Decimal.{length-short, length-long, some-digit, decimal-of-64}
 use Rattle.output.proofs.decimal_length.Statement.{statement}
 use Rattle.output.proofs.decimal_length.Tie as tie
 
 abbrev Inv-loop : tie.InvT-loop
-Inv-loop n rest₀ count₀ rest count = (n < 18446744073709551616) × (count + length (decimalOf rest) ≡ length (decimalOf n) + 1)
+Inv-loop n rest₀ count₀ rest count = (n < pastU64) × (count + length (decimalOf rest) ≡ length (decimalOf n) + 1)
 
 abbrev μ-loop : tie.MeasureT-loop
 μ-loop n rest₀ count₀ rest count = rest

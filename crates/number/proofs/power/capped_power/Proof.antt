@@ -6,6 +6,7 @@ use Prim.Native.Nat.{_%_, _^_, _≤_, _<_}
 use native.Mathlib.Omega.{arith}
 use native.Mathlib.Nat.{pow-zero, pow-le-pow-right}
 use borrow.Author.Needs.{needs}
+use Rattle.meaning.specs.Machine.{pastU32}
 use Rattle.number.proofs.Word.{wide-product}
 use Rattle.number.proofs.CappedPower.{capped-of, capped-above, low-power, power-one, Left, left-start, left-end, base-above, product-above, left-turn}
 use Rattle.number.proofs.power.capped_power.Statement.{statement}
@@ -55,7 +56,7 @@ factor c =
     (λ w. let even : now .n % 2 ≡ 0 = omega (arith, w .0 .left) in w .1 ∙ sym (ap (λ m. now .base ^ m) even ∙ pow-zero (now .base)))
     (c .if6 .came)
 
-factor-small : (c : tie.Joined6 Inv-loop μ-loop) → c .if6 .factor < 2 ^ 32
+factor-small : (c : tie.Joined6 Inv-loop μ-loop) → c .if6 .factor < pastU32
 factor-small c = ⊎-elim (λ w. rw (w .1) (omega arith)) (λ w. rw (w .1) (omega arith)) (c .if6 .came)
 
 mul-c : tie.Need-mul-c Inv-loop μ-loop

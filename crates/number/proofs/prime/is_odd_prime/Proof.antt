@@ -5,6 +5,7 @@ use Prim.Native.Nat.{_<_}
 use native.Mathlib.Omega.{arith}
 use native.Mathlib.Nat.{zero-add}
 use borrow.Author.Needs.{needs}
+use Rattle.number.specs.Table.{tableLength}
 use Rattle.number.proofs.OddPrime.{odd-prime-passes, odd-prime-low, odd-prime-fails}
 use Rattle.number.proofs.PrimeTable.{entry-prime, entry-below, listed-decides}
 use Rattle.known_primes.proofs.Known.{known-prime}
@@ -27,13 +28,13 @@ first-divisor-requires c κs k h = (omega (arith, entry-prime k h .above-one), o
 returns-4 : tie.Need-returns-4
 returns-4 c =
     let d = c .before .first-divisor in
-    let small : d .result < 54 = omega (arith, c .if3 .taken) in
+    let small : d .result < tableLength = omega (arith, c .if3 .taken) in
     odd-prime-fails _ _ (entry-prime (d .result) small .above-one) (omega (arith, entry-below (d .result) small)) (rw zero-add at (d .ensures .divides small))
 
 passes-odd-trial-requires : tie.Need-passes-odd-trial-requires
 passes-odd-trial-requires c κs =
     let d = c .before .first-divisor in
-    let e : d .result ≡ 54 = omega (arith, d .ensures .within) in
+    let e : d .result ≡ tableLength = omega (arith, d .ensures .within) in
     (omega arith, rw e at (d .ensures))
 
 pub is-odd-prime-spec : {M : Type 1} → statement M

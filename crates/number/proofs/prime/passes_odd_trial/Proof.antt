@@ -6,6 +6,8 @@ use native.Mathlib.Omega.{arith}
 use native.Mathlib.Decide.{decLt}
 use native.Mathlib.Nat.{mul-le-mul}
 use borrow.Author.Needs.{needs}
+use Rattle.number.specs.Table.{tableEnd}
+use Rattle.meaning.specs.Machine.{pastU16}
 use Rattle.algebra.proofs.Root.{root-square, root-next}
 use Rattle.number.proofs.OddPrime.{odd-prime-passes, odd-prime-fails}
 use Rattle.number.proofs.PrimeTable.{Tried, prime-by-table, step-small, on-wheel}
@@ -13,7 +15,7 @@ use Rattle.number.proofs.prime.passes_odd_trial.Statement.{statement}
 use Rattle.number.proofs.prime.passes_odd_trial.Tie as tie
 
 abbrev Inv-loop : tie.InvT-loop
-Inv-loop n root w d₀ d = (240 ≤ d) × (d % 30 ≡ 0) × ((k : ℕ) → 256 ≤ k → Tried k → k < d → n % k ≢ 0)
+Inv-loop n root w d₀ d = (240 ≤ d) × (d % 30 ≡ 0) × ((k : ℕ) → tableEnd ≤ k → Tried k → k < d → n % k ≢ 0)
 
 abbrev μ-loop : tie.MeasureT-loop
 μ-loop n root w d₀ d = root + 30 - d
@@ -27,10 +29,10 @@ next : (c : tie.After-square-root Inv-loop μ-loop) → c .before .args .n < suc
 next c = rw (c .square-root .ensures) (root-next (c .before .args .n))
 
 -- the root of a u32 is below 2 ^ 16
-short : (c : tie.After-square-root Inv-loop μ-loop) → c .square-root .result < 65536
-short c = elim (decLt (c .square-root .result) 65536) [
+short : (c : tie.After-square-root Inv-loop μ-loop) → c .square-root .result < pastU16
+short c = elim (decLt (c .square-root .result) pastU16) [
   | yes h ↦ h
-  | no h ↦ let m : 65536 ≤ c .square-root .result = omega arith in absurd (omega (arith, mul-le-mul m m, square c))
+  | no h ↦ let m : pastU16 ≤ c .square-root .result = omega arith in absurd (omega (arith, mul-le-mul m m, square c))
 ]
 
 cast-root : tie.Need-cast-root Inv-loop μ-loop
@@ -70,7 +72,7 @@ loop-again c =
     let now = at-test .before .loop in
     let n = at-test .before .before .before .args .n in
     let found = c .before .first-divisor in
-    let more : (k : ℕ) → 256 ≤ k → Tried k → k < now .d + 30 → n % k ≢ 0 = λ k h t l. elim (decLt k (now .d)) [
+    let more : (k : ℕ) → tableEnd ≤ k → Tried k → k < now .d + 30 → n % k ≢ 0 = λ k h t l. elim (decLt k (now .d)) [
       | yes e ↦ now .inv .2 k h t e
       | no e ↦
           let w = on-wheel (now .d) k (now .inv .1) (omega arith) l t in

@@ -1,15 +1,16 @@
 -- `number::root::square_root`: the square of low is at most n and that of high above it, until high is the next number after low.
 use mathlib.Core.Path.{_≡_}
-use Prim.Native.Nat.{suc, _-_, _*_, _^_, _≤_, _<_}
+use Prim.Native.Nat.{suc, _-_, _*_, _≤_, _<_}
 use native.Mathlib.Omega.{arith}
 use borrow.Author.Needs.{needs}
+use Rattle.meaning.specs.Machine.{pastU32}
 use Rattle.number.proofs.Word.{wide-product}
 use Rattle.algebra.proofs.Root.{root-unique}
 use Rattle.number.proofs.root.square_root.Statement.{statement}
 use Rattle.number.proofs.root.square_root.Tie as tie
 
 abbrev Inv-loop : tie.InvT-loop
-Inv-loop n low₀ high₀ low high = (low < high) × (high ≤ 2 ^ 32) × (low * low ≤ n) × (n < high * high)
+Inv-loop n low₀ high₀ low high = (low < high) × (high ≤ pastU32) × (low * low ≤ n) × (n < high * high)
 
 abbrev μ-loop : tie.MeasureT-loop
 μ-loop n low₀ high₀ low high = high - low

@@ -1,9 +1,10 @@
 -- `service::checking::check_rows`: the walk over the rows of each line, with what holds before each line as the invariant.
 use mathlib.Core.Path.{refl}
-use Prim.Native.Nat.{_+_, _-_, _^_, _<_}
+use Prim.Native.Nat.{_+_, _-_, _<_}
 use lib.ListN.{length}
 use denote.Ref.{now}
 use borrow.Author.Needs.{needs}
+use Rattle.meaning.specs.Machine.{pastU64}
 use Rattle.service.specs.Reply.{replySeen}
 use Rattle.service.proofs.Standing.{keeps-rules}
 use Rattle.service.proofs.Places.{placed-next}
@@ -41,7 +42,7 @@ add-t23 c =
     let took = c .before .before .before .before .before .before .before .before .take-line .ensures (at-line w inside) in
     let told = c .before .before .before .before .line-rows .ensures (rows-asked w inside took) in
     let row = row-inside w _ _ (took .left-is) _ told _ (c .before .before .rows .given .1) in
-    let small : c .before .before .before .before .before .before .before .before .before .before .before .loop .counts .rows + c .before .before .rows .given .0 .0 < 2 ^ 64 = row-fits w _ (keeps-rules took) row in
+    let small : c .before .before .before .before .before .before .before .before .before .before .before .loop .counts .rows + c .before .before .rows .given .0 .0 < pastU64 = row-fits w _ (keeps-rules took) row in
     search (needs, small)
 
 returns : tie.Need-returns Inv-loop μ-loop
