@@ -1,6 +1,8 @@
 -- whole numbers and machine words
 pub mod Whole
 pub mod SignPower
+-- the numbers of a line
+pub mod ReadValues
 -- working a line
 pub mod WorksAnswer
 -- writing its cells

@@ -7,6 +7,7 @@ ghost use lib.IntN.{pos, natAbs};
 ghost use lib.ListN.{length, getD};
 ghost use lib.Signed.{_≤ℤ_};
 ghost use Rattle.rules.specs.Ready.{greatest};
+ghost use Rattle.groups.specs.Numbers.{DigitsFrom, DigitsAre};
 
 // The number at a place where a name or a digit count stands.
 pub fn size_at(numbers: &[i64], at: usize) -> usize
@@ -24,6 +25,23 @@ pub fn base_at(numbers: &[i64], at: usize) -> u32
 {
     let number = numbers[at];
     number as u32
+}
+
+// A base and its digit count.
+pub struct Digits {
+    pub base: u32,
+    pub count: usize,
+}
+
+// The base at a place and the digit count after it.
+pub fn digits_from(numbers: &[i64], at: usize) -> Digits
+    requires { ⌜ DigitsFrom (now numbers) at ⌝ }
+    ensures { λ r. ⌜ DigitsAre (now (numbers .entry)) at (r .base) (r .count) ⌝ }
+{
+    Digits {
+        base: base_at(numbers, at),
+        count: size_at(numbers, at + 1),
+    }
 }
 
 // A place as it is kept, in 16 bits, which hold the number of every cell.

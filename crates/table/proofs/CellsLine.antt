@@ -22,15 +22,16 @@ use Rattle.meaning.specs.Gadget.Relu.{reluLine}
 use Rattle.meaning.specs.Gadget.Which.{whichValue, whichLine}
 use Rattle.meaning.specs.Gadget.Max.{maxLine}
 use Rattle.meaning.specs.Gadget.Root.{rootLine}
+use Rattle.groups.specs.Numbers.{size, NameAt, OneRead, TwoRead}
 use Rattle.table.specs.Max.{maxCells}
 use Rattle.table.specs.Root.{rootCells}
 use Rattle.table.specs.Sum.{sumOf}
 use Rattle.table.specs.Line.{KeptLine, gadgetOf, knownCount}
 use Rattle.table.specs.LineValues.{CellsAsked, CellsTold}
-use Rattle.table.proofs.LineNumbers.{size, NameAt, prime-is, made-fit}
+use Rattle.table.proofs.LineNumbers.{prime-is, made-fit}
 use Rattle.table.proofs.LineKinds.{OneWord, one-name, one-is, TwoWord, two-first, two-second, two-is}
 use Rattle.table.proofs.LineKinds.{span-word, relu-word, which-word, max-word, root-word}
-use Rattle.table.proofs.LineValues.{named, value-named}
+use Rattle.table.proofs.LineValues.{value-named}
 
 module _ {p : ℕ} {w : Word} {numbers : List ℤ} {count : ℕ} {values : List ℤ} {known : ℕ} {part : List ℕ}
     (a : CellsAsked p w numbers count values known part) where
@@ -40,19 +41,24 @@ module _ {p : ℕ} {w : Word} {numbers : List ℤ} {count : ℕ} {values : List 
   name-known : {i : ℕ} → NameAt (knownCount (a .asked .kept)) numbers i → size numbers i < known
   name-known name = omega (arith, name .below, a .known-are)
 
-  -- the room for the cells of a line that names one value, and of one that names two
-  pub one-room : {line : Known → (v b k : ℕ) → Gadget} (word : OneWord w numbers count line) {b k : ℕ} → b ≡ size numbers 1
-      → k ≡ size numbers 2 → line (a .asked .kept .state) (size numbers 0) b k .width ≤ length part
-  one-room word base digits = subst (λ (g : Gadget). g .width ≤ length part) (one-is (a .asked .kept) word base digits) (a .room)
+  -- what is known of p and of the part, for a line that names one value, and for one that names two
+  pub one-writes : {line : Known → (v b k : ℕ) → Gadget} (word : OneWord w numbers count line) {v : ℤ} {b k : ℕ} → OneRead numbers values v b k
+      → OddPrime p × (line (a .asked .kept .state) (size numbers 0) b k .width ≤ length part)
+  one-writes word one = (
+    prime-asked (word .has-digits .late),
+    subst (λ (g : Gadget). g .width ≤ length part) (one-is (a .asked .kept) word (one .digits)) (a .room),
+  )
 
-  pub two-room : {line : Known → (u v b k : ℕ) → Gadget} (word : TwoWord w numbers count line) {b k : ℕ} → b ≡ size numbers 2
-      → k ≡ size numbers 3 → line (a .asked .kept .state) (size numbers 0) (size numbers 1) b k .width ≤ length part
-  two-room word base digits = subst (λ (g : Gadget). g .width ≤ length part) (two-is (a .asked .kept) word base digits) (a .room)
+  pub two-writes : {line : Known → (u v b k : ℕ) → Gadget} (word : TwoWord w numbers count line) {u v : ℤ} {b k : ℕ}
+      → TwoRead numbers values u v b k → OddPrime p × (line (a .asked .kept .state) (size numbers 0) (size numbers 1) b k .width ≤ length part)
+  two-writes word two = (
+    prime-asked (word .has-digits .late),
+    subst (λ (g : Gadget). g .width ≤ length part) (two-is (a .asked .kept) word (two .digits)) (a .room),
+  )
 
 -- ---- one value, and a digit group
 
-module _ {numbers values : List ℤ} {v : ℤ} {b k : ℕ} (value : v ≡ named numbers 0 values) (base : b ≡ size numbers 1)
-    (digits : k ≡ size numbers 2) {p known : ℕ} {part after : List ℕ} where
+module _ {numbers values : List ℤ} {v : ℤ} {b k : ℕ} (one : OneRead numbers values v b k) {p known : ℕ} {part after : List ℕ} where
   -- the cells of the line's gadget over v are those of the line
   one-written : {w : Word} {count : ℕ} {line : Known → (n b k : ℕ) → Gadget} → OneWord w numbers count line
       → ((s : Known) (n : ℕ) (vs : List ℤ) (next : ℤ) → s .p ≡ p → valueAt vs n ≡ v
@@ -60,8 +66,8 @@ module _ {numbers values : List ℤ} {v : ℤ} {b k : ℕ} (value : v ≡ named 
   one-written word told a next made =
       let l = a .asked .kept in
       let read = value-named numbers values 0 known (name-known a (one-name l word)) in
-      rw (one-is l word base digits)
-      (told (l .state) (size numbers 0) (take known values) next (a .prime (word .has-digits .late)) (read ∙ sym value))
+      rw (one-is l word (one .digits))
+      (told (l .state) (size numbers 0) (take known values) next (a .prime (word .has-digits .late)) (read ∙ sym (one .value)))
 
   pub relu-cells-told : after ≡ (remainder p (larger (pos 0) v) ∷ signCells p b k v) ++ drop (k + 3) part
       → CellsTold p relu numbers 3 values known part after
@@ -79,8 +85,7 @@ module _ {numbers values : List ℤ} {v : ℤ} {b k : ℕ} (value : v ≡ named 
 
 -- ---- two values, and a digit group
 
-module _ {numbers values : List ℤ} {u v : ℤ} {b k : ℕ} (first : u ≡ named numbers 0 values) (second : v ≡ named numbers 1 values)
-    (base : b ≡ size numbers 2) (digits : k ≡ size numbers 3) {p known : ℕ} {part after : List ℕ} where
+module _ {numbers values : List ℤ} {u v : ℤ} {b k : ℕ} (two : TwoRead numbers values u v b k) {p known : ℕ} {part after : List ℕ} where
   two-written : {w : Word} {count : ℕ} {line : Known → (m n b k : ℕ) → Gadget} → TwoWord w numbers count line
       → ((s : Known) (m n : ℕ) (vs : List ℤ) (next : ℤ) → s .p ≡ p → valueAt vs m ≡ u → valueAt vs n ≡ v
       → after ≡ line s m n b k .cells vs next ++ drop (line s m n b k .width) part) → CellsTold p w numbers count values known part after
@@ -88,8 +93,8 @@ module _ {numbers values : List ℤ} {u v : ℤ} {b k : ℕ} (first : u ≡ name
       let l = a .asked .kept in
       let read-u = value-named numbers values 0 known (name-known a (two-first l word)) in
       let read-v = value-named numbers values 1 known (name-known a (two-second l word)) in
-      rw (two-is l word base digits) (told (l .state) (size numbers 0) (size numbers 1) (take known values) next
-      (a .prime (word .has-digits .late)) (read-u ∙ sym first) (read-v ∙ sym second))
+      rw (two-is l word (two .digits)) (told (l .state) (size numbers 0) (size numbers 1) (take known values) next
+      (a .prime (word .has-digits .late)) (read-u ∙ sym (two .first)) (read-v ∙ sym (two .second)))
 
   pub which-cells-told : after ≡ (remainder p (whichValue u v) ∷ signCells p b k (u -ℤ v)) ++ drop (k + 3) part
       → CellsTold p which numbers 4 values known part after

@@ -3,12 +3,11 @@
 use mathlib.Core.Path.{_≡_, refl, ap, _∙_}
 use mathlib.Core.Bool.{false}
 use mathlib.Core.List.{List, [], _∷_}
-use Prim.Native.Nat.{ℕ, suc, _≤_, _<_}
+use Prim.Native.Nat.{ℕ, suc, _<_}
 use native.Mathlib.Omega.{arith}
 use lib.IntN.{ℤ, pos}
-use lib.ListN.{length, getD, take}
+use lib.ListN.{getD, take}
 use lib.Seq.{getD-take}
-use lib.Signed.{_≤ℤ_}
 use Rattle.meaning.specs.Word.{Word, span, relu, which, max, root, numberAt, sizeAt, digitsAt, kindOf}
 use Rattle.meaning.specs.Known.{Known}
 use Rattle.meaning.specs.Gadget.Interface.{Gadget}
@@ -18,9 +17,9 @@ use Rattle.meaning.specs.Gadget.Which.{whichLine}
 use Rattle.meaning.specs.Gadget.Max.{maxLine}
 use Rattle.meaning.specs.Gadget.Root.{rootLine}
 use Rattle.meaning.specs.Meaning.{gadget}
-use Rattle.rules.specs.Ready.{greatest}
+use Rattle.groups.specs.Numbers.{size, NameAt, DigitsFrom, DigitsAre}
 use Rattle.table.specs.Line.{KeptLine, gadgetOf, knownCount}
-use Rattle.table.proofs.LineNumbers.{size, NameAt, first-name, second-name, DigitsFrom, digits-from, size-is}
+use Rattle.table.proofs.LineNumbers.{first-name, second-name, digits-from, size-is}
 
 -- a base stands at place i and its digit count after it
 pub record DigitWord (w : Word) (numbers : List ℤ) (count i : ℕ) : Type 0 where
@@ -72,27 +71,18 @@ module _ (numbers : List ℤ) where
 -- ---- a line of such a kind that keeps its rules
 
 module _ {w : Word} {numbers : List ℤ} {count : ℕ} (l : KeptLine w numbers count) where
-  module _ (i : ℕ) (word : DigitWord w numbers count i) where
-    pub word-digits : DigitsFrom numbers i
-    word-digits = digits-from l i (word .long) (word .late) (word .digits)
-
-    -- as `base_at` and `size_at` ask
-    pub base-asked : (i < length numbers) × (pos 0 ≤ℤ getD numbers i (pos 0)) × (size numbers i ≤ greatest)
-    base-asked = let d = word-digits in (d .base-inside, d .base-natural, d .base-most)
-
-    pub count-asked : (suc i < length numbers) × (pos 0 ≤ℤ getD numbers (suc i) (pos 0))
-    count-asked = let d = word-digits in (d .count-inside, d .count-natural)
+  pub word-digits : {i : ℕ} → DigitWord w numbers count i → DigitsFrom numbers i
+  word-digits {i} word = digits-from l i (word .long) (word .late) (word .digits)
 
   module _ {line : Known → (v b k : ℕ) → Gadget} (word : OneWord w numbers count line) where
     pub one-name : NameAt (knownCount l) numbers 0
     one-name = first-name l 0 [] (omega (arith, word .has-digits .long)) (word .names)
 
-    pub one-is : {b k : ℕ} → b ≡ size numbers 1 → k ≡ size numbers 2
-        → gadgetOf l ≡ line (l .state) (size numbers 0) b k
+    pub one-is : {b k : ℕ} → DigitsAre numbers 1 b k → gadgetOf l ≡ line (l .state) (size numbers 0) b k
     unfolding gadget
-    one-is b-is k-is =
+    one-is d =
         let h = word .has-digits .long in
-        word .is (l .state) ∙ rw (size-is l 0 (omega arith), size-is l 1 (omega arith), size-is l 2 h, b-is, k-is) refl
+        word .is (l .state) ∙ rw (size-is l 0 (omega arith), size-is l 1 (omega arith), size-is l 2 h, d .base, d .count) refl
 
   module _ {line : Known → (u v b k : ℕ) → Gadget} (word : TwoWord w numbers count line) where
     pub two-first : NameAt (knownCount l) numbers 0
@@ -101,10 +91,9 @@ module _ {w : Word} {numbers : List ℤ} {count : ℕ} (l : KeptLine w numbers c
     pub two-second : NameAt (knownCount l) numbers 1
     two-second = second-name l 1 _ [] (omega (arith, word .has-digits .long)) (word .names)
 
-    pub two-is : {b k : ℕ} → b ≡ size numbers 2 → k ≡ size numbers 3
-        → gadgetOf l ≡ line (l .state) (size numbers 0) (size numbers 1) b k
+    pub two-is : {b k : ℕ} → DigitsAre numbers 2 b k → gadgetOf l ≡ line (l .state) (size numbers 0) (size numbers 1) b k
     unfolding gadget
-    two-is b-is k-is =
+    two-is d =
         let h = word .has-digits .long in
         word .is (l .state)
-        ∙ rw (size-is l 0 (omega arith), size-is l 1 (omega arith), size-is l 2 (omega arith), size-is l 3 h, b-is, k-is) refl
+        ∙ rw (size-is l 0 (omega arith), size-is l 1 (omega arith), size-is l 2 (omega arith), size-is l 3 h, d .base, d .count) refl

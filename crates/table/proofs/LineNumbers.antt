@@ -1,11 +1,12 @@
 -- What the rules say of the numbers of a line that keeps them, one law for all words: a place where a name stands, a place where a base
 -- and its digit count stand, the count of the numbers, p, and the values before the line.
-use mathlib.Core.Path.{_≡_, ap}
+use mathlib.Core.Path.{_≡_, refl, ap}
 use mathlib.Core.Bool.{Bool, true, false, _&&_}
 use mathlib.Core.List.{List, [], _∷_}
 use Prim.Native.Nat.{ℕ, suc, _+_, _*_, _^_, _≤_, _<_}
 use native.Mathlib.Omega.{arith}
 use native.Mathlib.Nat.{mul-le-mul-right, one-mul}
+use native.Mathlib.Numerals.{add-one}
 use lib.Dec.{T, leb, ltb, leb→le}
 use lib.IntN.{ℤ, pos, natAbs}
 use lib.ListN.{length, getD, take}
@@ -30,16 +31,12 @@ use Rattle.meaning.proofs.Group.{rule-power}
 use Rattle.meaning.proofs.Law.{low-end, high-end, low-ranged, high-ranged}
 use Rattle.number.specs.Bounded.{Bounded}
 use Rattle.number.proofs.Bounded.{bounded-more, bounded-range}
-use Rattle.rules.specs.Ready.{greatest}
 use Rattle.rules.proofs.Digits.{Allowed, digits-allowed}
 use Rattle.reader.proofs.Sizes.{digits-given}
 use Rattle.reader.proofs.Steps.{not-below}
 use Rattle.groups.specs.Cells.{valueBound}
+use Rattle.groups.specs.Numbers.{size, NameAt, DigitsFrom}
 use Rattle.table.specs.Line.{KeptLine, gadgetOf, knownCount}
-
--- the size of the number at a place: a name, a base or a digit count, where the number is not negative
-abbrev pub size : (numbers : List ℤ) (i : ℕ) → ℕ
-size numbers i = natAbs (getD numbers i (pos 0))
 
 -- ---- names
 
@@ -47,26 +44,7 @@ pub made-is : (n : ℕ) (v : ℤ) → T (isMade n v) → (pos 0 ≤ℤ v) × (na
 unfolding isMade
 made-is n v t = (not-below v (left (nonNeg v) (ltb (natAbs v) n) t), made-name n v t)
 
--- the number at a place names one of the first n values
-pub record NameAt (n : ℕ) (numbers : List ℤ) (i : ℕ) : Type 0 where
-  pub inside : i < length numbers
-  pub natural : pos 0 ≤ℤ getD numbers i (pos 0)
-  pub below : size numbers i < n
-  pub most : size numbers i < valueLimit
-
--- ---- bases and digit counts
-
--- a base stands at a place and its digit count at the next
-pub record DigitsFrom (numbers : List ℤ) (i : ℕ) : Type 0 where
-  pub base-inside : i < length numbers
-  pub base-natural : pos 0 ≤ℤ getD numbers i (pos 0)
-  pub base-two : 2 ≤ size numbers i
-  pub base-most : size numbers i ≤ greatest
-  pub count-inside : suc i < length numbers
-  pub count-natural : pos 0 ≤ℤ getD numbers (suc i) (pos 0)
-  pub count-one : 1 ≤ size numbers (suc i)
-  pub count-most : size numbers (suc i) ≤ 31
-  pub power-most : size numbers i ^ size numbers (suc i) ≤ greatest
+-- ---- powers
 
 -- c = b ^ k is at most m, for each base and digit count of a line
 unfoldable Powers : ℕ → List Digits → Type 0
@@ -138,7 +116,6 @@ module _ {w : Word} {numbers : List ℤ} {count : ℕ} (l : KeptLine w numbers c
         inside = omega (arith, l .numbers-long, l .few);
         natural = name .0;
         below = name .1;
-        most = omega (arith, name .1, values-most);
       }
 
   pub first-name : (i : ℕ) (vs : List ℤ) → i < count → kindOf w .names (take count numbers) ≡ numberAt (take count numbers) i ∷ vs
@@ -172,24 +149,27 @@ module _ {w : Word} {numbers : List ℤ} {count : ℕ} (l : KeptLine w numbers c
         let given : Powers (l .state .p) (digitsAt ns i) = rw is at powers in
         given .0
 
-    pub power-below : size numbers i ^ size numbers (suc i) ≤ l .state .p
-    power-below = rw (number-is i (omega arith), number-is (suc i) inside) at power
+    pub power-below : size numbers i ^ size numbers (i + 1) ≤ l .state .p
+    power-below = rw (number-is i (omega arith), number-is (suc i) inside, ← add-one i) at power
 
     pub digits-from : DigitsFrom numbers i
     digits-from =
         let base = number-is i (omega arith) in
         let digits = number-is (suc i) inside in
-        let a : Allowed (getD numbers i (pos 0)) (getD numbers (suc i) (pos 0)) = rw (base, digits) at allowed in
+        let a : Allowed (getD numbers i (pos 0)) (getD numbers (i + 1) (pos 0)) = rw (base, digits, ← add-one i) at allowed in
         record {
           base-inside = omega (arith, l .numbers-long, l .few, inside);
           base-natural = not-below (getD numbers i (pos 0)) (a .base-counts);
-          base-two = a .base;
           base-most = l .small i (omega arith);
           count-inside = omega (arith, l .numbers-long, l .few, inside);
-          count-natural = not-below (getD numbers (suc i) (pos 0)) (a .count-counts);
-          count-one = a .one;
-          count-most = a .most;
-          power-most = omega (arith, power-below, l .p-most late);
+          count-natural = not-below (getD numbers (i + 1) (pos 0)) (a .count-counts);
+          group = record {
+            base = a .base;
+            some-digit = a .one;
+            few = a .most;
+            power = refl;
+            small = omega (arith, power-below, l .p-most late);
+          };
         }
 
   -- ---- the values before the line

@@ -14,7 +14,8 @@ use Rattle.algebra.proofs.Test.{left, right}
 use Rattle.meaning.specs.Word.{sum, withoutFirst, alternate, kindOf}
 use Rattle.meaning.specs.Refusal.{all, isMade}
 use Rattle.meaning.specs.Gadget.Sum.{termsOf}
-use Rattle.table.proofs.LineNumbers.{size, made-is}
+use Rattle.groups.specs.Numbers.{size}
+use Rattle.table.proofs.LineNumbers.{made-is}
 
 -- ---- names
 

@@ -4,12 +4,12 @@ use mathlib.Core.Path.{_≡_, refl, sym, ap, subst, _∙_}
 use mathlib.Core.Bool.{false}
 use mathlib.Core.List.{List, []}
 use mathlib.Core.Option.{Option}
-use Prim.Native.Nat.{ℕ, suc, _+_, _^_, _≤_, _<_}
+use Prim.Native.Nat.{ℕ, _+_, _^_, _≤_, _<_}
 use native.Mathlib.Omega.{arith}
-use lib.IntN.{ℤ, pos}
-use lib.ListN.{length, getD, take}
+use lib.IntN.{ℤ}
+use lib.ListN.{length, take}
 use lib.Seq.{getD-take}
-use lib.Signed.{_≤ℤ_}
+use Rattle.algebra.specs.Digits.{Below}
 use Rattle.meaning.specs.Word.{Word, kindOf}
 use Rattle.meaning.specs.Known.{Known, placeOf}
 use Rattle.meaning.specs.Row.{holds}
@@ -17,13 +17,13 @@ use Rattle.meaning.specs.Reply.{Reply, firstFail, refusalAt}
 use Rattle.meaning.specs.Gadget.Interface.{Gadget}
 use Rattle.meaning.specs.Meaning.{gadget}
 use Rattle.groups.specs.Cells.{GroupOf}
+use Rattle.groups.specs.Numbers.{size, placed, NameAt, DigitsFrom, DigitsAre, OnePlaced, TwoPlaced}
 use Rattle.groups.specs.Rows.{rowsSeen, firstRefusal}
 use Rattle.groups.specs.declared.rows.Rows.the-variants.{AllHold}
 use Rattle.table.specs.Line.{gadgetOf, knownCount}
 use Rattle.table.specs.LineRows.{RowsAsked, RowsTold}
-use Rattle.table.proofs.LineNumbers.{size, NameAt, prime-is, power-below}
-use Rattle.table.proofs.LineKinds.{DigitWord, OneWord, one-name, one-is, TwoWord, two-first, two-second, two-is}
-use Rattle.table.proofs.LineValues.{group-read}
+use Rattle.table.proofs.LineNumbers.{values-most, prime-is, power-below}
+use Rattle.table.proofs.LineKinds.{DigitWord, word-digits, OneWord, one-name, one-is, TwoWord, two-first, two-second, two-is}
 
 -- a line that has no row
 pub no-row : (p : ℕ) (w : Word) (numbers : List ℤ) (count : ℕ) (table : List ℕ) (cells : ℕ) (places : List ℕ)
@@ -33,60 +33,85 @@ no-row p w numbers count table cells places none a = rw (none (a .kept .state) (
 
 -- ---- what is asked, and what is told
 
+-- p, the table, and the digit group of a line that has so many cells, as the functions that check its rows ask it
+pub record GroupAsked (p : ℕ) (table : List ℕ) (cells width b k : ℕ) : Type 0 where
+  pub three : 3 ≤ p
+  pub below : Below p table
+  pub room : cells + width ≤ length table
+  pub group : GroupOf b k (b ^ k)
+  pub power : b ^ k ≤ p
+
 module _ {p : ℕ} {w : Word} {numbers : List ℤ} {count : ℕ} {table : List ℕ} {cells : ℕ} {places : List ℕ}
     (a : RowsAsked p w numbers count table cells places) where
   pub p-three : kindOf w .isField ≡ false → 3 ≤ p
   p-three late = omega (arith, prime-is (a .kept) late .three, a .prime late)
 
   -- the value that the number at place i names
-  module _ (i : ℕ) (name : NameAt (knownCount (a .kept)) numbers i) where
-    pub name-asked : (i < length numbers) × (pos 0 ≤ℤ getD numbers i (pos 0)) × (size numbers i < length places)
-    name-asked = (name .inside, name .natural, omega (arith, name .most, a .places-long))
+  module _ {i : ℕ} (name : NameAt (knownCount (a .kept)) numbers i) where
+    name-asked : NameAt (length places) numbers i
+    name-asked = record { inside = name .inside; natural = name .natural; below = omega (arith, name .below, values-most (a .kept), a .places-long) }
 
-    pub name-inside : {place : ℕ} → place ≡ getD places (size numbers i) 0 → place < length table
+    name-inside : {place : ℕ} → place ≡ placed numbers i places → place < length table
     name-inside e = rw e (a .inside (size numbers i) (name .below))
 
-    name-placed : {place : ℕ} → place ≡ getD places (size numbers i) 0
-        → placeOf (a .kept .state) (size numbers i) ≡ place
+    name-placed : {place : ℕ} → place ≡ placed numbers i places → placeOf (a .kept .state) (size numbers i) ≡ place
     unfolding placeOf
     name-placed e = rw (a .places-are) (getD-take (knownCount (a .kept)) places (size numbers i) 0 (name .below) ∙ sym e)
 
-  -- the digit group of the line, as its rows ask it
-  module _ (i : ℕ) (word : DigitWord w numbers count i) {b k : ℕ} (b-is : b ≡ size numbers i) (k-is : k ≡ size numbers (suc i)) where
-    pub group-asked : GroupOf b k (b ^ k) × (b ^ k ≤ p)
-    group-asked = (
-      group-read (a .kept) i word b-is k-is refl,
-      rw (b-is, k-is, ← a .prime (word .late)) (power-below (a .kept) i (word .long) (word .late) (word .digits)),
-    )
+  group-asked : {g : Gadget} {i b k : ℕ} → gadgetOf (a .kept) ≡ g → DigitWord w numbers count i → DigitsAre numbers i b k
+      → GroupAsked p table cells (g .width) b k
+  group-asked {i = i} is word d = record {
+    three = p-three (word .late);
+    below = a .below;
+    room = subst (λ (g : Gadget). cells + g .width ≤ length table) is (a .room);
+    group = d .group;
+    power = rw (d .base, d .count, ← a .prime (word .late)) (power-below (a .kept) i (word .long) (word .late) (word .digits));
+  }
 
   -- ---- a line that names one value
 
-  module _ {line : Known → (v b k : ℕ) → Gadget} (word : OneWord w numbers count line)
-      {b k : ℕ} (b-is : b ≡ size numbers 1) (k-is : k ≡ size numbers 2) where
-    pub one-room : cells + line (a .kept .state) (size numbers 0) b k .width ≤ length table
-    one-room = subst (λ (g : Gadget). cells + g .width ≤ length table) (one-is (a .kept) word b-is k-is) (a .room)
+  module _ {line : Known → (v b k : ℕ) → Gadget} (word : OneWord w numbers count line) where
+    -- as `one_place` asks it
+    pub one-places-asked : NameAt (length places) numbers 0 × DigitsFrom numbers 1
+    one-places-asked = (name-asked (one-name (a .kept) word), word-digits (a .kept) (word .has-digits))
 
-    pub one-told : {place : ℕ} {seen : Option Reply} → place ≡ getD places (size numbers 0) 0
-        → ((s : Known) (v : ℕ) → s .p ≡ p → placeOf s v ≡ place → s .cells ≡ cells → seen ≡ firstRefusal (holds p table) 0 (line s v b k .rows))
-        → seen ≡ firstRefusal (holds p table) 0 (gadgetOf (a .kept) .rows)
-    one-told place-is told =
-        told (a .kept .state) (size numbers 0) (a .prime (word .has-digits .late))
-        (name-placed 0 (one-name (a .kept) word) place-is) (a .cells-are)
-        ∙ ap (λ (g : Gadget). firstRefusal (holds p table) 0 (g .rows)) (sym (one-is (a .kept) word b-is k-is))
+    module _ {place b k : ℕ} (read : OnePlaced numbers places place b k) where
+      pub one-checks : GroupAsked p table cells (line (a .kept .state) (size numbers 0) b k .width) b k × (place < length table)
+      one-checks = (
+        group-asked (one-is (a .kept) word (read .digits)) (word .has-digits) (read .digits),
+        name-inside (one-name (a .kept) word) (read .place-is),
+      )
+
+      pub one-told : {seen : Option Reply}
+          → ((s : Known) (v : ℕ) → s .p ≡ p → placeOf s v ≡ place → s .cells ≡ cells → seen ≡ firstRefusal (holds p table) 0 (line s v b k .rows))
+          → seen ≡ firstRefusal (holds p table) 0 (gadgetOf (a .kept) .rows)
+      one-told told =
+          told (a .kept .state) (size numbers 0) (a .prime (word .has-digits .late))
+          (name-placed (one-name (a .kept) word) (read .place-is)) (a .cells-are)
+          ∙ ap (λ (g : Gadget). firstRefusal (holds p table) 0 (g .rows)) (sym (one-is (a .kept) word (read .digits)))
 
   -- ---- a line that names two
 
-  module _ {line : Known → (u v b k : ℕ) → Gadget} (word : TwoWord w numbers count line)
-      {b k : ℕ} (b-is : b ≡ size numbers 2) (k-is : k ≡ size numbers 3) where
-    pub two-room : cells + line (a .kept .state) (size numbers 0) (size numbers 1) b k .width ≤ length table
-    two-room = subst (λ (g : Gadget). cells + g .width ≤ length table) (two-is (a .kept) word b-is k-is) (a .room)
+  module _ {line : Known → (u v b k : ℕ) → Gadget} (word : TwoWord w numbers count line) where
+    -- as `two_places` asks it
+    pub two-places-asked : NameAt (length places) numbers 0 × NameAt (length places) numbers 1 × DigitsFrom numbers 2
+    two-places-asked =
+        (name-asked (two-first (a .kept) word), name-asked (two-second (a .kept) word), word-digits (a .kept) (word .has-digits))
 
-    pub two-told : {place-u place-v : ℕ} {seen : Option Reply}
-        → place-u ≡ getD places (size numbers 0) 0 → place-v ≡ getD places (size numbers 1) 0
-        → ((s : Known) (u v : ℕ) → s .p ≡ p → placeOf s u ≡ place-u → placeOf s v ≡ place-v → s .cells ≡ cells
-        → seen ≡ firstRefusal (holds p table) 0 (line s u v b k .rows))
-        → seen ≡ firstRefusal (holds p table) 0 (gadgetOf (a .kept) .rows)
-    two-told u-is v-is told =
-        told (a .kept .state) (size numbers 0) (size numbers 1) (a .prime (word .has-digits .late))
-        (name-placed 0 (two-first (a .kept) word) u-is) (name-placed 1 (two-second (a .kept) word) v-is) (a .cells-are)
-        ∙ ap (λ (g : Gadget). firstRefusal (holds p table) 0 (g .rows)) (sym (two-is (a .kept) word b-is k-is))
+    module _ {place-u place-v b k : ℕ} (read : TwoPlaced numbers places place-u place-v b k) where
+      pub two-checks : GroupAsked p table cells (line (a .kept .state) (size numbers 0) (size numbers 1) b k .width) b k
+          × (place-u < length table) × (place-v < length table)
+      two-checks = (
+        group-asked (two-is (a .kept) word (read .digits)) (word .has-digits) (read .digits),
+        name-inside (two-first (a .kept) word) (read .first-is),
+        name-inside (two-second (a .kept) word) (read .second-is),
+      )
+
+      pub two-told : {seen : Option Reply}
+          → ((s : Known) (u v : ℕ) → s .p ≡ p → placeOf s u ≡ place-u → placeOf s v ≡ place-v → s .cells ≡ cells
+          → seen ≡ firstRefusal (holds p table) 0 (line s u v b k .rows))
+          → seen ≡ firstRefusal (holds p table) 0 (gadgetOf (a .kept) .rows)
+      two-told told =
+          told (a .kept .state) (size numbers 0) (size numbers 1) (a .prime (word .has-digits .late))
+          (name-placed (two-first (a .kept) word) (read .first-is)) (name-placed (two-second (a .kept) word) (read .second-is)) (a .cells-are)
+          ∙ ap (λ (g : Gadget). firstRefusal (holds p table) 0 (g .rows)) (sym (two-is (a .kept) word (read .digits)))

@@ -29,15 +29,16 @@ use Rattle.text.specs.Word.{wordOf}
 use Rattle.text.specs.declared.Word.the-variants.{Sum}
 use Rattle.reader.proofs.Steps.{sum-count}
 use Rattle.groups.specs.Cells.{workedSeen, powerBound}
+use Rattle.groups.specs.Numbers.{size, OneRead, TwoRead}
 use Rattle.groups.specs.declared.value.Worked.{Worked}
 use Rattle.groups.specs.declared.value.Worked.the-variants.{Value, NoValue}
 use Rattle.table.specs.Line.{KeptLine, knownCount}
 use Rattle.table.specs.Sum.{sumOf, SumAsked}
 use Rattle.table.specs.LineValues.{ValuesAsked, WorkTold}
-use Rattle.table.proofs.LineNumbers.{size, values-most, half-most}
+use Rattle.table.proofs.LineNumbers.{values-most, half-most}
 use Rattle.table.proofs.LineKinds.{span-word, relu-word, which-word, max-word, root-word}
 use Rattle.table.proofs.LineKinds.{OneWord, one-name, one-is, TwoWord, two-first, two-second, two-is}
-use Rattle.table.proofs.LineValues.{named, value-named}
+use Rattle.table.proofs.LineValues.{value-named}
 use Rattle.table.proofs.WorksSumFits.{sum-small}
 
 -- ---- one value, and a digit group
@@ -45,8 +46,7 @@ use Rattle.table.proofs.WorksSumFits.{sum-small}
 pub span-shift : {numbers : List ℤ} → KeptLine span numbers 4 → Bounded powerBound (getD numbers 3 (pos 0))
 span-shift l = record { size = omega (arith, l .small 3 (omega arith)) }
 
-module _ {numbers values : List ℤ} {v : ℤ} {b k : ℕ} (value-is : v ≡ named numbers 0 values) (base : b ≡ size numbers 1)
-    (digits : k ≡ size numbers 2) (next : ℤ) (r : Worked) where
+module _ {numbers values : List ℤ} {v : ℤ} {b k : ℕ} (one : OneRead numbers values v b k) (next : ℤ) (r : Worked) where
   -- the answer for the line's gadget over v is that for the line
   one-worked : {w : Word} {count : ℕ} {line : Known → (n b k : ℕ) → Gadget} → OneWord w numbers count line
       → ((s : Known) (n : ℕ) (vs : List ℤ) → valueAt vs n ≡ v
@@ -54,7 +54,7 @@ module _ {numbers values : List ℤ} {v : ℤ} {b k : ℕ} (value-is : v ≡ nam
   one-worked word told a =
       let l = a .kept in
       let read = value-named numbers values 0 (knownCount l) (one-name l word .below) in
-      rw (one-is l word base digits) (told (l .state) (size numbers 0) (take (knownCount l) values) (read ∙ sym value-is))
+      rw (one-is l word (one .digits)) (told (l .state) (size numbers 0) (take (knownCount l) values) (read ∙ sym (one .value)))
 
   pub relu-told : workedSeen r ≡ cond (signStatement b k v) (value (larger (pos 0) v ∷ [])) (refusedBy 18) → WorkTold relu numbers 3 values next r
   unfolding reluLine
@@ -72,8 +72,7 @@ module _ {numbers values : List ℤ} {v : ℤ} {b k : ℕ} (value-is : v ≡ nam
 
 -- ---- two values, and a digit group
 
-module _ {numbers values : List ℤ} {u v : ℤ} {b k : ℕ} (first : u ≡ named numbers 0 values) (second : v ≡ named numbers 1 values)
-    (base : b ≡ size numbers 2) (digits : k ≡ size numbers 3) (next : ℤ) (r : Worked) where
+module _ {numbers values : List ℤ} {u v : ℤ} {b k : ℕ} (two : TwoRead numbers values u v b k) (next : ℤ) (r : Worked) where
   two-worked : {w : Word} {count : ℕ} {line : Known → (m n b k : ℕ) → Gadget} → TwoWord w numbers count line
       → ((s : Known) (m n : ℕ) (vs : List ℤ) → valueAt vs m ≡ u → valueAt vs n ≡ v
       → workedSeen r ≡ cond (line s m n b k .statement vs) (value (line s m n b k .values vs next)) (refusedBy 18)) → WorkTold w numbers count values next r
@@ -81,8 +80,8 @@ module _ {numbers values : List ℤ} {u v : ℤ} {b k : ℕ} (first : u ≡ name
       let l = a .kept in
       let read-u = value-named numbers values 0 (knownCount l) (two-first l word .below) in
       let read-v = value-named numbers values 1 (knownCount l) (two-second l word .below) in
-      rw (two-is l word base digits)
-      (told (l .state) (size numbers 0) (size numbers 1) (take (knownCount l) values) (read-u ∙ sym first) (read-v ∙ sym second))
+      rw (two-is l word (two .digits))
+      (told (l .state) (size numbers 0) (size numbers 1) (take (knownCount l) values) (read-u ∙ sym (two .first)) (read-v ∙ sym (two .second)))
 
   pub which-told : workedSeen r ≡ cond (signStatement b k (u -ℤ v)) (value (whichValue u v ∷ [])) (refusedBy 18) → WorkTold which numbers 4 values next r
   unfolding whichLine

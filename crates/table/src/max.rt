@@ -4,16 +4,14 @@ use groups::group::apart;
 use groups::group::group_rows;
 use groups::group::power_of;
 use groups::group::two_groups;
-use groups::numbers::base_at;
-use groups::numbers::place_at;
-use groups::numbers::size_at;
+use groups::named::two_places;
+use groups::named::two_values;
 use groups::rows::Rows;
 use groups::rows::residue_at;
 use groups::rows::row_before;
 use groups::rows::rows_before;
 use groups::value::Worked;
 use groups::value::value_cell;
-use groups::value::value_named;
 use number::Cell;
 use number::Whole;
 use number::residue::difference;
@@ -63,12 +61,9 @@ pub fn max_line_works(numbers: &[i64], values: &[i64]) -> Worked
     requires { ⌜ ValuesAsked max (now numbers) 4 (now values) ⌝ }
     ensures { λ r. ⌜ ((next : ℤ) → WorkTold max (now (numbers .entry)) 4 (now (values .entry)) next r) ⌝ }
 {
-    let u = value_named(numbers, 0, values);
-    let v = value_named(numbers, 1, values);
-    let b = base_at(numbers, 2);
-    let k = size_at(numbers, 3);
-    let c = power_of(b, k);
-    max_works(u, v, c)
+    let named = two_values(numbers, values);
+    let c = power_of(named.base, named.count);
+    max_works(named.first, named.second, c)
 }
 
 // ---- cells
@@ -87,11 +82,8 @@ pub fn max_line_cells(numbers: &[i64], p: u32, values: &[i64], part: &mut [u32])
     ensures { λ _. ⌜ ((known : ℕ)
         → CellsTold p max (now (numbers .entry)) 4 (now (values .entry)) known (now (part .entry)) (now (part .exit))) ⌝ }
 {
-    let u = value_named(numbers, 0, values);
-    let v = value_named(numbers, 1, values);
-    let b = base_at(numbers, 2);
-    let k = size_at(numbers, 3);
-    max_cells(part, p, u, v, b, k);
+    let named = two_values(numbers, values);
+    max_cells(part, p, named.first, named.second, named.base, named.count);
 }
 
 // ---- rows
@@ -115,9 +107,14 @@ pub fn max_line_rows(numbers: &[i64], table: &[u32], p: u32, at: Cell, places: &
     requires { ⌜ RowsAsked p max (now numbers) 4 (now table) (at .0) (now places) ⌝ }
     ensures { λ r. ⌜ RowsTold p max (now (numbers .entry)) 4 (now (table .entry)) (at .0) (now (places .entry)) r ⌝ }
 {
-    let place_u = place_at(numbers, 0, places);
-    let place_v = place_at(numbers, 1, places);
-    let b = base_at(numbers, 2);
-    let k = size_at(numbers, 3);
-    max_rows(table, p, place_u, place_v, at, b, k)
+    let named = two_places(numbers, places);
+    max_rows(
+        table,
+        p,
+        named.first,
+        named.second,
+        at,
+        named.base,
+        named.count,
+    )
 }

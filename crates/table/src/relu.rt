@@ -1,9 +1,8 @@
 // A line `relu v b k`: the statement is that of the sign over v, and the value y is the greater of 0 and v. Its cells are those of y and
 // of the sign; its rows are those of the sign, the last of which is f·v ≡ y.
 use groups::group::power_of;
-use groups::numbers::base_at;
-use groups::numbers::place_at;
-use groups::numbers::size_at;
+use groups::named::one_place;
+use groups::named::one_value;
 use groups::rows::Rows;
 use groups::rows::residue_at;
 use groups::sign::sign_cells;
@@ -12,7 +11,6 @@ use groups::sign::sign_works;
 use groups::sign::top_part;
 use groups::value::Worked;
 use groups::value::value_cell;
-use groups::value::value_named;
 use number::Cell;
 use number::Whole;
 use number::residue::product;
@@ -62,11 +60,9 @@ pub fn relu_line_works(numbers: &[i64], values: &[i64]) -> Worked
     requires { ⌜ ValuesAsked relu (now numbers) 3 (now values) ⌝ }
     ensures { λ r. ⌜ ((next : ℤ) → WorkTold relu (now (numbers .entry)) 3 (now (values .entry)) next r) ⌝ }
 {
-    let v = value_named(numbers, 0, values);
-    let b = base_at(numbers, 1);
-    let k = size_at(numbers, 2);
-    let c = power_of(b, k);
-    relu_works(v, b, c)
+    let named = one_value(numbers, values);
+    let c = power_of(named.base, named.count);
+    relu_works(named.value, named.base, c)
 }
 
 // ---- cells
@@ -84,11 +80,9 @@ pub fn relu_line_cells(numbers: &[i64], p: u32, values: &[i64], part: &mut [u32]
     ensures { λ _. ⌜ ((known : ℕ)
         → CellsTold p relu (now (numbers .entry)) 3 (now (values .entry)) known (now (part .entry)) (now (part .exit))) ⌝ }
 {
-    let v = value_named(numbers, 0, values);
-    let b = base_at(numbers, 1);
-    let k = size_at(numbers, 2);
-    let c = power_of(b, k);
-    relu_cells(part, p, v, b, k, c);
+    let named = one_value(numbers, values);
+    let c = power_of(named.base, named.count);
+    relu_cells(part, p, named.value, named.base, named.count, c);
 }
 
 // ---- rows
@@ -110,8 +104,6 @@ pub fn relu_line_rows(numbers: &[i64], table: &[u32], p: u32, at: Cell, places: 
     requires { ⌜ RowsAsked p relu (now numbers) 3 (now table) (at .0) (now places) ⌝ }
     ensures { λ r. ⌜ RowsTold p relu (now (numbers .entry)) 3 (now (table .entry)) (at .0) (now (places .entry)) r ⌝ }
 {
-    let place = place_at(numbers, 0, places);
-    let b = base_at(numbers, 1);
-    let k = size_at(numbers, 2);
-    relu_rows(table, p, place, at, b, k)
+    let named = one_place(numbers, places);
+    relu_rows(table, p, named.place, at, named.base, named.count)
 }

@@ -4,16 +4,14 @@ use groups::group::apart;
 use groups::group::group_rows;
 use groups::group::power_of;
 use groups::group::two_groups;
-use groups::numbers::base_at;
-use groups::numbers::place_at;
-use groups::numbers::size_at;
+use groups::named::one_place;
+use groups::named::one_value;
 use groups::rows::Rows;
 use groups::rows::residue_at;
 use groups::rows::row_before;
 use groups::rows::rows_before;
 use groups::value::Worked;
 use groups::value::value_cell;
-use groups::value::value_named;
 use number::Cell;
 use number::Residue;
 use number::Whole;
@@ -67,11 +65,9 @@ pub fn root_line_works(numbers: &[i64], values: &[i64]) -> Worked
     requires { ⌜ ValuesAsked root (now numbers) 3 (now values) ⌝ }
     ensures { λ r. ⌜ ((next : ℤ) → WorkTold root (now (numbers .entry)) 3 (now (values .entry)) next r) ⌝ }
 {
-    let v = value_named(numbers, 0, values);
-    let b = base_at(numbers, 1);
-    let k = size_at(numbers, 2);
-    let c = power_of(b, k);
-    root_works(v, c)
+    let named = one_value(numbers, values);
+    let c = power_of(named.base, named.count);
+    root_works(named.value, c)
 }
 
 // ---- cells
@@ -112,10 +108,8 @@ pub fn root_line_cells(numbers: &[i64], p: u32, values: &[i64], part: &mut [u32]
     ensures { λ _. ⌜ ((known : ℕ)
         → CellsTold p root (now (numbers .entry)) 3 (now (values .entry)) known (now (part .entry)) (now (part .exit))) ⌝ }
 {
-    let v = value_named(numbers, 0, values);
-    let b = base_at(numbers, 1);
-    let k = size_at(numbers, 2);
-    root_cells(part, p, v, b, k);
+    let named = one_value(numbers, values);
+    root_cells(part, p, named.value, named.base, named.count);
 }
 
 // ---- rows
@@ -165,8 +159,6 @@ pub fn root_line_rows(numbers: &[i64], table: &[u32], p: u32, at: Cell, places: 
     requires { ⌜ RowsAsked p root (now numbers) 3 (now table) (at .0) (now places) ⌝ }
     ensures { λ r. ⌜ RowsTold p root (now (numbers .entry)) 3 (now (table .entry)) (at .0) (now (places .entry)) r ⌝ }
 {
-    let place = place_at(numbers, 0, places);
-    let b = base_at(numbers, 1);
-    let k = size_at(numbers, 2);
-    root_rows(table, p, place, at, b, k)
+    let named = one_place(numbers, places);
+    root_rows(table, p, named.place, at, named.base, named.count)
 }

@@ -3,19 +3,19 @@
 use groups::group::form_cells;
 use groups::group::group_rows;
 use groups::group::power_of;
-use groups::numbers::base_at;
-use groups::numbers::place_at;
-use groups::numbers::size_at;
+use groups::named::one_place;
+use groups::named::one_value;
 use groups::rows::Rows;
 use groups::rows::residue_at;
 use groups::value::Worked;
-use groups::value::value_named;
 use number::Cell;
 use number::Whole;
 use number::residue::difference;
 use number::residue::remainder_of;
 use number::whole::within;
 ghost use mathlib.Core.Path.{_≡_};
+ghost use mathlib.Core.Bool.{cond};
+ghost use mathlib.Core.List.{[]};
 ghost use Prim.Native.Nat.{ℕ, _^_, _≤_, _<_, _+_};
 ghost use lib.IntN.{ℤ};
 ghost use lib.ListN.{length};
@@ -24,38 +24,36 @@ ghost use Rattle.meaning.specs.Number.{between};
 ghost use Rattle.meaning.specs.Word.{span};
 ghost use Rattle.meaning.specs.Known.{Known, placeOf};
 ghost use Rattle.meaning.specs.Row.{holds};
+ghost use Rattle.meaning.specs.Refusal.{value, refusedBy};
 ghost use Rattle.meaning.specs.Gadget.Span.{spanTop, spanLine};
 ghost use Rattle.number.specs.Bounded.{Bounded};
 ghost use Rattle.groups.specs.Rows.{rowsSeen, firstRefusal};
-ghost use Rattle.groups.specs.Cells.{GroupOf, powerBound};
+ghost use Rattle.groups.specs.Cells.{workedSeen, GroupOf, powerBound};
 ghost use Rattle.table.specs.LineValues.{ValuesAsked, WorkTold, CellsAsked, CellsTold};
 ghost use Rattle.table.specs.LineRows.{RowsAsked, RowsTold};
 
 // ---- working
 
-// Whether the line's statement is true, of every b and k with the power c.
-fn span_works(v: i64, c: u64, shift: i64) -> bool
+// Of every b and k with the power c.
+fn span_works(v: i64, c: u64, shift: i64) -> Worked
     requires { ⌜ (0 < c) × (c ≤ powerBound) × Bounded powerBound shift ⌝ }
-    ensures { λ r. ⌜ ((b k : ℕ) → c ≡ b ^ k → r ≡ between shift v (spanTop b k shift)) ⌝ }
+    ensures { λ r. ⌜ ((b k : ℕ) → c ≡ b ^ k → workedSeen r ≡ cond (between shift v (spanTop b k shift)) (value []) (refusedBy 18)) ⌝ }
 {
     let top = shift + (c - 1) as i64;
-    within(Whole(shift), Whole(v), Whole(top))
+    if within(Whole(shift), Whole(v), Whole(top)) {
+        Worked::NoValue
+    } else {
+        Worked::False
+    }
 }
 
 pub fn span_line_works(numbers: &[i64], values: &[i64]) -> Worked
     requires { ⌜ ValuesAsked span (now numbers) 4 (now values) ⌝ }
     ensures { λ r. ⌜ ((next : ℤ) → WorkTold span (now (numbers .entry)) 4 (now (values .entry)) next r) ⌝ }
 {
-    let v = value_named(numbers, 0, values);
-    let b = base_at(numbers, 1);
-    let k = size_at(numbers, 2);
-    let c = power_of(b, k);
-    let shift = numbers[3];
-    if span_works(v, c, shift) {
-        Worked::NoValue
-    } else {
-        Worked::False
-    }
+    let named = one_value(numbers, values);
+    let c = power_of(named.base, named.count);
+    span_works(named.value, c, numbers[3])
 }
 
 // ---- cells
@@ -66,11 +64,8 @@ pub fn span_line_cells(numbers: &[i64], values: &[i64], part: &mut [u32])
     ensures { λ _. ⌜ ((p known : ℕ)
         → CellsTold p span (now (numbers .entry)) 4 (now (values .entry)) known (now (part .entry)) (now (part .exit))) ⌝ }
 {
-    let v = value_named(numbers, 0, values);
-    let b = base_at(numbers, 1);
-    let k = size_at(numbers, 2);
-    let shift = numbers[3];
-    form_cells(part, v, shift, b, k);
+    let named = one_value(numbers, values);
+    form_cells(part, named.value, numbers[3], named.base, named.count);
 }
 
 // ---- rows
@@ -90,8 +85,14 @@ pub fn span_line_rows(numbers: &[i64], table: &[u32], p: u32, at: Cell, places: 
     requires { ⌜ RowsAsked p span (now numbers) 4 (now table) (at .0) (now places) ⌝ }
     ensures { λ r. ⌜ RowsTold p span (now (numbers .entry)) 4 (now (table .entry)) (at .0) (now (places .entry)) r ⌝ }
 {
-    let place = place_at(numbers, 0, places);
-    let b = base_at(numbers, 1);
-    let k = size_at(numbers, 2);
-    span_rows(table, p, place, at, b, k, numbers[3])
+    let named = one_place(numbers, places);
+    span_rows(
+        table,
+        p,
+        named.place,
+        at,
+        named.base,
+        named.count,
+        numbers[3],
+    )
 }

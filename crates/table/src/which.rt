@@ -1,9 +1,8 @@
 // A line `which u v b k`: the statement is that of the sign over u - v, and the value y is 0 where u is at least v, else 1. Its cells are
 // those of y and of the sign; its rows are those of the sign, the last of which is y ≡ 1-f.
 use groups::group::power_of;
-use groups::numbers::base_at;
-use groups::numbers::place_at;
-use groups::numbers::size_at;
+use groups::named::two_places;
+use groups::named::two_values;
 use groups::rows::Rows;
 use groups::rows::residue_at;
 use groups::sign::sign_cells;
@@ -12,7 +11,6 @@ use groups::sign::sign_works;
 use groups::sign::top_part;
 use groups::value::Worked;
 use groups::value::value_cell;
-use groups::value::value_named;
 use number::Cell;
 use number::Residue;
 use number::residue::difference;
@@ -60,12 +58,9 @@ pub fn which_line_works(numbers: &[i64], values: &[i64]) -> Worked
     requires { ⌜ ValuesAsked which (now numbers) 4 (now values) ⌝ }
     ensures { λ r. ⌜ ((next : ℤ) → WorkTold which (now (numbers .entry)) 4 (now (values .entry)) next r) ⌝ }
 {
-    let u = value_named(numbers, 0, values);
-    let v = value_named(numbers, 1, values);
-    let b = base_at(numbers, 2);
-    let k = size_at(numbers, 3);
-    let c = power_of(b, k);
-    which_works(u, v, b, c)
+    let named = two_values(numbers, values);
+    let c = power_of(named.base, named.count);
+    which_works(named.first, named.second, named.base, c)
 }
 
 // ---- cells
@@ -83,12 +78,17 @@ pub fn which_line_cells(numbers: &[i64], p: u32, values: &[i64], part: &mut [u32
     ensures { λ _. ⌜ ((known : ℕ)
         → CellsTold p which (now (numbers .entry)) 4 (now (values .entry)) known (now (part .entry)) (now (part .exit))) ⌝ }
 {
-    let u = value_named(numbers, 0, values);
-    let v = value_named(numbers, 1, values);
-    let b = base_at(numbers, 2);
-    let k = size_at(numbers, 3);
-    let c = power_of(b, k);
-    which_cells(part, p, u, v, b, k, c);
+    let named = two_values(numbers, values);
+    let c = power_of(named.base, named.count);
+    which_cells(
+        part,
+        p,
+        named.first,
+        named.second,
+        named.base,
+        named.count,
+        c,
+    );
 }
 
 // ---- rows
@@ -119,9 +119,14 @@ pub fn which_line_rows(numbers: &[i64], table: &[u32], p: u32, at: Cell, places:
     requires { ⌜ RowsAsked p which (now numbers) 4 (now table) (at .0) (now places) ⌝ }
     ensures { λ r. ⌜ RowsTold p which (now (numbers .entry)) 4 (now (table .entry)) (at .0) (now (places .entry)) r ⌝ }
 {
-    let place_u = place_at(numbers, 0, places);
-    let place_v = place_at(numbers, 1, places);
-    let b = base_at(numbers, 2);
-    let k = size_at(numbers, 3);
-    which_rows(table, p, place_u, place_v, at, b, k)
+    let named = two_places(numbers, places);
+    which_rows(
+        table,
+        p,
+        named.first,
+        named.second,
+        at,
+        named.base,
+        named.count,
+    )
 }

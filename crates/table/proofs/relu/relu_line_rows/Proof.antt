@@ -1,53 +1,19 @@
 -- `table::relu::relu_line_rows`: the line's numbers are what `relu_rows` takes.
-use native.Mathlib.Omega.{arith}
 use Rattle.meaning.specs.Gadget.Relu.{reluLine}
-use Rattle.table.proofs.LineKinds.{relu-word, base-asked, count-asked, one-name}
-use Rattle.table.proofs.RowsLine.{name-asked, name-inside, p-three, group-asked, one-room, one-told}
+use Rattle.table.proofs.LineKinds.{relu-word}
+use Rattle.table.proofs.RowsLine.{one-places-asked, one-checks, one-told}
+use borrow.Author.Needs.{needs}
 use Rattle.table.proofs.relu.relu_line_rows.Statement.{statement}
 use Rattle.table.proofs.relu.relu_line_rows.Tie as tie
 
-place-at-requires : tie.Need-place-at-requires
-place-at-requires c κs =
-    let start = c .before .before in
-    name-asked (start .pre) 0 (one-name (start .pre .kept) (relu-word (start .args .numbers .now)))
-
-base-at-requires : tie.Need-base-at-requires
-base-at-requires c κs =
-    let start = c .before .before .before in
-    base-asked (start .pre .kept) 1 (relu-word (start .args .numbers .now) .has-digits)
-
-size-at-requires : tie.Need-size-at-requires
-size-at-requires c κs =
-    let start = c .before .before .before .before in
-    count-asked (start .pre .kept) 1 (relu-word (start .args .numbers .now) .has-digits)
-
 relu-rows-requires : tie.Need-relu-rows-requires
 unfolding reluLine
-relu-rows-requires c κs =
-    let at-k = c in
-    let at-b = at-k .before in
-    let at-place = at-b .before in
-    let start = at-place .before .before .before in
-    let word = relu-word (start .args .numbers .now) in
-    let three = p-three (start .pre) (word .has-digits .late) in
-    let group = group-asked (start .pre) 1 (word .has-digits) (at-b .base-at .ensures) (at-k .size-at .ensures) in
-    let room = one-room (start .pre) word (at-b .base-at .ensures) (at-k .size-at .ensures) in (
-      omega arith,
-      start .pre .below,
-      name-inside (start .pre) 0 (one-name (start .pre .kept) word) (at-place .place-at .ensures),
-      omega (arith, room),
-      group .0,
-      group .1,
-    )
-
-returns : tie.Need-returns
-returns c a =
-    let at-k = c .before in
-    let at-b = at-k .before in
-    let at-place = at-b .before in
-    let start = at-place .before .before .before in
-    one-told a (relu-word (start .args .numbers .now)) (at-b .base-at .ensures) (at-k .size-at .ensures) (at-place .place-at .ensures)
-    (c .relu-rows .ensures)
+relu-rows-requires c κs = let known = one-checks (c .before .before .before .pre) (relu-word _) (c .one-place .ensures) in search needs
 
 pub relu-line-rows-spec : {M : Type 1} → statement M
-relu-line-rows-spec = tie.close (tie.spec place-at-requires base-at-requires size-at-requires relu-rows-requires returns)
+relu-line-rows-spec =
+    tie.close
+    (tie.spec
+    (λ c κs. one-places-asked (c .before .before .pre) (relu-word _))
+    relu-rows-requires
+    (λ c a. one-told a (relu-word _) (c .before .one-place .ensures) (c .relu-rows .ensures)))

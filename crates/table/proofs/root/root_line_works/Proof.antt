@@ -1,64 +1,23 @@
 -- `table::root::root_line_works`: the line's numbers are what `root_works` takes.
-use mathlib.Core.Path.{_≡_, _∙_}
-use mir.Syntax.{w64}
-use mir.Val.{SFits, toZ, ofZ}
-use Rattle.number.proofs.Word.{back}
-use Rattle.groups.specs.Cells.{GroupOf}
-use Rattle.table.proofs.LineKinds.{root-word, base-asked, count-asked, one-name}
-use Rattle.table.proofs.LineValues.{named, value-asked, named-bounded, power-asked, group-read}
+use Rattle.groups.proofs.ReadValues.{one-handed}
+use Rattle.table.proofs.LineKinds.{root-word}
+use Rattle.table.proofs.LineValues.{one-asked}
 use Rattle.table.proofs.WorksLine.{root-told}
 use borrow.Author.Needs.{needs}
 use Rattle.table.proofs.root.root_line_works.Statement.{statement}
 use Rattle.table.proofs.root.root_line_works.Tie as tie
 
-value-named-requires : tie.Need-value-named-requires
-value-named-requires c κs = let s = c in value-asked (s .pre) (one-name (s .pre .kept) (root-word (s .args .numbers .now)))
-
-base-at-requires : tie.Need-base-at-requires
-base-at-requires c κs = let s = c .before in base-asked (s .pre .kept) 1 (root-word (s .args .numbers .now) .has-digits)
-
-size-at-requires : tie.Need-size-at-requires
-size-at-requires c κs = let s = c .before .before in count-asked (s .pre .kept) 1 (root-word (s .args .numbers .now) .has-digits)
-
-power-of-requires : tie.Need-power-of-requires
-power-of-requires c κs =
-    let s = c .before .before .before in
-    power-asked (s .pre .kept) 1 (root-word (s .args .numbers .now) .has-digits) (c .before .base-at .ensures) (c .size-at .ensures)
-
-group : (c : tie.After-power-of) → GroupOf (c .before .before .base-at .result) (c .before .size-at .result) (c .power-of .result)
-group c =
-    let s = c .before .before .before .before in
-    group-read (s .pre .kept) 1 (root-word (s .args .numbers .now) .has-digits) (c .before .before .base-at .ensures) (c .before .size-at .ensures)
-    (c .power-of .ensures)
-
-value : (c : tie.After-value-named)
-    → let s = c .before .args in
-    toZ w64 (ofZ w64 (c .value-named .result)) ≡ named (s .numbers .now) 0 (s .values .now)
-value c = let f : SFits w64 (c .value-named .result) = search needs in back f ∙ c .value-named .ensures
-
-root-works-requires : tie.Need-root-works-requires
-root-works-requires c κs =
-    let s = c .before .before .before .before in
-    let word = root-word (s .args .numbers .now) in
-    let late = word .has-digits .late in (
-      rw (value (c .before .before .before)) (named-bounded (s .pre) (one-name (s .pre .kept) word) late),
-      group c .small,
-    )
-
 returns : tie.Need-returns
 returns c next =
-    let digits = c .before .before in
-    let base = digits .before in
-    root-told (value (base .before)) (base .base-at .ensures) (digits .size-at .ensures) next _
-    (c .root-works .ensures _ _ (c .before .power-of .ensures))
+    let power = c .before .before in
+    let one = one-handed (power .before .one-value .ensures) in
+    root-told one next _ (c .root-works .ensures _ _ (power .power-of .ensures))
 
 pub root-line-works-spec : {M : Type 1} → statement M
 root-line-works-spec =
     tie.close
     (tie.spec
-    value-named-requires
-    base-at-requires
-    size-at-requires
-    power-of-requires
-    root-works-requires
+    (λ c κs. one-asked (c .pre) (root-word _))
+    (λ c κs. search needs)
+    (λ c κs. search needs)
     returns)
