@@ -10,6 +10,7 @@ use super::rows::Rows;
 use super::rows::residue_at;
 use super::rows::row_before;
 use super::rows::rows_before;
+use super::value::value_cell;
 use number::Cell;
 use number::Residue;
 use number::Whole;
@@ -47,7 +48,7 @@ pub fn sign_works(x: i64, b: u32, c: u64) -> bool
 
 // ---- cells
 
-pub fn sign_cells(out: &mut [u32], p: u32, x: i64, b: u32, k: usize, c: u64)
+fn sign_cells(out: &mut [u32], p: u32, x: i64, b: u32, k: usize, c: u64)
     requires { ⌜ OddPrime p × GroupOf b k c × (k + 2 ≤ length (now out)) × Bounded powerBound x ⌝ }
     ensures { λ _. ⌜ now (out .exit) ≡ signCells p b k x ++ drop (k + 2) (now (out .entry)) ⌝ }
 {
@@ -57,6 +58,15 @@ pub fn sign_cells(out: &mut [u32], p: u32, x: i64, b: u32, k: usize, c: u64)
     group_cells(out, n, b, k);
     let digit = out[k - 1] as u64;
     flag_cells(&mut out[k..], p, digit, b);
+}
+
+// The cells of a line that makes the value y and has the sign of x.
+pub fn signed_cells(out: &mut [u32], p: u32, y: i64, x: i64, b: u32, k: usize, c: u64)
+    requires { ⌜ OddPrime p × GroupOf b k c × (k + 3 ≤ length (now out)) × Bounded powerBound x ⌝ }
+    ensures { λ _. ⌜ now (out .exit) ≡ (remainder p y ∷ signCells p b k x) ++ drop (k + 3) (now (out .entry)) ⌝ }
+{
+    value_cell(out, p, y);
+    sign_cells(&mut out[1..], p, x, b, k, c);
 }
 
 // f and w, from the top digit, which with b - 1 taken away is t: 1 and 0 where t is 0 modulo p, else 0 and the inverse of t.

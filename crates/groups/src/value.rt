@@ -35,3 +35,11 @@ pub fn value_cell(out: &mut [u32], p: u32, x: i64)
     let cell = remainder_of(Whole(x), p);
     out[0] = cell.0;
 }
+
+// The cell of the value that stands in values after the first `known`.
+pub fn known_cell(out: &mut [u32], p: u32, values: &[i64], known: usize)
+    requires { ⌜ (0 < p) × (0 < length (now out)) × (known < length (now values)) ⌝ }
+    ensures { λ _. ⌜ now (out .exit) ≡ remainder p (getD (now (values .entry)) known (pos 0)) ∷ drop 1 (now (out .entry)) ⌝ }
+{
+    value_cell(out, p, values[known]);
+}

@@ -22,6 +22,7 @@ use Rattle.meaning.specs.Gadget.Relu.{reluLine}
 use Rattle.meaning.specs.Gadget.Which.{whichValue, whichLine}
 use Rattle.meaning.specs.Gadget.Max.{maxLine}
 use Rattle.meaning.specs.Gadget.Root.{rootLine}
+use Rattle.meaning.proofs.Number.{positive}
 use Rattle.groups.specs.Numbers.{size, NameAt, OneRead, TwoRead}
 use Rattle.table.specs.Max.{maxCells}
 use Rattle.table.specs.Root.{rootCells}
@@ -111,21 +112,30 @@ pub field-cells-told : (p : ℕ) (numbers values : List ℤ) (known : ℕ) (part
 unfolding gadget kindOf fieldLine
 field-cells-told p numbers values known part a next made = refl
 
--- a gadget that makes one value, whose cell is the line's only one
-pub record OneCell (p : ℕ) (g : Gadget) : Type 0 where
+-- a line that makes one value, whose cell is its only one
+pub record OneCell (w : Word) (p : ℕ) (g : Gadget) : Type 0 where
+  pub late : kindOf w .isField ≡ false
   pub one-made : length (g .made) ≡ 1
   pub one-wide : g .width ≡ 1
   pub value : (vs : List ℤ) (next : ℤ) → ℤ
   pub values-are : (vs : List ℤ) (next : ℤ) → g .values vs next ≡ value vs next ∷ []
   pub cells-are : (vs : List ℤ) (next : ℤ) → g .cells vs next ≡ remainder p (value vs next) ∷ []
 
-pub input-cell : {numbers : List ℤ} (l : KeptLine input numbers 0) → OneCell (l .state .p) (gadgetOf l)
-unfolding gadget kindOf inputLine
-input-cell l = record { one-made = refl; one-wide = refl; value = λ vs next. next; values-are = λ vs next. refl; cells-are = λ vs next. refl }
+pub input-cell : {numbers : List ℤ} (l : KeptLine input numbers 0) → OneCell input (l .state .p) (gadgetOf l)
+unfolding kindOf gadget inputLine
+input-cell l = record {
+  late = refl;
+  one-made = refl;
+  one-wide = refl;
+  value = λ vs next. next;
+  values-are = λ vs next. refl;
+  cells-are = λ vs next. refl;
+}
 
-pub sum-cell : {numbers : List ℤ} {count : ℕ} (l : KeptLine sum numbers count) → OneCell (l .state .p) (gadgetOf l)
-unfolding gadget kindOf sumLine
+pub sum-cell : {numbers : List ℤ} {count : ℕ} (l : KeptLine sum numbers count) → OneCell sum (l .state .p) (gadgetOf l)
+unfolding kindOf gadget sumLine
 sum-cell {numbers} {count} l = record {
+  late = refl;
   one-made = refl;
   one-wide = refl;
   value = λ vs next. sumOf (take count numbers) vs;
@@ -134,18 +144,19 @@ sum-cell {numbers} {count} l = record {
 }
 
 module _ {p : ℕ} {w : Word} {numbers : List ℤ} {count : ℕ} {values : List ℤ} {known : ℕ} {part : List ℕ}
-    (cell : (l : KeptLine w numbers count) → OneCell (l .state .p) (gadgetOf l)) where
-  -- the value stands in values at known
-  pub own-known : CellsAsked p w numbers count values known part → known < length values
-  own-known a = omega (arith, made-fit (a .asked .kept), cell (a .asked .kept) .one-made, a .known-are, a .asked .values-long)
+    (cell : (l : KeptLine w numbers count) → OneCell w (l .state .p) (gadgetOf l)) where
+  -- as `known_cell` asks it: the value stands in values at known
+  pub own-asked : CellsAsked p w numbers count values known part → (0 < p) × (0 < length part) × (known < length values)
+  own-asked a =
+      let c = cell (a .asked .kept) in (
+        positive (prime-asked a (c .late)),
+        omega (arith, a .room, c .one-wide),
+        omega (arith, made-fit (a .asked .kept), c .one-made, a .known-are, a .asked .values-long),
+      )
 
-  pub own-room : CellsAsked p w numbers count values known part → 0 < length part
-  own-room a = omega (arith, a .room, cell (a .asked .kept) .one-wide)
-
-  pub own-cell-told : {after : List ℕ} {x : ℤ} → kindOf w .isField ≡ false → x ≡ getD values known (pos 0) → after ≡ remainder p x ∷ drop 1 part
-      → CellsTold p w numbers count values known part after
-  own-cell-told late e h a next made =
+  pub own-told : {after : List ℕ} → after ≡ remainder p (getD values known (pos 0)) ∷ drop 1 part → CellsTold p w numbers count values known part after
+  own-told h a next made =
       let c = cell (a .asked .kept) in
-      let stands = rw (c .values-are (take known values) next, c .one-made, drop-cons values known (pos 0) (own-known a)) at made in
+      let stands = rw (c .values-are (take known values) next, c .one-made, drop-cons values known (pos 0) (own-asked a .2)) at made in
       let own : c .value (take known values) next ≡ getD values known (pos 0) = ap (λ (l : List ℤ). getD l 0 (pos 0)) stands in
-      rw (c .cells-are (take known values) next, c .one-wide, own, a .prime late, ← e) h
+      rw (c .cells-are (take known values) next, c .one-wide, own, a .prime (c .late)) h

@@ -1,6 +1,6 @@
 -- A line's word in the code and its word in the definitions: what is asked or told of a line by the one, and by the other at the count of
 -- numbers that it has.
-use mathlib.Core.Path.{_≡_, refl, sym, ap, subst, _∙_}
+use mathlib.Core.Path.{_≡_, refl, sym, subst, _∙_}
 use mathlib.Core.Bool.{true}
 use Prim.Native.Nat.{ℕ}
 use native.Mathlib.Omega.{arith}
@@ -10,68 +10,43 @@ use lib.Seq.{length-take-le}
 use lib.IntN.{ℤ}
 use lib.Dec.{eqb, eqb→eq}
 use Rattle.algebra.proofs.Test.{≡-test}
-use Rattle.meaning.specs.Word.{Word, field, input, span, sum, relu, which, max, root, kindOf}
+use Rattle.meaning.specs.Word.{Word, kindOf}
 use Rattle.text.specs.Word.{wordOf}
 use Rattle.table.specs.Line.{KeptLine}
 use Rattle.text.specs.declared.Word.{Word as Coded}
 use Rattle.text.specs.declared.Word.the-variants.{Field, In, Span, Sum, Relu, Which, Max, Root}
 
--- v is the word w, and where m numbers are as many as it has, m is n
-pub record Coding (v : Coded) (w : Word) (m n : ℕ) : Type 0 where
-  pub word-is : wordOf v ≡ w
-  pub count-is : (ns : List ℤ) → length ns ≡ m → kindOf w .isCounted ns ≡ true → m ≡ n
-
-module _ {v : Coded} {w : Word} {m n : ℕ} (kind : Coding v w m n) (P : Word → ℕ → Type 0) (word : Coded) (is : word ≡ v)
-    {numbers : List ℤ} (kept : KeptLine (wordOf word) numbers m) where
-  same-word : wordOf word ≡ w
-  same-word = ap wordOf is ∙ kind .word-is
-
-  same-count : m ≡ n
-  same-count =
-      let so-many = length-take-le m numbers (omega (arith, kept .few, kept .numbers-long)) in
-      kind .count-is (take m numbers) so-many (subst (λ (u : Word). kindOf u .isCounted (take m numbers) ≡ true) same-word (kept .counted))
-
-  pub at-kind : P (wordOf word) m → P w n
-  at-kind t = subst (P w) same-count (subst (λ (u : Word). P u m) same-word t)
-
-  pub by-word : P w n → P (wordOf word) m
-  by-word t = subst (λ (u : Word). P u m) (sym same-word) (subst (P w) (sym same-count) t)
-
--- ---- the kinds
+-- the count of the numbers after a word, where m is a right one: a sum has any odd count
+unfoldable pub countOf : Coded → ℕ → ℕ
+countOf Field m = 1
+countOf In m = 0
+countOf Span m = 4
+countOf Sum m = m
+countOf Relu m = 3
+countOf Which m = 4
+countOf Max m = 4
+countOf Root m = 3
 
 one-count : (m n : ℕ) (ns : List ℤ) → length ns ≡ m → eqb (length ns) n ≡ true → m ≡ n
 one-count m n ns so-many e = sym so-many ∙ eqb→eq (length ns) n (≡-test (eqb (length ns) n) e)
 
-module _ {m : ℕ} where
-  pub field-kind : Coding Field field m 1
-  unfolding wordOf kindOf
-  field-kind = record { word-is = refl; count-is = one-count m 1 }
+count-is : (v : Coded) (m : ℕ) (ns : List ℤ) → length ns ≡ m → kindOf (wordOf v) .isCounted ns ≡ true → m ≡ countOf v m
+unfolding wordOf kindOf countOf
+count-is Field m = one-count m 1
+count-is In m = one-count m 0
+count-is Span m = one-count m 4
+count-is Sum m = λ ns so-many e. refl
+count-is Relu m = one-count m 3
+count-is Which m = one-count m 4
+count-is Max m = one-count m 4
+count-is Root m = one-count m 3
 
-  pub input-kind : Coding In input m 0
-  unfolding wordOf kindOf
-  input-kind = record { word-is = refl; count-is = one-count m 0 }
+module _ (P : Word → ℕ → Type 0) {word v : Coded} (m : ℕ) (is : word ≡ v) {numbers : List ℤ} (kept : KeptLine (wordOf word) numbers m) where
+  same-count : m ≡ countOf word m
+  same-count = count-is word m (take m numbers) (length-take-le m numbers (omega (arith, kept .few, kept .numbers-long))) (kept .counted)
 
-  pub span-kind : Coding Span span m 4
-  unfolding wordOf kindOf
-  span-kind = record { word-is = refl; count-is = one-count m 4 }
+  pub at-kind : P (wordOf word) m → P (wordOf v) (countOf v m)
+  at-kind t = subst (λ (u : Coded). P (wordOf u) (countOf u m)) is (subst (P (wordOf word)) same-count t)
 
-  pub relu-kind : Coding Relu relu m 3
-  unfolding wordOf kindOf
-  relu-kind = record { word-is = refl; count-is = one-count m 3 }
-
-  pub which-kind : Coding Which which m 4
-  unfolding wordOf kindOf
-  which-kind = record { word-is = refl; count-is = one-count m 4 }
-
-  pub max-kind : Coding Max max m 4
-  unfolding wordOf kindOf
-  max-kind = record { word-is = refl; count-is = one-count m 4 }
-
-  pub root-kind : Coding Root root m 3
-  unfolding wordOf kindOf
-  root-kind = record { word-is = refl; count-is = one-count m 3 }
-
-  -- a sum has any odd count
-  pub sum-kind : Coding Sum sum m m
-  unfolding wordOf
-  sum-kind = record { word-is = refl; count-is = λ _ _ _. refl }
+  pub by-word : P (wordOf v) (countOf v m) → P (wordOf word) m
+  by-word t = subst (P (wordOf word)) (sym same-count) (subst (λ (u : Coded). P (wordOf u) (countOf u m)) (sym is) t)

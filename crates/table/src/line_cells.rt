@@ -1,11 +1,11 @@
-// Writing the cells of a line of any kind, once its own value stands in values.
-use super::input::input_line_cells;
+// Writing the cells of a line of any kind, once its own value stands in values. The one cell of an input and of a sum is that of this value:
+// a sum is not added up again.
 use super::max::max_line_cells;
 use super::relu::relu_line_cells;
 use super::root::root_line_cells;
 use super::span::span_line_cells;
-use super::sum::sum_line_cells;
 use super::which::which_line_cells;
+use groups::value::known_cell;
 use text::Word;
 ghost use Rattle.text.specs.Word.{wordOf};
 ghost use Rattle.table.specs.LineValues.{CellsAsked, CellsTold};
@@ -25,9 +25,9 @@ pub fn line_cells(
 {
     match word {
         Word::Field => {}
-        Word::In => input_line_cells(p, values, known, part),
+        Word::In => known_cell(part, p, values, known),
         Word::Span => span_line_cells(numbers, values, part),
-        Word::Sum => sum_line_cells(p, values, known, part),
+        Word::Sum => known_cell(part, p, values, known),
         Word::Relu => relu_line_cells(numbers, p, values, part),
         Word::Which => which_line_cells(numbers, p, values, part),
         Word::Max => max_line_cells(numbers, p, values, part),

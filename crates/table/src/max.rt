@@ -61,9 +61,9 @@ pub fn max_line_works(numbers: &[i64], values: &[i64]) -> Worked
     requires { ⌜ ValuesAsked max (now numbers) 4 (now values) ⌝ }
     ensures { λ r. ⌜ ((next : ℤ) → WorkTold max (now (numbers .entry)) 4 (now (values .entry)) next r) ⌝ }
 {
-    let named = two_values(numbers, values);
-    let c = power_of(named.base, named.count);
-    max_works(named.first, named.second, c)
+    let read = two_values(numbers, values);
+    let c = power_of(read.base, read.count);
+    max_works(read.first, read.second, c)
 }
 
 // ---- cells
@@ -82,8 +82,8 @@ pub fn max_line_cells(numbers: &[i64], p: u32, values: &[i64], part: &mut [u32])
     ensures { λ _. ⌜ ((known : ℕ)
         → CellsTold p max (now (numbers .entry)) 4 (now (values .entry)) known (now (part .entry)) (now (part .exit))) ⌝ }
 {
-    let named = two_values(numbers, values);
-    max_cells(part, p, named.first, named.second, named.base, named.count);
+    let read = two_values(numbers, values);
+    max_cells(part, p, read.first, read.second, read.base, read.count);
 }
 
 // ---- rows
@@ -107,14 +107,6 @@ pub fn max_line_rows(numbers: &[i64], table: &[u32], p: u32, at: Cell, places: &
     requires { ⌜ RowsAsked p max (now numbers) 4 (now table) (at .0) (now places) ⌝ }
     ensures { λ r. ⌜ RowsTold p max (now (numbers .entry)) 4 (now (table .entry)) (at .0) (now (places .entry)) r ⌝ }
 {
-    let named = two_places(numbers, places);
-    max_rows(
-        table,
-        p,
-        named.first,
-        named.second,
-        at,
-        named.base,
-        named.count,
-    )
+    let read = two_places(numbers, places);
+    max_rows(table, p, read.first, read.second, at, read.base, read.count)
 }

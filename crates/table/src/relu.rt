@@ -5,12 +5,11 @@ use groups::named::one_place;
 use groups::named::one_value;
 use groups::rows::Rows;
 use groups::rows::residue_at;
-use groups::sign::sign_cells;
 use groups::sign::sign_rows;
 use groups::sign::sign_works;
+use groups::sign::signed_cells;
 use groups::sign::top_part;
 use groups::value::Worked;
-use groups::value::value_cell;
 use number::Cell;
 use number::Whole;
 use number::residue::product;
@@ -18,20 +17,18 @@ use number::residue::sum;
 use number::whole::larger;
 ghost use mathlib.Core.Path.{_≡_};
 ghost use mathlib.Core.Bool.{cond};
-ghost use mathlib.Core.List.{[], _∷_, _++_};
+ghost use mathlib.Core.List.{[], _∷_};
 ghost use Prim.Native.Nat.{ℕ, _+_, _^_, _≤_, _<_};
 ghost use lib.IntN.{pos, ℤ};
-ghost use lib.ListN.{length, drop};
+ghost use lib.ListN.{length};
 ghost use Rattle.algebra.specs.Digits.{Below};
-ghost use Rattle.meaning.specs.Number.{remainder, OddPrime};
 ghost use Rattle.meaning.specs.Word.{relu};
 ghost use Rattle.meaning.specs.Known.{larger, Known, placeOf};
 ghost use Rattle.meaning.specs.Row.{holds};
 ghost use Rattle.meaning.specs.Refusal.{value, refusedBy};
-ghost use Rattle.meaning.specs.Gadget.Sign.{signStatement, signCells};
+ghost use Rattle.meaning.specs.Gadget.Sign.{signStatement};
 ghost use Rattle.meaning.specs.Gadget.Relu.{reluLine};
-ghost use Rattle.number.specs.Bounded.{Bounded};
-ghost use Rattle.groups.specs.Cells.{workedSeen, GroupOf, powerBound, valueBound};
+ghost use Rattle.groups.specs.Cells.{workedSeen, GroupOf, powerBound};
 ghost use Rattle.groups.specs.Rows.{rowsSeen, firstRefusal};
 ghost use Rattle.table.specs.LineValues.{ValuesAsked, WorkTold, CellsAsked, CellsTold};
 ghost use Rattle.table.specs.LineRows.{RowsAsked, RowsTold};
@@ -60,29 +57,22 @@ pub fn relu_line_works(numbers: &[i64], values: &[i64]) -> Worked
     requires { ⌜ ValuesAsked relu (now numbers) 3 (now values) ⌝ }
     ensures { λ r. ⌜ ((next : ℤ) → WorkTold relu (now (numbers .entry)) 3 (now (values .entry)) next r) ⌝ }
 {
-    let named = one_value(numbers, values);
-    let c = power_of(named.base, named.count);
-    relu_works(named.value, named.base, c)
+    let read = one_value(numbers, values);
+    let c = power_of(read.base, read.count);
+    relu_works(read.value, read.base, c)
 }
 
 // ---- cells
-
-fn relu_cells(out: &mut [u32], p: u32, v: i64, b: u32, k: usize, c: u64)
-    requires { ⌜ OddPrime p × GroupOf b k c × (k + 3 ≤ length (now out)) × Bounded valueBound v ⌝ }
-    ensures { λ _. ⌜ now (out .exit) ≡ (remainder p (larger (pos 0) v) ∷ signCells p b k v) ++ drop (k + 3) (now (out .entry)) ⌝ }
-{
-    value_cell(out, p, relu_value(v));
-    sign_cells(&mut out[1..], p, v, b, k, c);
-}
 
 pub fn relu_line_cells(numbers: &[i64], p: u32, values: &[i64], part: &mut [u32])
     requires { ⌜ ((known : ℕ) × CellsAsked p relu (now numbers) 3 (now values) known (now part)) ⌝ }
     ensures { λ _. ⌜ ((known : ℕ)
         → CellsTold p relu (now (numbers .entry)) 3 (now (values .entry)) known (now (part .entry)) (now (part .exit))) ⌝ }
 {
-    let named = one_value(numbers, values);
-    let c = power_of(named.base, named.count);
-    relu_cells(part, p, named.value, named.base, named.count, c);
+    let read = one_value(numbers, values);
+    let c = power_of(read.base, read.count);
+    let y = relu_value(read.value);
+    signed_cells(part, p, y, read.value, read.base, read.count, c);
 }
 
 // ---- rows
@@ -104,6 +94,6 @@ pub fn relu_line_rows(numbers: &[i64], table: &[u32], p: u32, at: Cell, places: 
     requires { ⌜ RowsAsked p relu (now numbers) 3 (now table) (at .0) (now places) ⌝ }
     ensures { λ r. ⌜ RowsTold p relu (now (numbers .entry)) 3 (now (table .entry)) (at .0) (now (places .entry)) r ⌝ }
 {
-    let named = one_place(numbers, places);
-    relu_rows(table, p, named.place, at, named.base, named.count)
+    let read = one_place(numbers, places);
+    relu_rows(table, p, read.place, at, read.base, read.count)
 }

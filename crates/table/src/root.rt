@@ -65,9 +65,9 @@ pub fn root_line_works(numbers: &[i64], values: &[i64]) -> Worked
     requires { ⌜ ValuesAsked root (now numbers) 3 (now values) ⌝ }
     ensures { λ r. ⌜ ((next : ℤ) → WorkTold root (now (numbers .entry)) 3 (now (values .entry)) next r) ⌝ }
 {
-    let named = one_value(numbers, values);
-    let c = power_of(named.base, named.count);
-    root_works(named.value, c)
+    let read = one_value(numbers, values);
+    let c = power_of(read.base, read.count);
+    root_works(read.value, c)
 }
 
 // ---- cells
@@ -108,8 +108,8 @@ pub fn root_line_cells(numbers: &[i64], p: u32, values: &[i64], part: &mut [u32]
     ensures { λ _. ⌜ ((known : ℕ)
         → CellsTold p root (now (numbers .entry)) 3 (now (values .entry)) known (now (part .entry)) (now (part .exit))) ⌝ }
 {
-    let named = one_value(numbers, values);
-    root_cells(part, p, named.value, named.base, named.count);
+    let read = one_value(numbers, values);
+    root_cells(part, p, read.value, read.base, read.count);
 }
 
 // ---- rows
@@ -159,6 +159,6 @@ pub fn root_line_rows(numbers: &[i64], table: &[u32], p: u32, at: Cell, places: 
     requires { ⌜ RowsAsked p root (now numbers) 3 (now table) (at .0) (now places) ⌝ }
     ensures { λ r. ⌜ RowsTold p root (now (numbers .entry)) 3 (now (table .entry)) (at .0) (now (places .entry)) r ⌝ }
 {
-    let named = one_place(numbers, places);
-    root_rows(table, p, named.place, at, named.base, named.count)
+    let read = one_place(numbers, places);
+    root_rows(table, p, read.place, at, read.base, read.count)
 }

@@ -51,9 +51,9 @@ pub fn span_line_works(numbers: &[i64], values: &[i64]) -> Worked
     requires { ⌜ ValuesAsked span (now numbers) 4 (now values) ⌝ }
     ensures { λ r. ⌜ ((next : ℤ) → WorkTold span (now (numbers .entry)) 4 (now (values .entry)) next r) ⌝ }
 {
-    let named = one_value(numbers, values);
-    let c = power_of(named.base, named.count);
-    span_works(named.value, c, numbers[3])
+    let read = one_value(numbers, values);
+    let c = power_of(read.base, read.count);
+    span_works(read.value, c, numbers[3])
 }
 
 // ---- cells
@@ -64,8 +64,8 @@ pub fn span_line_cells(numbers: &[i64], values: &[i64], part: &mut [u32])
     ensures { λ _. ⌜ ((p known : ℕ)
         → CellsTold p span (now (numbers .entry)) 4 (now (values .entry)) known (now (part .entry)) (now (part .exit))) ⌝ }
 {
-    let named = one_value(numbers, values);
-    form_cells(part, named.value, numbers[3], named.base, named.count);
+    let read = one_value(numbers, values);
+    form_cells(part, read.value, numbers[3], read.base, read.count);
 }
 
 // ---- rows
@@ -85,14 +85,6 @@ pub fn span_line_rows(numbers: &[i64], table: &[u32], p: u32, at: Cell, places: 
     requires { ⌜ RowsAsked p span (now numbers) 4 (now table) (at .0) (now places) ⌝ }
     ensures { λ r. ⌜ RowsTold p span (now (numbers .entry)) 4 (now (table .entry)) (at .0) (now (places .entry)) r ⌝ }
 {
-    let named = one_place(numbers, places);
-    span_rows(
-        table,
-        p,
-        named.place,
-        at,
-        named.base,
-        named.count,
-        numbers[3],
-    )
+    let read = one_place(numbers, places);
+    span_rows(table, p, read.place, at, read.base, read.count, numbers[3])
 }

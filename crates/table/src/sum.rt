@@ -5,7 +5,6 @@ use groups::rows::Rows;
 use groups::rows::residue_at;
 use groups::rows::row_before;
 use groups::value::Worked;
-use groups::value::value_cell;
 use groups::value::value_named;
 use number::Cell;
 use number::Residue;
@@ -14,7 +13,6 @@ use number::residue::product;
 use number::residue::remainder_of;
 use number::residue::sum;
 ghost use mathlib.Core.Path.{_≡_};
-ghost use mathlib.Core.List.{List};
 ghost use Prim.Native.Nat.{_<_, ℕ, _%_, _≤_};
 ghost use lib.IntN.{ℤ};
 ghost use lib.ListN.{length, take};
@@ -25,7 +23,7 @@ ghost use Rattle.meaning.specs.Row.{holds};
 ghost use Rattle.meaning.specs.Gadget.Sum.{termsOf, sumLine};
 ghost use Rattle.groups.specs.Rows.{rowsSeen, firstRefusal};
 ghost use Rattle.table.specs.Sum.{sumOf, SumAsked, NamesBelow, PlacesInside};
-ghost use Rattle.table.specs.LineValues.{ValuesAsked, WorkTold, CellsAsked, CellsTold};
+ghost use Rattle.table.specs.LineValues.{ValuesAsked, WorkTold};
 ghost use Rattle.table.specs.LineRows.{RowsAsked, RowsTold};
 
 // ---- working
@@ -51,17 +49,6 @@ pub fn sum_line_works(numbers: &[i64], count: usize, values: &[i64]) -> Worked
     ensures { λ r. ⌜ ((next : ℤ) → WorkTold sum (now (numbers .entry)) count (now (values .entry)) next r) ⌝ }
 {
     Worked::Value(sum_works(numbers, count, values))
-}
-
-// ---- cells
-
-// The line's value stands in values: it is not added up again.
-pub fn sum_line_cells(p: u32, values: &[i64], known: usize, part: &mut [u32])
-    requires { ⌜ ((numbers : List ℤ) × (count : ℕ) × CellsAsked p sum numbers count (now values) known (now part)) ⌝ }
-    ensures { λ _. ⌜ ((numbers : List ℤ) (count : ℕ)
-        → CellsTold p sum numbers count (now (values .entry)) known (now (part .entry)) (now (part .exit))) ⌝ }
-{
-    value_cell(part, p, values[known]);
 }
 
 // ---- rows

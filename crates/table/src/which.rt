@@ -5,29 +5,27 @@ use groups::named::two_places;
 use groups::named::two_values;
 use groups::rows::Rows;
 use groups::rows::residue_at;
-use groups::sign::sign_cells;
 use groups::sign::sign_rows;
 use groups::sign::sign_works;
+use groups::sign::signed_cells;
 use groups::sign::top_part;
 use groups::value::Worked;
-use groups::value::value_cell;
 use number::Cell;
 use number::Residue;
 use number::residue::difference;
 use number::residue::sum;
 ghost use mathlib.Core.Path.{_≡_};
 ghost use mathlib.Core.Bool.{cond};
-ghost use mathlib.Core.List.{[], _∷_, _++_};
+ghost use mathlib.Core.List.{[], _∷_};
 ghost use Prim.Native.Nat.{ℕ, _+_, _^_, _≤_, _<_};
 ghost use lib.IntN.{_-ℤ_, ℤ};
-ghost use lib.ListN.{length, drop};
+ghost use lib.ListN.{length};
 ghost use Rattle.algebra.specs.Digits.{Below};
-ghost use Rattle.meaning.specs.Number.{remainder, OddPrime};
 ghost use Rattle.meaning.specs.Word.{which};
 ghost use Rattle.meaning.specs.Known.{Known, placeOf};
 ghost use Rattle.meaning.specs.Row.{holds};
 ghost use Rattle.meaning.specs.Refusal.{value, refusedBy};
-ghost use Rattle.meaning.specs.Gadget.Sign.{signStatement, signCells};
+ghost use Rattle.meaning.specs.Gadget.Sign.{signStatement};
 ghost use Rattle.meaning.specs.Gadget.Which.{whichValue, whichLine};
 ghost use Rattle.number.specs.Bounded.{Bounded};
 ghost use Rattle.groups.specs.Cells.{workedSeen, GroupOf, powerBound, valueBound};
@@ -58,37 +56,23 @@ pub fn which_line_works(numbers: &[i64], values: &[i64]) -> Worked
     requires { ⌜ ValuesAsked which (now numbers) 4 (now values) ⌝ }
     ensures { λ r. ⌜ ((next : ℤ) → WorkTold which (now (numbers .entry)) 4 (now (values .entry)) next r) ⌝ }
 {
-    let named = two_values(numbers, values);
-    let c = power_of(named.base, named.count);
-    which_works(named.first, named.second, named.base, c)
+    let read = two_values(numbers, values);
+    let c = power_of(read.base, read.count);
+    which_works(read.first, read.second, read.base, c)
 }
 
 // ---- cells
-
-fn which_cells(out: &mut [u32], p: u32, u: i64, v: i64, b: u32, k: usize, c: u64)
-    requires { ⌜ OddPrime p × GroupOf b k c × (k + 3 ≤ length (now out)) × Bounded valueBound u × Bounded valueBound v ⌝ }
-    ensures { λ _. ⌜ now (out .exit) ≡ (remainder p (whichValue u v) ∷ signCells p b k (u -ℤ v)) ++ drop (k + 3) (now (out .entry)) ⌝ }
-{
-    value_cell(out, p, which_value(u, v));
-    sign_cells(&mut out[1..], p, u - v, b, k, c);
-}
 
 pub fn which_line_cells(numbers: &[i64], p: u32, values: &[i64], part: &mut [u32])
     requires { ⌜ ((known : ℕ) × CellsAsked p which (now numbers) 4 (now values) known (now part)) ⌝ }
     ensures { λ _. ⌜ ((known : ℕ)
         → CellsTold p which (now (numbers .entry)) 4 (now (values .entry)) known (now (part .entry)) (now (part .exit))) ⌝ }
 {
-    let named = two_values(numbers, values);
-    let c = power_of(named.base, named.count);
-    which_cells(
-        part,
-        p,
-        named.first,
-        named.second,
-        named.base,
-        named.count,
-        c,
-    );
+    let read = two_values(numbers, values);
+    let c = power_of(read.base, read.count);
+    let y = which_value(read.first, read.second);
+    let x = read.first - read.second;
+    signed_cells(part, p, y, x, read.base, read.count, c);
 }
 
 // ---- rows
@@ -119,14 +103,6 @@ pub fn which_line_rows(numbers: &[i64], table: &[u32], p: u32, at: Cell, places:
     requires { ⌜ RowsAsked p which (now numbers) 4 (now table) (at .0) (now places) ⌝ }
     ensures { λ r. ⌜ RowsTold p which (now (numbers .entry)) 4 (now (table .entry)) (at .0) (now (places .entry)) r ⌝ }
 {
-    let named = two_places(numbers, places);
-    which_rows(
-        table,
-        p,
-        named.first,
-        named.second,
-        at,
-        named.base,
-        named.count,
-    )
+    let read = two_places(numbers, places);
+    which_rows(table, p, read.first, read.second, at, read.base, read.count)
 }

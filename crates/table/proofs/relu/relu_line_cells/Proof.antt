@@ -1,5 +1,12 @@
--- `table::relu::relu_line_cells`: the line's numbers are what `relu_cells` takes.
+-- `table::relu::relu_line_cells`: the line's numbers are what `signed_cells` takes.
+use lib.Dec.{lit≤}
+use mir.Syntax.{w64}
+use mir.Val.{SFits}
 use Rattle.meaning.specs.Gadget.Relu.{reluLine}
+use Rattle.number.specs.Bounded.{Bounded}
+use Rattle.number.proofs.Word.{back}
+use Rattle.number.proofs.Bounded.{bounded-more}
+use Rattle.groups.specs.Cells.{powerBound}
 use Rattle.groups.proofs.ReadValues.{one-handed}
 use Rattle.table.proofs.LineKinds.{relu-word}
 use Rattle.table.proofs.LineValues.{one-asked, group-power}
@@ -8,18 +15,23 @@ use borrow.Author.Needs.{needs}
 use Rattle.table.proofs.relu.relu_line_cells.Statement.{statement}
 use Rattle.table.proofs.relu.relu_line_cells.Tie as tie
 
-relu-cells-requires : tie.Need-relu-cells-requires
+signed-cells-requires : tie.Need-signed-cells-requires
 unfolding reluLine
-relu-cells-requires c κs =
-    let values = c .before .before .before in
-    let group = group-power (values .one-value .ensures .digits .group) (c .before .before .power-of .ensures) in
-    let known = one-writes (values .before .before .pre .1) (relu-word _) (values .one-value .ensures) in
+signed-cells-requires c κs =
+    let power = c .before .before .before .before in
+    let one = power .before .one-value .ensures in
+    let group = group-power (one .digits .group) (power .power-of .ensures) in
+    let known = one-writes (power .before .before .before .pre .1) (relu-word _) one in
+    let small : Bounded powerBound _ = bounded-more (one .small) (lit≤ tt) in
     search needs
 
 returns : tie.Need-returns
 returns c known =
     let last = c .before .before in
-    relu-cells-told (one-handed (last .before .before .before .before .one-value .ensures)) (last .relu-cells .ensures)
+    let value = last .before .before .before in
+    let f : SFits w64 (value .relu-value .result) = search needs in
+    relu-cells-told (one-handed (value .before .before .before .one-value .ensures))
+    (rw (back f, value .relu-value .ensures) at (last .signed-cells .ensures))
 
 pub relu-line-cells-spec : {M : Type 1} → statement M
 relu-line-cells-spec =
@@ -27,6 +39,7 @@ relu-line-cells-spec =
     (tie.spec
     (λ c κs. one-asked (c .before .pre .1 .asked) (relu-word _))
     (λ c κs. search needs)
-    relu-cells-requires
+    (λ c κs. search needs)
+    signed-cells-requires
     (λ c. search needs)
     returns)

@@ -1,5 +1,9 @@
--- `table::which::which_line_cells`: the line's numbers are what `which_cells` takes.
+-- `table::which::which_line_cells`: the line's numbers are what `signed_cells` takes.
+use mir.Syntax.{w64}
+use mir.Val.{SFits}
 use Rattle.meaning.specs.Gadget.Which.{whichLine}
+use Rattle.number.proofs.Word.{back}
+use Rattle.number.proofs.Bounded.{bounded-difference, difference-fits}
 use Rattle.groups.proofs.ReadValues.{two-handed}
 use Rattle.table.proofs.LineKinds.{which-word}
 use Rattle.table.proofs.LineValues.{two-asked, group-power}
@@ -8,18 +12,27 @@ use borrow.Author.Needs.{needs}
 use Rattle.table.proofs.which.which_line_cells.Statement.{statement}
 use Rattle.table.proofs.which.which_line_cells.Tie as tie
 
-which-cells-requires : tie.Need-which-cells-requires
+sub-x : tie.Need-sub-x
+sub-x c =
+    let two = two-handed (c .before .before .before .before .before .before .two-values .ensures) in
+    difference-fits _ _ (two .first-small) (two .second-small) tt
+
+signed-cells-requires : tie.Need-signed-cells-requires
 unfolding whichLine
-which-cells-requires c κs =
-    let values = c .before .before .before .before in
-    let group = group-power (values .two-values .ensures .digits .group) (c .before .before .before .power-of .ensures) in
-    let known = two-writes (values .before .before .pre .1) (which-word _) (values .two-values .ensures) in
-    search needs
+signed-cells-requires c κs =
+    let power = c .before .before .before .before .before .before in
+    let two = two-handed (power .before .two-values .ensures) in
+    let known = two-writes (power .before .before .before .pre .1) (which-word _) two in
+    let group = group-power (two .digits .group) (power .power-of .ensures) in
+    (known .0, group, search needs, rw (back (sub-x (c .before))) (bounded-difference (two .first-small) (two .second-small)))
 
 returns : tie.Need-returns
 returns c known =
     let last = c .before .before in
-    which-cells-told (two-handed (last .before .before .before .before .before .two-values .ensures)) (last .which-cells .ensures)
+    let value = last .before .before .before .before in
+    let f : SFits w64 (value .which-value .result) = search needs in
+    which-cells-told (two-handed (value .before .before .before .before .two-values .ensures))
+    (rw (back f, value .which-value .ensures, back (sub-x (last .before .before))) at (last .signed-cells .ensures))
 
 pub which-line-cells-spec : {M : Type 1} → statement M
 which-line-cells-spec =
@@ -27,6 +40,8 @@ which-line-cells-spec =
     (tie.spec
     (λ c κs. two-asked (c .before .pre .1 .asked) (which-word _))
     (λ c κs. search needs)
-    which-cells-requires
+    (λ c κs. search needs)
+    sub-x
+    signed-cells-requires
     (λ c. search needs)
     returns)
