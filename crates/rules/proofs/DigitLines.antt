@@ -4,15 +4,15 @@ use mathlib.Core.Path.{_≡_, refl, sym, _∙_, ap}
 use mathlib.Core.Logic.{_⊎_, inl, inr}
 use mathlib.Core.Bool.{Bool, true, false, cond, _&&_}
 use mathlib.Core.List.{List, [], _∷_}
-use Prim.Native.Nat.{ℕ, zero, suc, _+_, _*_, _^_, _<_}
+use Prim.Native.Nat.{ℕ, zero, suc, _+_, _*_, _≤_, _<_}
 use native.Mathlib.Omega.{arith}
 use lib.ListN.{length, getD, take}
 use lib.Seq.{getD-take}
 use lib.IntN.{ℤ, pos, natAbs}
 use Rattle.meaning.specs.Number.{inRange}
 use Rattle.meaning.specs.Word.{Word, span, relu, which, max, root, numberAt, sizeAt, digitsAt, kindOf}
-use Rattle.meaning.specs.Known.{Known, Ends, ends, endsOf, larger, apart, above, digitRule}
-use Rattle.meaning.specs.Gadget.Sign.{signShift}
+use Rattle.meaning.specs.Known.{Known, Ends, endsOf}
+use Rattle.meaning.specs.Gadget.Interface.{Gadget}
 use Rattle.meaning.specs.Gadget.Span.{shared, spanLine}
 use Rattle.meaning.specs.Gadget.Relu.{reluLine}
 use Rattle.meaning.specs.Gadget.Which.{whichLine}
@@ -22,35 +22,55 @@ use Rattle.meaning.specs.Meaning.{gadget}
 use Rattle.meaning.specs.Refusal.{all, isRanged, isMade, isDigits}
 use Rattle.rules.specs.declared.rule.Begun.{Begun}
 use Rattle.rules.specs.declared.rule.Begun.the-variants.{Digits, Stops}
-use Rattle.rules.specs.declared.rule.Ends.{Ends as ReadEnds}
 use Rattle.rules.specs.Ready.{Ready, Seen}
-use Rattle.rules.specs.Told.{refuses, makes, toldOf, spanTold, lineWith}
-use Rattle.rules.specs.Rule.{begun, begunUnless, earlyBroken, endsSeen, EndsRead, rootTold, sharedTold}
-use Rattle.rules.proofs.Tests.{and-true, both-true}
-use Rattle.rules.proofs.Digits.{Read, digits-allowed}
-use Rattle.rules.proofs.Values.{known-count, ends-known}
+use Rattle.rules.specs.Told.{refuses, toldOf, spanTold, lineWith}
+use Rattle.rules.specs.Rule.{begun, begunUnless, earlyBroken}
+use Rattle.rules.proofs.Tests.{and-true}
+use Rattle.rules.proofs.Digits.{digits-allowed}
+use Rattle.rules.proofs.Values.{known-count}
 use Rattle.rules.proofs.Rules.{late, toldWith, areNamed, told-6, told-early, told-late, early-named}
 
--- what `begin_line` says of the base and the digit count at a place, with what else rule 6 asks and the first broken of the rules 7 to 9
-abbrev pub begunAt : List ℤ → (at : ℕ) (ranged named : Bool) (values new cells each more : ℕ) → Begun
-begunAt ns at ranged named values new cells each more =
-    begun (getD ns at (pos 0)) (getD ns (at + 1) (pos 0)) ranged (earlyBroken named values new cells (each * natAbs (getD ns (at + 1) (pos 0)) + more))
+-- a kind of line: its word, how many numbers it has and where its base stands; what else rule 6 asks of it, and how its names are tested; how many
+-- values it makes and how its cells are counted; and its gadget, by its base and its digit count
+pub record Layout : Type 0 where
+  pub word : Word
+  pub count : ℕ
+  pub at : ℕ
+  pub ranged : ℕ → List ℤ → Bool
+  pub named : ℕ → List ℤ → Bool
+  pub new : ℕ
+  pub each : ℕ
+  pub more : ℕ
+  pub line : Known → List ℤ → (b k : ℕ) → Gadget
 
--- a word's line has so many numbers, its base at a place and its digit count after it; what else rule 6 asks of it, how its names are
--- tested, how many values it makes and how its cells are counted
-pub record Shape (w : Word) (count at : ℕ) (ranged : ℕ → List ℤ → Bool) (named : ℕ → List ℤ → Bool) (new each more : ℕ) : Type 0 where
-  pub plain : kindOf w .isField ≡ false
-  pub ranges : (p : ℕ) (ns : List ℤ) → isRanged p w (take count ns) ≡ isDigits (record { b = getD ns at (pos 0); k = getD ns (at + 1) (pos 0) }) && ranged p ns
-  pub names : (n : ℕ) (ns : List ℤ) → all (isMade n) (kindOf w .names (take count ns)) ≡ named n ns
-  pub makes-so-many : (s : Known) (ns : List ℤ) → length (kindOf w .gadget s ns .made) ≡ new
-  pub cells : (s : Known) (ns : List ℤ) → kindOf w .gadget s (take count ns) .width ≡ each * natAbs (getD ns (at + 1) (pos 0)) + more
+-- and that the definitions have it so
+pub record Shape (K : Layout) : Type 0 where
+  pub plain : kindOf (K .word) .isField ≡ false
+  pub ranges : (p : ℕ) (ns : List ℤ) → isRanged p (K .word) (take (K .count) ns)
+      ≡ isDigits (record { b = getD ns (K .at) (pos 0); k = getD ns (K .at + 1) (pos 0) }) && K .ranged p ns
+  pub names : (n : ℕ) (ns : List ℤ) → all (isMade n) (kindOf (K .word) .names (take (K .count) ns)) ≡ K .named n ns
+  pub is : (s : Known) (ns : List ℤ) → kindOf (K .word) .gadget s (take (K .count) ns) ≡ K .line s ns (natAbs (getD ns (K .at) (pos 0))) (natAbs (getD ns (K .at + 1) (pos 0)))
+  pub makes-so-many : (s : Known) (ns : List ℤ) (b k : ℕ) → length (K .line s ns b k .made) ≡ K .new
+  pub cells : (s : Known) (ns : List ℤ) (b k : ℕ) → K .line s ns b k .width ≡ K .each * k + K .more
 
--- a line that begins well: its base and its digit count, and that its names are made
-pub record Begins (x y : ℤ) (named : Bool) (b k : ℕ) : Type 0 where
-  pub read : Read x y b k
-  pub are-made : named ≡ true
+-- what `begin_line` answers for a line of that kind
+pub record BegunBy (K : Layout) (p values cells : ℕ) (ns : List ℤ) (r : Begun) : Type 0 where
+  pub answer : r ≡ begun (getD ns (K .at) (pos 0)) (getD ns (K .at + 1) (pos 0)) (K .ranged p ns)
+      (earlyBroken (K .named values ns) values (K .new) cells (K .each * natAbs (getD ns (K .at + 1) (pos 0)) + K .more))
 
-module _ (x y : ℤ) (ranged named : Bool) (values new cells width : ℕ) where
+-- such a line begins well: its base and its digit count, and that its names are made
+pub record Begins (K : Layout) (values : ℕ) (ns : List ℤ) (b k : ℕ) : Type 0 where
+  pub base-is : b ≡ natAbs (getD ns (K .at) (pos 0))
+  pub count-is : k ≡ natAbs (getD ns (K .at + 1) (pos 0))
+  pub base-one : 1 ≤ b
+  pub count-one : 1 ≤ k
+  pub are-made : K .named values ns ≡ true
+
+abbrev tested : ℤ → ℤ → Bool
+tested x y = isDigits (record { b = x; k = y })
+
+-- a line stops by rule 6, or by the first broken of the rules 7 to 9, and goes on where it breaks none of them
+module _ (x y : ℤ) where
   stops-by : (d r : Bool) (e n : ℕ) → Stops n ≡ cond (d && r) (begunUnless e (natAbs x) (natAbs y)) (Stops 6)
       → ((d && r ≡ false) × (n ≡ 6)) ⊎ ((d && r ≡ true) × (n ≡ e) × (e ≡ 0 → ⊥))
   unfolding begunUnless
@@ -59,296 +79,218 @@ module _ (x y : ℤ) (ranged named : Bool) (values new cells width : ℕ) where
   stops-by true false e n q = inl (refl, cc)
   stops-by false r e n q = inl (refl, cc)
 
-  digits-by : (d r : Bool) (e b k : ℕ) → Digits b k ≡ cond (d && r) (begunUnless e (natAbs x) (natAbs y)) (Stops 6)
+  goes-by : (d r : Bool) (e b k : ℕ) → Digits b k ≡ cond (d && r) (begunUnless e (natAbs x) (natAbs y)) (Stops 6)
       → (d ≡ true) × (d && r ≡ true) × (e ≡ 0) × (b ≡ natAbs x) × (k ≡ natAbs y)
   unfolding begunUnless
-  digits-by true true zero b k q = (refl, refl, refl, cc, cc)
-  digits-by true true (suc e) b k q = let z : _≡_ {A = ℕ} 0 1 = cc in absurd (omega arith)
-  digits-by true false e b k q = let z : _≡_ {A = ℕ} 0 1 = cc in absurd (omega arith)
-  digits-by false r e b k q = let z : _≡_ {A = ℕ} 0 1 = cc in absurd (omega arith)
+  goes-by true true zero b k q = (refl, refl, refl, cc, cc)
+  goes-by true true (suc e) b k q = let z : _≡_ {A = ℕ} 0 1 = cc in absurd (omega arith)
+  goes-by true false e b k q = let z : _≡_ {A = ℕ} 0 1 = cc in absurd (omega arith)
+  goes-by false r e b k q = let z : _≡_ {A = ℕ} 0 1 = cc in absurd (omega arith)
 
-  abbrev tested : Bool
-  tested = isDigits (record { b = x; k = y })
-
-  abbrev early : ℕ
-  early = earlyBroken named values new cells width
-
-  stops : (n : ℕ) → Stops n ≡ begun x y ranged early → ((tested && ranged ≡ false) × (n ≡ 6)) ⊎ ((tested && ranged ≡ true) × (n ≡ early) × (early ≡ 0 → ⊥))
+  stops : (ranged : Bool) (early n : ℕ) → Stops n ≡ begun x y ranged early → ((tested x y && ranged ≡ false) × (n ≡ 6)) ⊎ ((tested x y && ranged ≡ true) × (n ≡ early) × (early ≡ 0 → ⊥))
   unfolding begun
-  stops n q = stops-by tested ranged early n q
+  stops ranged early n q = stops-by (tested x y) ranged early n q
 
-  goes : (b k : ℕ) → Digits b k ≡ begun x y ranged early → (tested ≡ true) × (tested && ranged ≡ true) × (early ≡ 0) × (b ≡ natAbs x) × (k ≡ natAbs y)
+  goes : (ranged : Bool) (early b k : ℕ) → Digits b k ≡ begun x y ranged early → (tested x y ≡ true) × (tested x y && ranged ≡ true) × (early ≡ 0) × (b ≡ natAbs x) × (k ≡ natAbs y)
   unfolding begun
-  goes b k q = digits-by tested ranged early b k q
+  goes ranged early b k q = goes-by (tested x y) ranged early b k q
 
-  pub begins : (b k : ℕ) → Digits b k ≡ begun x y ranged early → Begins x y named b k
-  begins b k q =
-      let g = goes b k q in
-      let a = digits-allowed x y (g .0) in
-      record {
-        read = record { digits = g .0; base-is = g .3; count-is = g .4; base-two = omega (arith, a .base, g .3); count-one = omega (arith, a .one, g .4); count-most = omega (arith, a .most, g .4) };
-        are-made = early-named named values new cells width refl (g .2);
-      }
-
-module _ {w : Word} {count at : ℕ} {ranged named : ℕ → List ℤ → Bool} {new each more : ℕ} (shape : Shape w count at ranged named new each more)
-    {p values cells : ℕ} {lows highs : List ℤ} (ready : Ready p values cells lows highs) (numbers : List ℤ)
-    {s : Known} (seen : Seen s p values cells lows highs) (es : List Ends) where
+module _ {K : Layout} {p values cells : ℕ} {numbers : List ℤ} {r : Begun} (told : BegunBy K p values cells numbers r) where
   abbrev x : ℤ
-  x = getD numbers at (pos 0)
+  x = getD numbers (K .at) (pos 0)
 
   abbrev y : ℤ
-  y = getD numbers (at + 1) (pos 0)
+  y = getD numbers (K .at + 1) (pos 0)
 
   abbrev width : ℕ
-  width = each * natAbs y + more
+  width = K .each * natAbs y + K .more
 
-  ranged-is : isRanged (s .p) w (take count numbers) ≡ isDigits (record { b = x; k = y }) && ranged p numbers
-  ranged-is = rw (seen .prime) (shape .ranges p numbers)
+  abbrev early : ℕ
+  early = earlyBroken (K .named values numbers) values (K .new) cells width
 
-  early-is : earlyBroken (named values numbers) values new cells width ≡ earlyBroken (areNamed s w (take count numbers)) (length (s .known))
-      (length (kindOf w .gadget s (take count numbers) .made)) (s .cells) (kindOf w .gadget s (take count numbers) .width)
-  early-is = rw (shape .makes-so-many s (take count numbers), shape .cells s numbers, known-count ready seen, seen .cells-are, shape .names values numbers) refl
+  abbrev line : List ℤ
+  line = take (K .count) numbers
 
-  pub digits-stop : {n : ℕ} → Stops n ≡ begunAt numbers at (ranged p numbers) (named values numbers) values new cells each more
-      → toldWith s (lineWith w (take count numbers)) es ≡ refuses n
-  digits-stop {n} q = by (stops x y (ranged p numbers) (named values numbers) values new cells width n q)
-    where
-      by : ((isDigits (record { b = x; k = y }) && ranged p numbers ≡ false) × (n ≡ 6))
-          ⊎ ((isDigits (record { b = x; k = y }) && ranged p numbers ≡ true) × (n ≡ earlyBroken (named values numbers) values new cells width)
-          × (earlyBroken (named values numbers) values new cells width ≡ 0 → ⊥))
-          → toldWith s (lineWith w (take count numbers)) es ≡ refuses n
-      by (inl (out, six)) = told-6 s w (take count numbers) es (shape .plain) (ranged-is ∙ out) ∙ ap refuses (sym six)
-      by (inr (inside, is, some-broken)) =
-          told-early s w (take count numbers) es (shape .plain) (ranged-is ∙ inside) (is ∙ early-is) (λ z. some-broken (sym is ∙ z))
+  goes-so : {b k : ℕ} → r ≡ Digits b k
+      → (tested x y ≡ true) × (tested x y && K .ranged p numbers ≡ true) × (early ≡ 0) × (b ≡ natAbs x) × (k ≡ natAbs y)
+  goes-so {b} {k} q = goes x y (K .ranged p numbers) early b k (sym q ∙ told .answer)
 
-  pub digits-go : {b k : ℕ} → Digits b k ≡ begunAt numbers at (ranged p numbers) (named values numbers) values new cells each more
-      → toldWith s (lineWith w (take count numbers)) es ≡ late (kindOf w .gadget s (take count numbers)) es
-  digits-go {b} {k} q =
-      let g = goes x y (ranged p numbers) (named values numbers) values new cells width b k q in
-      told-late s w (take count numbers) es (shape .plain) (ranged-is ∙ g .1) {n = 0} (sym (g .2) ∙ early-is) refl
+  pub begins : {b k : ℕ} → r ≡ Digits b k → Begins K values numbers b k
+  begins q =
+      let g = goes-so q in
+      let a = digits-allowed x y (g .0) in
+      record {
+        base-is = g .3;
+        count-is = g .4;
+        base-one = omega (arith, a .base, g .3);
+        count-one = omega (arith, a .one, g .4);
+        are-made = early-named (K .named values numbers) values (K .new) cells width refl (g .2);
+      }
 
--- ---- the shapes
+  module _ (shape : Shape K) {lows highs : List ℤ} (ready : Ready p values cells lows highs) {s : Known} (seen : Seen s p values cells lows highs) where
+    ranged-is : isRanged (s .p) (K .word) line ≡ tested x y && K .ranged p numbers
+    ranged-is = rw (seen .prime) (shape .ranges p numbers)
+
+    early-is : early ≡ earlyBroken (areNamed s (K .word) line) (length (s .known))
+        (length (kindOf (K .word) .gadget s line .made)) (s .cells) (kindOf (K .word) .gadget s line .width)
+    early-is = rw (shape .is s numbers, shape .makes-so-many s numbers (natAbs x) (natAbs y), shape .cells s numbers (natAbs x) (natAbs y), known-count ready seen, seen .cells-are, shape .names values numbers) refl
+
+    -- over any ends that are told where no rule is broken
+    module _ (es : List Ends) where
+      stops-with : {n : ℕ} → r ≡ Stops n → refuses n ≡ toldWith s (lineWith (K .word) line) es
+      stops-with {n} q = by (stops x y (K .ranged p numbers) early n (sym q ∙ told .answer))
+        where
+          by : ((tested x y && K .ranged p numbers ≡ false) × (n ≡ 6)) ⊎ ((tested x y && K .ranged p numbers ≡ true) × (n ≡ early) × (early ≡ 0 → ⊥))
+              → refuses n ≡ toldWith s (lineWith (K .word) line) es
+          by (inl (out, six)) = sym (told-6 s (K .word) line es (shape .plain) (ranged-is ∙ out) ∙ ap refuses (sym six))
+          by (inr (inside, is, some-broken)) =
+              sym (told-early s (K .word) line es (shape .plain) (ranged-is ∙ inside) (is ∙ early-is) (λ z. some-broken (sym is ∙ z)))
+
+      goes-with : {b k : ℕ} → r ≡ Digits b k → toldWith s (lineWith (K .word) line) es ≡ late (K .line s numbers b k) es
+      goes-with q =
+          let g = goes-so q in
+          told-late s (K .word) line es (shape .plain) (ranged-is ∙ g .1) {n = 0} (sym (g .2) ∙ early-is) refl
+          ∙ rw (shape .is s numbers, ← g .3, ← g .4)
+
+    pub digits-stop : {n : ℕ} → r ≡ Stops n → refuses n ≡ toldOf s (lineWith (K .word) line)
+    unfolding toldOf gadget
+    digits-stop q = stops-with (kindOf (K .word) .gadget s line .made) q
+
+    pub digits-late : {b k : ℕ} → r ≡ Digits b k → toldOf s (lineWith (K .word) line) ≡ late (K .line s numbers b k) (K .line s numbers b k .made)
+    unfolding toldOf gadget
+    digits-late {b} {k} q =
+        let g = begins q in
+        goes-with (kindOf (K .word) .gadget s line .made) q ∙ rw (shape .is s numbers, ← g .base-is, ← g .count-is)
+
+-- ---- the kinds
 
 pub number-taken : (count : ℕ) (ns : List ℤ) (i : ℕ) → i < count → numberAt (take count ns) i ≡ getD ns i (pos 0)
 unfolding numberAt
 number-taken count ns i h = getD-take count ns i (pos 0) h
 
-pub size-taken : (count : ℕ) (ns : List ℤ) (i : ℕ) → i < count → sizeAt (take count ns) i ≡ natAbs (getD ns i (pos 0))
+size-taken : (count : ℕ) (ns : List ℤ) (i : ℕ) → i < count → sizeAt (take count ns) i ≡ natAbs (getD ns i (pos 0))
 unfolding sizeAt
 size-taken count ns i h = ap natAbs (number-taken count ns i h)
 
 -- nothing else is asked by rule 6
-abbrev pub always : ℕ → List ℤ → Bool
+abbrev always : ℕ → List ℤ → Bool
 always p ns = true
 
 -- the shift of a span
-abbrev pub shiftRanged : ℕ → List ℤ → Bool
+abbrev shiftRanged : ℕ → List ℤ → Bool
 shiftRanged p ns = inRange p (getD ns 3 (pos 0))
 
-abbrev pub oneName : ℕ → List ℤ → Bool
+abbrev oneName : ℕ → List ℤ → Bool
 oneName n ns = isMade n (getD ns 0 (pos 0))
 
-abbrev pub twoNames : ℕ → List ℤ → Bool
+abbrev twoNames : ℕ → List ℤ → Bool
 twoNames n ns = isMade n (getD ns 0 (pos 0)) && isMade n (getD ns 1 (pos 0))
 
-pub two-made : (n : ℕ) (ns : List ℤ) → twoNames n ns ≡ true → (isMade n (getD ns 0 (pos 0)) ≡ true) × (isMade n (getD ns 1 (pos 0)) ≡ true)
-two-made n ns e = both-true (isMade n (getD ns 0 (pos 0))) (isMade n (getD ns 1 (pos 0))) e
+-- the number that a line's place names a value by
+abbrev nameAt : List ℤ → ℕ → ℕ
+nameAt ns i = natAbs (getD ns i (pos 0))
 
-pub relu-shape : Shape relu 3 1 always oneName 1 1 3
-unfolding kindOf isRanged all digitsAt reluLine
+abbrev pub reluLayout : Layout
+reluLayout = record { word = relu; count = 3; at = 1; ranged = always; named = oneName; new = 1; each = 1; more = 3; line = λ s ns b k. reluLine s (nameAt ns 0) b k }
+
+abbrev pub rootLayout : Layout
+rootLayout = record { word = root; count = 3; at = 1; ranged = always; named = oneName; new = 1; each = 4; more = 2; line = λ s ns b k. rootLine s (nameAt ns 0) b k }
+
+abbrev pub whichLayout : Layout
+whichLayout = record { word = which; count = 4; at = 2; ranged = always; named = twoNames; new = 1; each = 1; more = 3; line = λ s ns b k. whichLine s (nameAt ns 0) (nameAt ns 1) b k }
+
+abbrev pub maxLayout : Layout
+maxLayout = record { word = max; count = 4; at = 2; ranged = always; named = twoNames; new = 1; each = 2; more = 1; line = λ s ns b k. maxLine s (nameAt ns 0) (nameAt ns 1) b k }
+
+abbrev pub spanLayout : Layout
+spanLayout = record { word = span; count = 4; at = 1; ranged = shiftRanged; named = oneName; new = 0; each = 1; more = 0; line = λ s ns b k. spanLine s (nameAt ns 0) b k (getD ns 3 (pos 0)) }
+
+-- what the kinds with one name and those with two names have in common
+digits-taken : (count at : ℕ) → at + 1 < count → (ns : List ℤ) → all isDigits (digitsAt (take count ns) at) && true && true
+    ≡ isDigits (record { b = getD ns at (pos 0); k = getD ns (at + 1) (pos 0) }) && true
+unfolding all digitsAt
+digits-taken count at h ns = let next : suc at ≡ at + 1 = omega arith in rw (next, number-taken count ns at (omega arith), number-taken count ns (at + 1) h) (simp and-true)
+
+one-named : (count : ℕ) → 0 < count → (n : ℕ) (ns : List ℤ) → all (isMade n) (numberAt (take count ns) 0 ∷ []) ≡ oneName n ns
+unfolding all
+one-named count h n ns = rw (number-taken count ns 0 h) (simp and-true)
+
+two-named : (count : ℕ) → 1 < count → (n : ℕ) (ns : List ℤ) → all (isMade n) (numberAt (take count ns) 0 ∷ numberAt (take count ns) 1 ∷ []) ≡ twoNames n ns
+unfolding all
+two-named count h n ns = rw (number-taken count ns 0 (omega arith), number-taken count ns 1 h) (simp and-true)
+
+pub relu-shape : Shape reluLayout
+unfolding kindOf isRanged all reluLine
 relu-shape = record {
   plain = refl;
-  ranges = λ p ns. rw (number-taken 3 ns 1 (omega arith), number-taken 3 ns 2 (omega arith)) (simp and-true);
-  names = λ n ns. rw (number-taken 3 ns 0 (omega arith)) (simp and-true);
-  makes-so-many = λ s ns. refl;
-  cells = λ s ns. rw (size-taken 3 ns 2 (omega arith)) (omega arith);
+  ranges = λ p. digits-taken 3 1 (omega arith);
+  names = one-named 3 (omega arith);
+  is = λ s ns. rw (size-taken 3 ns 0 (omega arith), size-taken 3 ns 1 (omega arith), size-taken 3 ns 2 (omega arith));
+  makes-so-many = λ s ns b k. refl;
+  cells = λ s ns b k. omega arith;
 }
 
-pub root-shape : Shape root 3 1 always oneName 1 4 2
-unfolding kindOf isRanged all digitsAt rootLine
+pub root-shape : Shape rootLayout
+unfolding kindOf isRanged all rootLine
 root-shape = record {
   plain = refl;
-  ranges = λ p ns. rw (number-taken 3 ns 1 (omega arith), number-taken 3 ns 2 (omega arith)) (simp and-true);
-  names = λ n ns. rw (number-taken 3 ns 0 (omega arith)) (simp and-true);
-  makes-so-many = λ s ns. refl;
-  cells = λ s ns. rw (size-taken 3 ns 2 (omega arith)) (omega arith);
+  ranges = λ p. digits-taken 3 1 (omega arith);
+  names = one-named 3 (omega arith);
+  is = λ s ns. rw (size-taken 3 ns 0 (omega arith), size-taken 3 ns 1 (omega arith), size-taken 3 ns 2 (omega arith));
+  makes-so-many = λ s ns b k. refl;
+  cells = λ s ns b k. omega arith;
 }
 
-pub which-shape : Shape which 4 2 always twoNames 1 1 3
-unfolding kindOf isRanged all digitsAt whichLine
+pub which-shape : Shape whichLayout
+unfolding kindOf isRanged all whichLine
 which-shape = record {
   plain = refl;
-  ranges = λ p ns. rw (number-taken 4 ns 2 (omega arith), number-taken 4 ns 3 (omega arith)) (simp and-true);
-  names = λ n ns. rw (number-taken 4 ns 0 (omega arith), number-taken 4 ns 1 (omega arith)) (simp and-true);
-  makes-so-many = λ s ns. refl;
-  cells = λ s ns. rw (size-taken 4 ns 3 (omega arith)) (omega arith);
+  ranges = λ p. digits-taken 4 2 (omega arith);
+  names = two-named 4 (omega arith);
+  is = λ s ns. rw (size-taken 4 ns 0 (omega arith), size-taken 4 ns 1 (omega arith), size-taken 4 ns 2 (omega arith), size-taken 4 ns 3 (omega arith));
+  makes-so-many = λ s ns b k. refl;
+  cells = λ s ns b k. omega arith;
 }
 
-pub max-shape : Shape max 4 2 always twoNames 1 2 1
-unfolding kindOf isRanged all digitsAt maxLine
+pub max-shape : Shape maxLayout
+unfolding kindOf isRanged all maxLine
 max-shape = record {
   plain = refl;
-  ranges = λ p ns. rw (number-taken 4 ns 2 (omega arith), number-taken 4 ns 3 (omega arith)) (simp and-true);
-  names = λ n ns. rw (number-taken 4 ns 0 (omega arith), number-taken 4 ns 1 (omega arith)) (simp and-true);
-  makes-so-many = λ s ns. refl;
-  cells = λ s ns. rw (size-taken 4 ns 3 (omega arith)) (omega arith);
+  ranges = λ p. digits-taken 4 2 (omega arith);
+  names = two-named 4 (omega arith);
+  is = λ s ns. rw (size-taken 4 ns 0 (omega arith), size-taken 4 ns 1 (omega arith), size-taken 4 ns 2 (omega arith), size-taken 4 ns 3 (omega arith));
+  makes-so-many = λ s ns b k. refl;
+  cells = λ s ns b k. omega arith;
 }
 
-pub span-shape : Shape span 4 1 shiftRanged oneName 0 1 0
+span-shape : Shape spanLayout
 unfolding kindOf isRanged all digitsAt spanLine
 span-shape = record {
   plain = refl;
   ranges = λ p ns. rw (number-taken 4 ns 1 (omega arith), number-taken 4 ns 2 (omega arith), number-taken 4 ns 3 (omega arith)) (simp and-true);
-  names = λ n ns. rw (number-taken 4 ns 0 (omega arith)) (simp and-true);
-  makes-so-many = λ s ns. refl;
-  cells = λ s ns. rw (size-taken 4 ns 2 (omega arith)) (omega arith);
+  names = one-named 4 (omega arith);
+  is = λ s ns. rw (size-taken 4 ns 0 (omega arith), size-taken 4 ns 1 (omega arith), size-taken 4 ns 2 (omega arith), number-taken 4 ns 3 (omega arith));
+  makes-so-many = λ s ns b k. refl;
+  cells = λ s ns b k. omega arith;
 }
 
--- ---- what is told from rule 10 on
+-- ---- a span line, which makes no value: what is told of it are the new ends of its value
 
-relu-gadget : (s : Known) (v b k : ℕ) → late (reluLine s v b k) (reluLine s v b k .made)
-    ≡ cond (digitRule (s .p) b k (endsOf s v) (signShift b k)) (makes
-    (ends (larger (pos 0) (endsOf s v .E)) (larger (pos 0) (endsOf s v .F)) ∷ [])) (refuses 10)
-unfolding late reluLine
-relu-gadget s v b k = refl
-
-root-gadget : (s : Known) (v b k : ℕ) → late (rootLine s v b k) (rootLine s v b k .made) ≡ rootTold (s .p) (b ^ k)
-unfolding late rootLine rootTold
-root-gadget s v b k = refl
-
-which-gadget : (s : Known) (u v b k : ℕ) → late (whichLine s u v b k) (whichLine s u v b k .made)
-    ≡ cond (digitRule (s .p) b k (apart (endsOf s u) (endsOf s v)) (signShift b k)) (makes (ends (pos 0) (pos 1) ∷ [])) (refuses 10)
-unfolding late whichLine
-which-gadget s u v b k = refl
-
-max-gadget : (s : Known) (u v b k : ℕ) → late (maxLine s u v b k) (maxLine s u v b k .made)
-    ≡ cond (digitRule (s .p) b k (above (endsOf s u) (endsOf s v)) (pos 0) && digitRule (s .p) b k (above (endsOf s v) (endsOf s u))
-    (pos 0))
-    (makes (ends (larger (endsOf s u .E) (endsOf s v .E)) (larger (endsOf s u .F) (endsOf s v .F)) ∷ [])) (refuses 10)
-unfolding late maxLine
-max-gadget s u v b k = refl
-
-span-gadget : (s : Known) (v b k : ℕ) (L : ℤ) → late (spanLine s v b k L) (shared b k L (endsOf s v) ∷ [])
-    ≡ cond (digitRule (s .p) b k (endsOf s v) L) (sharedTold (shared b k L (endsOf s v))) (refuses 10)
-unfolding late spanLine sharedTold
-span-gadget s v b k L = refl
-
-module _ {p values cells : ℕ} {lows highs : List ℤ} (ready : Ready p values cells lows highs) (numbers : List ℤ)
-    {s : Known} (seen : Seen s p values cells lows highs) where
-  -- the new ends of a span's value, before the rules are looked at
+module _ {p values cells : ℕ} {numbers : List ℤ} {r : Begun} (told : BegunBy spanLayout p values cells numbers r)
+    {lows highs : List ℤ} (ready : Ready p values cells lows highs) {s : Known} (seen : Seen s p values cells lows highs) where
   abbrev newEnds : List Ends
   newEnds =
       let ns : List ℤ = take 4 numbers in
       shared (sizeAt ns 1) (sizeAt ns 2) (numberAt ns 3) (endsOf s (sizeAt ns 0)) ∷ []
 
-  pub span-stop : {n : ℕ} → Stops n ≡ begunAt numbers 1 (shiftRanged p numbers) (oneName values numbers) values 0 cells 1 0
-      → spanTold s (lineWith span (take 4 numbers)) ≡ refuses n
+  pub span-stop : {n : ℕ} → r ≡ Stops n → refuses n ≡ spanTold s (lineWith span (take 4 numbers))
   unfolding spanTold
-  span-stop q = digits-stop span-shape ready numbers seen newEnds q
+  span-stop q = stops-with told span-shape ready seen newEnds q
 
-  module _ {w : Word} {count at new each more : ℕ} {ranged named : ℕ → List ℤ → Bool} (shape : Shape w count at ranged named new each more) where
-    pub digits-told : {n : ℕ} → Stops n ≡ begunAt numbers at (ranged p numbers) (named values numbers) values new cells each more
-        → toldOf s (lineWith w (take count numbers)) ≡ refuses n
-    unfolding toldOf gadget
-    digits-told q = digits-stop shape ready numbers seen (kindOf w .gadget s (take count numbers) .made) q
-
-    digits-late : {b k : ℕ} → Digits b k ≡ begunAt numbers at (ranged p numbers) (named values numbers) values new cells each more
-        → toldOf s (lineWith w (take count numbers)) ≡ late (kindOf w .gadget s (take count numbers)) (kindOf w .gadget s (take count numbers) .made)
-    unfolding toldOf gadget
-    digits-late q = digits-go shape ready numbers seen (kindOf w .gadget s (take count numbers) .made) q
-
-  pub root-late : {b k : ℕ} → Digits b k ≡ begunAt numbers 1 true (oneName values numbers) values 1 cells 4 2 → toldOf s (lineWith root (take 3 numbers)) ≡ rootTold p (b ^ k)
-  unfolding kindOf
-  root-late q =
-      let r = begins _ _ _ _ _ _ _ _ _ _ q .read in
-      digits-late root-shape q
-      ∙ root-gadget s (sizeAt (take 3 numbers) 0) (sizeAt (take 3 numbers) 1) (sizeAt (take 3 numbers) 2)
-      ∙ rw (size-taken 3 numbers 1 (omega arith), size-taken 3 numbers 2 (omega arith), ← r .base-is, ← r .count-is, seen .prime)
-
-  module _ {e : ReadEnds} (read : EndsRead lows highs (getD numbers 0 (pos 0)) e) where
-    pub relu-late : {b k : ℕ} → Digits b k ≡ begunAt numbers 1 true (oneName values numbers) values 1 cells 1 3
-        → toldOf s (lineWith relu (take 3 numbers))
-        ≡ cond (digitRule p b k (endsSeen e) (signShift b k)) (makes (ends (larger (pos 0) (e .low)) (larger (pos 0) (e .high)) ∷ []))
-        (refuses 10)
-    unfolding kindOf endsSeen
-    relu-late q =
-        let g = begins _ _ _ _ _ _ _ _ _ _ q in
-        let r = g .read in
-        digits-late relu-shape q
-        ∙ relu-gadget s (sizeAt (take 3 numbers) 0) (sizeAt (take 3 numbers) 1) (sizeAt (take 3 numbers) 2)
-        ∙ rw (
-          size-taken 3 numbers 0 (omega arith),
-          size-taken 3 numbers 1 (omega arith),
-          size-taken 3 numbers 2 (omega arith),
-          ← r .base-is,
-          ← r .count-is,
-          ends-known ready seen (g .are-made) read,
-          seen .prime,
-        )
-
-    pub span-late : {b k : ℕ} → Digits b k ≡ begunAt numbers 1 (shiftRanged p numbers) (oneName values numbers) values 0 cells 1 0
-        → spanTold s (lineWith span (take 4 numbers))
-        ≡ cond (digitRule p b k (endsSeen e) (getD numbers 3 (pos 0))) (sharedTold (shared b k (getD numbers 3 (pos 0)) (endsSeen e)))
-        (refuses 10)
-    unfolding spanTold kindOf
-    span-late q =
-        let g = begins _ _ _ _ _ _ _ _ _ _ q in
-        let r = g .read in
-        digits-go span-shape ready numbers seen newEnds q
-        ∙ span-gadget s (sizeAt (take 4 numbers) 0) (sizeAt (take 4 numbers) 1) (sizeAt (take 4 numbers) 2) (numberAt (take 4 numbers) 3)
-        ∙ rw (
-          size-taken 4 numbers 0 (omega arith),
-          size-taken 4 numbers 1 (omega arith),
-          size-taken 4 numbers 2 (omega arith),
-          number-taken 4 numbers 3 (omega arith),
-          ← r .base-is,
-          ← r .count-is,
-          ends-known ready seen (g .are-made) read,
-          seen .prime,
-        )
-
-  module _ {u v : ReadEnds} (read-u : EndsRead lows highs (getD numbers 0 (pos 0)) u) (read-v : EndsRead lows highs (getD numbers 1 (pos 0)) v) where
-    pub which-late : {b k : ℕ} → Digits b k ≡ begunAt numbers 2 true (twoNames values numbers) values 1 cells 1 3
-        → toldOf s (lineWith which (take 4 numbers))
-        ≡ cond (digitRule p b k (apart (endsSeen u) (endsSeen v)) (signShift b k)) (makes (ends (pos 0) (pos 1) ∷ [])) (refuses 10)
-    unfolding kindOf
-    which-late q =
-        let g = begins _ _ _ _ _ _ _ _ _ _ q in
-        let r = g .read in
-        let made = two-made values numbers (g .are-made) in
-        digits-late which-shape q
-        ∙ which-gadget s (sizeAt (take 4 numbers) 0) (sizeAt (take 4 numbers) 1) (sizeAt (take 4 numbers) 2) (sizeAt (take 4 numbers) 3)
-        ∙ rw (
-          size-taken 4 numbers 0 (omega arith),
-          size-taken 4 numbers 1 (omega arith),
-          size-taken 4 numbers 2 (omega arith),
-          size-taken 4 numbers 3 (omega arith),
-          ← r .base-is,
-          ← r .count-is,
-          ends-known ready seen (made .0) read-u,
-          ends-known ready seen (made .1) read-v,
-          seen .prime,
-        )
-
-    pub max-late : {b k : ℕ} → Digits b k ≡ begunAt numbers 2 true (twoNames values numbers) values 1 cells 2 1
-        → toldOf s (lineWith max (take 4 numbers))
-        ≡ cond (digitRule p b k (above (endsSeen u) (endsSeen v)) (pos 0) && digitRule p b k (above (endsSeen v) (endsSeen u)) (pos 0))
-        (makes (ends (larger (u .low) (v .low)) (larger (u .high) (v .high)) ∷ [])) (refuses 10)
-    unfolding kindOf endsSeen
-    max-late q =
-        let g = begins _ _ _ _ _ _ _ _ _ _ q in
-        let r = g .read in
-        let made = two-made values numbers (g .are-made) in
-        digits-late max-shape q
-        ∙ max-gadget s (sizeAt (take 4 numbers) 0) (sizeAt (take 4 numbers) 1) (sizeAt (take 4 numbers) 2) (sizeAt (take 4 numbers) 3)
-        ∙ rw (
-          size-taken 4 numbers 0 (omega arith),
-          size-taken 4 numbers 1 (omega arith),
-          size-taken 4 numbers 2 (omega arith),
-          size-taken 4 numbers 3 (omega arith),
-          ← r .base-is,
-          ← r .count-is,
-          ends-known ready seen (made .0) read-u,
-          ends-known ready seen (made .1) read-v,
-          seen .prime,
-        )
+  pub span-late : {b k : ℕ} → r ≡ Digits b k → spanTold s (lineWith span (take 4 numbers))
+      ≡ late (spanLine s (nameAt numbers 0) b k (getD numbers 3 (pos 0))) (shared b k (getD numbers 3 (pos 0)) (endsOf s (nameAt numbers 0)) ∷ [])
+  unfolding spanTold
+  span-late q =
+      let g = begins told q in
+      goes-with told span-shape ready seen newEnds q
+      ∙ rw (size-taken 4 numbers 0 (omega arith), size-taken 4 numbers 1 (omega arith), size-taken 4 numbers 2 (omega arith), number-taken 4 numbers 3 (omega arith), ← g .base-is, ← g .count-is)

@@ -8,8 +8,8 @@ use Prim.Native.Nat.{ℕ, zero, suc, _+_, _-_, _*_, _^_, _≤_, _<_}
 use native.Mathlib.Omega.{arith}
 use native.Mathlib.Nat.{pow-zero, pow-suc, pow-le-pow-right, one-le-pow, mul-suc, mul-comm, mul-le-mul-left, mul-le-mul-right, one-mul, mul-one}
 use lib.Dec.{T, leb, leb→le}
-use lib.IntN.{ℤ, pos, negsuc, natAbs, _+ℤ_, _-ℤ_}
-use lib.Signed.{leZ, nonNeg}
+use lib.IntN.{ℤ, pos, negsuc, natAbs}
+use lib.Signed.{nonNeg}
 use mir.Syntax.{w64}
 use mir.Val.{Fits}
 use borrow.Author.Tests.{le-leb, lt-leb}
@@ -19,13 +19,14 @@ use Rattle.meaning.specs.Word.{Digits as Meant}
 use Rattle.meaning.specs.Known.{Ends, ends, digitRule, topPart}
 use Rattle.meaning.specs.Refusal.{value, refusedBy, isDigits}
 use Rattle.number.specs.Power.{cappedPower}
-use Rattle.number.specs.declared.power.Power.the-variants.{Of as PowerOf}
+use Rattle.number.specs.declared.power.Power.{Power as PowerRead}
+use Rattle.number.specs.declared.power.Power.the-variants.{Of as PowerOf, AboveCap}
 use Rattle.number.proofs.Word.{wide-product}
-use Rattle.number.proofs.CappedPower.{of-capped, power-one}
+use Rattle.number.proofs.CappedPower.{of-capped, above-capped, power-one}
 use Rattle.rules.specs.declared.rule.Digits.{Digits as DigitsRead}
 use Rattle.rules.specs.declared.rule.Digits.the-variants.{Of, NoDigits}
 use Rattle.rules.specs.Told.{refuses, makes}
-use Rattle.rules.specs.Rule.{digitsAllowed, digitsSeen, rootTold}
+use Rattle.rules.specs.Rule.{digitsAllowed, digitsSeen, narrow, rootTold}
 use Rattle.rules.proofs.Tests.{and-false}
 
 -- ---- what rule 6 says
@@ -92,24 +93,24 @@ pub record Power (p b k c : ℕ) : Type 0 where
   pub positive : 1 ≤ c
   pub within : c ≤ p
 
-pub power-read : (p b k : ℕ) {c : ℕ} → 1 ≤ b → PowerOf c ≡ cappedPower b k p → Power p b k c
-power-read p b k {c} h e =
-    let w = of-capped b k p c e in
-    let l : 1 ≤ b ^ k = one-le-pow k b (omega arith) in
-    record { power = w .0; positive = omega arith; within = omega arith }
+module _ (p b k : ℕ) {r : PowerRead} (told : r ≡ cappedPower b k p) where
+  pub power-above : r ≡ AboveCap → p < b ^ k
+  power-above q = above-capped b k p (sym q ∙ told)
+
+  pub power-within : {c : ℕ} → 1 ≤ b → r ≡ PowerOf c → Power p b k c
+  power-within {c} h q =
+      let w = of-capped b k p c (sym q ∙ told) in
+      let l : 1 ≤ b ^ k = one-le-pow k b (omega arith) in
+      record { power = w .0; positive = omega arith; within = omega arith }
 
 -- ---- the digit rule
-
--- what is left of it where c = b^k is at most p
-abbrev pub narrow : (p c : ℕ) (low high shift : ℤ) → Bool
-narrow p c low high shift = leZ (high -ℤ shift) (pos (p - 1)) && leZ (shift +ℤ pos (c - 1) -ℤ low) (pos (p - 1))
 
 module _ (p b k : ℕ) (es : Ends) (shift : ℤ) where
   pub rule-above : p < b ^ k → digitRule p b k es shift ≡ false
   unfolding digitRule
   rule-above h = rw (lt-leb (b ^ k) p h)
 
-  pub rule-within : {c : ℕ} → Power p b k c → digitRule p b k es shift ≡ narrow p c (es .E) (es .F) shift
+  pub rule-within : {c : ℕ} → Power p b k c → digitRule p b k es shift ≡ narrow p c es shift
   unfolding digitRule
   rule-within {c} r = let h : b ^ k ≤ p = omega (arith, r .power, r .within) in rw (r .power, le-leb (b ^ k) p h)
 

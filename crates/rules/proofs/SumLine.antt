@@ -21,7 +21,7 @@ use Rattle.rules.specs.declared.rule.Ends.{Ends as ReadEnds}
 use Rattle.rules.specs.Ready.{greatest, Ready, Seen}
 use Rattle.rules.specs.Told.{refuses, makes, toldOf, lineWith}
 use Rattle.rules.specs.Rule.{earlyBroken, endsSeen, EndsRead, BoundedEnds}
-use Rattle.rules.specs.Sum.{endsAt, sumTold, Scaled, Added}
+use Rattle.rules.specs.Sum.{endsAt, sumTold}
 use Rattle.rules.proofs.Tests.{both-true, made-name}
 use Rattle.rules.proofs.Values.{known-count, known-ends}
 use Rattle.rules.proofs.Rules.{late, areNamed, told-6, told-early, told-late, early-named}
@@ -82,12 +82,9 @@ module _ (f : ℤ → Bool) (numbers : List ℤ) (count i : ℕ) (enough : count
 
 -- ---- one term
 
-pub next-seen : {lows highs : List ℤ} {c z : ℤ} {value term before after : ReadEnds}
-    → EndsRead lows highs z value → Scaled c value term → Added before term after
-    → endsSeen after ≡ added (endsSeen before) (scaled c (endsAt lows highs (natAbs z)))
-unfolding endsSeen added scaled endsAt
-next-seen read times plus =
-    rw (plus .low-is, plus .high-is, times .low-is, times .high-is, read .low-read, read .high-read)
+pub read-at : {lows highs : List ℤ} {z : ℤ} {e : ReadEnds} → EndsRead lows highs z e → endsSeen e ≡ endsAt lows highs (natAbs z)
+unfolding endsSeen endsAt
+read-at read = rw (read .low-read, read .high-read)
 
 pub terms-at : (numbers : List ℤ) (count i : ℕ) → count ≤ length numbers → i + 1 < count → termsOf (drop i (take count numbers))
     ≡ record { coefficient = getD numbers i (pos 0); value = natAbs (getD numbers (i + 1) (pos 0)) } ∷ termsOf (drop (i + 2) (take count numbers))
@@ -137,8 +134,8 @@ range-small p x most within =
 pub range-sized : (p : ℕ) (e : ReadEnds) → p ≤ greatest → endsInRange p (endsSeen e) ≡ true → BoundedEnds greatest e
 unfolding endsInRange endsSeen
 range-sized p e most within =
-    let w = both-true (inRange p (e .low)) (inRange p (e .high)) within in
-    record { low-sized = range-small p (e .low) most (w .0); high-sized = range-small p (e .high) most (w .1) }
+    let w = both-true (inRange p (e .low .0)) (inRange p (e .high .0)) within in
+    record { low-sized = range-small p (e .low .0) most (w .0); high-sized = range-small p (e .high .0) most (w .1) }
 
 -- ---- the whole line
 

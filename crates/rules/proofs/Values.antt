@@ -7,12 +7,12 @@ use native.Mathlib.Omega.{arith}
 use lib.ListN.{length, getD, take}
 use lib.Seq.{length-take-le, getD-take}
 use lib.IntN.{ℤ, pos, natAbs}
-use Rattle.meaning.specs.Known.{Known, Ends, ends, endsOf, apart, above}
+use Rattle.meaning.specs.Known.{Known, Ends, ends, endsOf}
 use Rattle.meaning.specs.Refusal.{isMade}
 use Rattle.number.specs.Bounded.{Bounded}
 use Rattle.number.proofs.Bounded.{bounded-more}
 use Rattle.rules.specs.Ready.{endsFrom, greatest, Ready, Seen, greatestApart}
-use Rattle.rules.specs.Rule.{endsSeen, EndsRead, BoundedEnds, Apart, Above, Field}
+use Rattle.rules.specs.Rule.{endsSeen, EndsRead, BoundedEnds, Field}
 use Rattle.rules.specs.declared.rule.Ends.{Ends as ReadEnds}
 use Rattle.rules.proofs.Tests.{made-name}
 
@@ -69,10 +69,10 @@ module _ {p values cells : ℕ} {lows highs : List ℤ} (ready : Ready p values 
     ends-known {z} {e} made read = rw (known-ends (natAbs z) (made-name values z made .below), read .low-read, read .high-read)
 
   -- and they are small
-  low-small : {z : ℤ} {e : ReadEnds} → isMade values z ≡ true → EndsRead lows highs z e → Bounded greatest (e .low)
+  low-small : {z : ℤ} {e : ReadEnds} → isMade values z ≡ true → EndsRead lows highs z e → Bounded greatest (e .low .0)
   low-small {z} made read = record { size = rw (read .low-read) (ready .lows-small (natAbs z) (made-name values z made .below)) }
 
-  high-small : {z : ℤ} {e : ReadEnds} → isMade values z ≡ true → EndsRead lows highs z e → Bounded greatest (e .high)
+  high-small : {z : ℤ} {e : ReadEnds} → isMade values z ≡ true → EndsRead lows highs z e → Bounded greatest (e .high .0)
   high-small {z} made read = record { size = rw (read .high-read) (ready .highs-small (natAbs z) (made-name values z made .below)) }
 
   pub read-sized : {z : ℤ} {e : ReadEnds} → isMade values z ≡ true → EndsRead lows highs z e → BoundedEnds greatest e
@@ -90,14 +90,3 @@ sized-more small = record {
   high-sized = bounded-more (small .high-sized)
       (omega arith);
 }
-
--- ---- ends that are made of others
-
-module _ {u v r : ReadEnds} where
-  pub apart-seen : Apart u v r → endsSeen r ≡ apart (endsSeen u) (endsSeen v)
-  unfolding endsSeen apart
-  apart-seen a = rw (a .low-is, a .high-is)
-
-  pub above-seen : Above u v r → endsSeen r ≡ above (endsSeen u) (endsSeen v)
-  unfolding endsSeen above
-  above-seen a = rw (a .low-is, a .high-is)

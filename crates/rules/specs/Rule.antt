@@ -5,10 +5,10 @@ use mathlib.Core.List.{List, [], _∷_}
 use Prim.Native.Nat.{ℕ, zero, suc, _+_, _-_, _*_, _≤_}
 use lib.Dec.{leb}
 use lib.ListN.{getD}
-use lib.IntN.{ℤ, pos, natAbs, _-ℤ_}
+use lib.IntN.{ℤ, pos, natAbs, _+ℤ_, _-ℤ_}
 use lib.Signed.{leZ}
 use Rattle.meaning.specs.Word.{Digits as Meant}
-use Rattle.meaning.specs.Known.{ends, larger, smaller}
+use Rattle.meaning.specs.Known.{ends, larger}
 use Rattle.meaning.specs.Known.{Ends as KnownEnds}
 use Rattle.meaning.specs.Number.{half}
 use Rattle.meaning.specs.Refusal.{Result, value, refusedBy, isDigits, valueLimit, cellLimit}
@@ -18,7 +18,7 @@ use Rattle.rules.specs.declared.rule.Digits.the-variants.{Of, NoDigits}
 use Rattle.rules.specs.declared.rule.Begun.{Begun}
 use Rattle.rules.specs.declared.rule.Begun.the-variants.{Digits, Stops}
 use Rattle.rules.specs.declared.rule.Ends.{Ends}
-use Rattle.rules.specs.Ready.{greatest, greatestApart}
+use Rattle.rules.specs.Ready.{greatest}
 use Rattle.rules.specs.Told.{Told, refuses, makes}
 
 -- a base and a digit count where rule 6 lets them through, and else refusal 6
@@ -46,29 +46,21 @@ begun b k ranged early = cond (isDigits (record { b = b; k = k }) && ranged) (be
 -- ---- known ends
 
 unfoldable pub endsSeen : Ends → KnownEnds
-endsSeen e = ends (e .low) (e .high)
+endsSeen e = ends (e .low .0) (e .high .0)
 
 -- the ends that the arrays have of the value that z names
 pub record EndsRead (lows highs : List ℤ) (z : ℤ) (e : Ends) : Type 0 where
-  pub low-read : e .low ≡ getD lows (natAbs z) (pos 0)
-  pub high-read : e .high ≡ getD highs (natAbs z) (pos 0)
+  pub low-read : e .low .0 ≡ getD lows (natAbs z) (pos 0)
+  pub high-read : e .high .0 ≡ getD highs (natAbs z) (pos 0)
 
 -- ends of at most that size: greatest for those of a value, twice that for those of a difference
 pub record BoundedEnds (bound : ℕ) (e : Ends) : Type 0 where
-  pub low-sized : Bounded bound (e .low)
-  pub high-sized : Bounded bound (e .high)
+  pub low-sized : Bounded bound (e .low .0)
+  pub high-sized : Bounded bound (e .high .0)
 
--- those of a difference of two values
-pub record Apart (u v r : Ends) : Type 0 where
-  pub sized : BoundedEnds greatestApart r
-  pub low-is : r .low ≡ u .low -ℤ v .high
-  pub high-is : r .high ≡ u .high -ℤ v .low
-
--- and those of y - u, for y the greater of u and v
-pub record Above (u v r : Ends) : Type 0 where
-  pub sized : BoundedEnds greatestApart r
-  pub low-is : r .low ≡ smaller (pos 0) (v .low -ℤ u .high)
-  pub high-is : r .high ≡ larger (pos 0) (v .high -ℤ u .low)
+-- those of the greater of two values
+abbrev pub greaterEnds : KnownEnds → KnownEnds → KnownEnds
+greaterEnds u v = ends (larger (u .E) (v .E)) (larger (u .F) (v .F))
 
 -- ---- p
 
@@ -76,9 +68,19 @@ pub record Field (p : ℕ) : Type 0 where
   pub three : 3 ≤ p
   pub most : p ≤ greatest
 
--- what is told of a root line where the rules up to 9 are kept, with c = b^k: "Allowed exactly when c ≥ 3 and c² ≤ M+1"
+-- ---- rule 10
+
+-- what is left of the digit rule where c = b^k is at most p
+abbrev pub narrow : (p c : ℕ) → KnownEnds → (shift : ℤ) → Bool
+narrow p c es shift = leZ (es .F -ℤ shift) (pos (p - 1)) && leZ (shift +ℤ pos (c - 1) -ℤ es .E) (pos (p - 1))
+
+-- what is told of a line by this rule, where those up to 9 are kept: the ends that the line makes, or refusal 10
+abbrev pub ruleTold : Bool → KnownEnds → Told
+ruleTold kept es = cond kept (makes (es ∷ [])) (refuses 10)
+
+-- of a root line, where the rules up to 9 are kept, with c = b^k: "Allowed exactly when c ≥ 3 and c² ≤ M+1"
 unfoldable pub rootTold : (p c : ℕ) → Told
-rootTold p c = cond (leb 3 c && leb (c * c) (half p + 1)) (makes (ends (pos 0) (pos (c - 1)) ∷ [])) (refuses 10)
+rootTold p c = ruleTold (leb 3 c && leb (c * c) (half p + 1)) (ends (pos 0) (pos (c - 1)))
 
 -- what is told of a span line where the rules up to 10 are kept, with the new ends of v
 unfoldable pub sharedTold : KnownEnds → Told

@@ -4,19 +4,21 @@ use super::rule::Ends;
 use super::rule::Made;
 use super::rule::begin_line;
 use super::rule::ends_named;
+use super::rule::greater;
 use super::rule::is_made;
+use super::rule::made_of;
 use super::rule::sign_rule;
 use number::whole::Whole;
-use number::whole::larger;
 ghost use mathlib.Core.Path.{_≡_};
-ghost use mathlib.Core.List.{[], _∷_};
 ghost use Prim.Native.Nat.{_≤_};
 ghost use lib.IntN.{pos};
 ghost use lib.ListN.{length, take};
 ghost use Rattle.meaning.specs.Word.{relu};
-ghost use Rattle.meaning.specs.Known.{Known, ends, larger};
-ghost use Rattle.rules.specs.Ready.{Small, Ready, Seen};
-ghost use Rattle.rules.specs.Told.{toldOf, madeSeen, makes, lineWith};
+ghost use Rattle.meaning.specs.Known.{Known, ends, digitRule};
+ghost use Rattle.meaning.specs.Gadget.Sign.{signShift};
+ghost use Rattle.rules.specs.Rule.{ruleTold, endsSeen, greaterEnds, BoundedEnds, Field};
+ghost use Rattle.rules.specs.Ready.{Small, Ready, Seen, greatest};
+ghost use Rattle.rules.specs.Told.{toldOf, madeSeen, lineWith};
 
 pub fn read_relu(
     numbers: &[i64],
@@ -36,19 +38,22 @@ pub fn read_relu(
         Begun::Stops(n) => Made::Breaks(n),
         Begun::Digits(b, k) => {
             let old = ends_named(numbers, 0, values, lows, highs);
-            if !sign_rule(p, b, k, old) {
-                return Made::Breaks(10);
-            }
-            above_zero(old)
+            relu_ends(p, b, k, old)
         }
     }
 }
 
-// The ends of the greater of 0 and the value.
-fn above_zero(old: Ends) -> Made
-    ensures { λ r. ⌜ madeSeen r ≡ makes (ends (larger (pos 0) (old .low)) (larger (pos 0) (old .high)) ∷ []) ⌝ }
+// The ends of the greater of 0 and the value, where the digit rule is kept.
+fn relu_ends(p: u32, b: u64, k: u32, old: Ends) -> Made
+    requires { ⌜ Field p × (1 ≤ b) × (1 ≤ k) × BoundedEnds greatest old ⌝ }
+    ensures { λ r. ⌜ madeSeen r ≡ ruleTold (digitRule p b k (endsSeen old) (signShift b k)) (greaterEnds (ends (pos 0) (pos 0)) (endsSeen old)) ⌝ }
 {
-    let low = larger(Whole(0), Whole(old.low));
-    let high = larger(Whole(0), Whole(old.high));
-    Made::EndsOf(low.0, high.0)
+    if !sign_rule(p, b, k, old) {
+        return Made::Breaks(10);
+    }
+    let zero = Ends {
+        low: Whole(0),
+        high: Whole(0),
+    };
+    made_of(greater(zero, old))
 }

@@ -4,21 +4,21 @@ use number::power::Power;
 use number::power::capped_power;
 use number::whole::Whole;
 use number::whole::in_range;
+use number::whole::larger;
 use number::whole::whole_difference;
 ghost use mathlib.Core.Path.{_≡_};
 ghost use mathlib.Core.Bool.{true, _&&_};
 ghost use mathlib.Core.List.{[], _∷_};
-ghost use Prim.Native.Nat.{_+_, _-_, _*_, _≤_, _<_};
+ghost use Prim.Native.Nat.{_+_, _*_, _≤_, _<_};
 ghost use lib.ListN.{length, getD};
-ghost use lib.IntN.{pos, natAbs, _+ℤ_, _-ℤ_};
-ghost use lib.Signed.{leZ};
-ghost use Rattle.meaning.specs.Known.{digitRule};
+ghost use lib.IntN.{pos, natAbs};
+ghost use Rattle.meaning.specs.Known.{apart, digitRule};
 ghost use Rattle.meaning.specs.Number.{inRange};
 ghost use Rattle.meaning.specs.Refusal.{isMade, cellLimit, valueLimit};
 ghost use Rattle.meaning.specs.Gadget.Sign.{signShift};
 ghost use Rattle.number.specs.Bounded.{Bounded};
 ghost use Rattle.rules.specs.Told.{madeSeen, makes};
-ghost use Rattle.rules.specs.Rule.{digitsAllowed, digitsSeen, endsSeen, earlyBroken, begun, Field, EndsRead, BoundedEnds, Apart};
+ghost use Rattle.rules.specs.Rule.{digitsAllowed, digitsSeen, endsSeen, earlyBroken, begun, greaterEnds, narrow, Field, EndsRead, BoundedEnds};
 ghost use Rattle.rules.specs.Ready.{greatestApart, greatest};
 
 // The ends of the value that a line makes, or the number of the first rule that it breaks.
@@ -35,14 +35,14 @@ pub enum Digits {
 
 // The known ends of a value.
 pub struct Ends {
-    pub low: i64,
-    pub high: i64,
+    pub low: Whole,
+    pub high: Whole,
 }
 
 pub fn made_of(e: Ends) -> Made
     ensures { λ r. ⌜ madeSeen r ≡ makes (endsSeen e ∷ []) ⌝ }
 {
-    Made::EndsOf(e.low, e.high)
+    Made::EndsOf(e.low.0, e.high.0)
 }
 
 // ---- rule 6
@@ -169,21 +169,29 @@ pub fn ends_named(numbers: &[i64], at: usize, values: usize, lows: &[i64], highs
 {
     let v = numbers[at] as usize;
     Ends {
-        low: lows[v],
-        high: highs[v],
+        low: Whole(lows[v]),
+        high: Whole(highs[v]),
     }
 }
 
 // The ends of the difference of two values.
 pub fn apart(u: Ends, v: Ends) -> Ends
     requires { ⌜ BoundedEnds greatest u × BoundedEnds greatest v ⌝ }
-    ensures { λ r. ⌜ Apart u v r ⌝ }
+    ensures { λ r. ⌜ BoundedEnds greatestApart r × (endsSeen r ≡ apart (endsSeen u) (endsSeen v)) ⌝ }
 {
-    let low = whole_difference(Whole(u.low), Whole(v.high));
-    let high = whole_difference(Whole(u.high), Whole(v.low));
     Ends {
-        low: low.0,
-        high: high.0,
+        low: whole_difference(u.low, v.high),
+        high: whole_difference(u.high, v.low),
+    }
+}
+
+// The ends of the greater of two values.
+pub fn greater(u: Ends, v: Ends) -> Ends
+    ensures { λ r. ⌜ endsSeen r ≡ greaterEnds (endsSeen u) (endsSeen v) ⌝ }
+{
+    Ends {
+        low: larger(u.low, v.low),
+        high: larger(u.high, v.high),
     }
 }
 
@@ -210,14 +218,14 @@ pub fn sign_rule(p: u32, b: u64, k: u32, e: Ends) -> bool
 // The digit rule where c = b^k is at most p: F - L and L + c - 1 - E are at most p - 1.
 pub fn is_narrow(p: u32, c: u64, e: Ends, shift: i64) -> bool
     requires { ⌜ Field p × (1 ≤ c) × (c ≤ p) × BoundedEnds greatestApart e × Bounded greatest shift ⌝ }
-    ensures { λ r. ⌜ r ≡ leZ (e .high -ℤ shift) (pos (p - 1)) && leZ (shift +ℤ pos (c - 1) -ℤ e .low) (pos (p - 1)) ⌝ }
+    ensures { λ r. ⌜ r ≡ narrow p c (endsSeen e) shift ⌝ }
 {
     let last = (p - 1) as i64;
-    let above = e.high - shift;
+    let above = e.high.0 - shift;
     if last < above {
         return false;
     }
     let top = shift + (c - 1) as i64;
-    let below = top - e.low;
+    let below = top - e.low.0;
     below <= last
 }

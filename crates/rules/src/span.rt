@@ -21,7 +21,7 @@ ghost use Rattle.meaning.specs.Word.{span};
 ghost use Rattle.meaning.specs.Known.{Known, ends, larger, smaller, digitRule};
 ghost use Rattle.meaning.specs.Gadget.Span.{shared};
 ghost use Rattle.number.specs.Bounded.{Bounded};
-ghost use Rattle.rules.specs.Ready.{Small, Ready, Seen, greatestApart, greatest};
+ghost use Rattle.rules.specs.Ready.{Small, Ready, Seen, greatest};
 ghost use Rattle.rules.specs.Told.{refuses, spanTold, madeSeen, lineWith};
 ghost use Rattle.rules.specs.Rule.{endsSeen, BoundedEnds, Field, sharedTold};
 
@@ -52,7 +52,7 @@ pub fn read_span(
 
 // The new ends, where the digit rule is kept.
 fn span_ends(p: u32, b: u64, k: u32, old: Ends, shift: i64) -> Made
-    requires { ⌜ Field p × (1 ≤ b) × BoundedEnds greatestApart old × Bounded greatest shift ⌝ }
+    requires { ⌜ Field p × (1 ≤ b) × BoundedEnds greatest old × Bounded greatest shift ⌝ }
     ensures { λ r. ⌜ madeSeen r
         ≡ cond (digitRule p b k (endsSeen old) shift) (sharedTold (shared b k shift (endsSeen old))) (refuses 10) ⌝ }
 {
@@ -69,11 +69,11 @@ fn span_ends(p: u32, b: u64, k: u32, old: Ends, shift: i64) -> Made
 // What the old ends and L..L+c-1 share, where they share a number.
 fn shared_ends(old: Ends, shift: i64, last: u64) -> Made
     requires { ⌜ (last ≤ greatest) × Bounded greatest shift ⌝ }
-    ensures { λ r. ⌜ madeSeen r ≡ sharedTold (ends (larger (old .low) shift) (smaller (old .high) (shift +ℤ pos last))) ⌝ }
+    ensures { λ r. ⌜ madeSeen r ≡ sharedTold (ends (larger (old .low .0) shift) (smaller (old .high .0) (shift +ℤ pos last))) ⌝ }
 {
     let top = shift + last as i64;
-    let low = larger(Whole(old.low), Whole(shift));
-    let high = smaller(Whole(old.high), Whole(top));
+    let low = larger(old.low, Whole(shift));
+    let high = smaller(old.high, Whole(top));
     if high.0 < low.0 {
         return Made::Breaks(12);
     }

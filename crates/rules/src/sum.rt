@@ -22,12 +22,12 @@ ghost use Rattle.meaning.specs.Word.{sum, alternate, mostNumbers};
 ghost use Rattle.meaning.specs.Number.{inRange};
 ghost use Rattle.meaning.specs.Known.{Known, ends};
 ghost use Rattle.meaning.specs.Refusal.{all, isMade, valueLimit};
-ghost use Rattle.meaning.specs.Gadget.Sum.{termsOf, endsInRange};
+ghost use Rattle.meaning.specs.Gadget.Sum.{termsOf, scaled, added, endsInRange};
 ghost use Rattle.number.specs.Bounded.{Bounded};
 ghost use Rattle.rules.specs.Ready.{Small, Ready, Seen, greatestProduct, greatest};
 ghost use Rattle.rules.specs.Told.{toldOf, madeSeen, lineWith};
 ghost use Rattle.rules.specs.Rule.{endsSeen, BoundedEnds};
-ghost use Rattle.rules.specs.Sum.{sumTold, Scaled, Added};
+ghost use Rattle.rules.specs.Sum.{sumTold};
 
 // c0, then count / 2 pairs of a coefficient and a name.
 pub fn read_sum(
@@ -125,34 +125,30 @@ fn constant(numbers: &[i64]) -> Ends
     requires { ⌜ 0 < length (now numbers) ⌝ }
     ensures { λ r. ⌜ endsSeen r ≡ ends (getD (now (numbers .entry)) 0 (pos 0)) (getD (now (numbers .entry)) 0 (pos 0)) ⌝ }
 {
-    let c0 = numbers[0];
+    let c0 = Whole(numbers[0]);
     Ends { low: c0, high: c0 }
 }
 
 // The ends of c times a value.
 fn scaled(c: i64, e: Ends) -> Ends
     requires { ⌜ Bounded greatest c × BoundedEnds greatest e ⌝ }
-    ensures { λ r. ⌜ Scaled c e r ⌝ }
+    ensures { λ r. ⌜ BoundedEnds greatestProduct r × (endsSeen r ≡ scaled c (endsSeen e)) ⌝ }
 {
-    let one = whole_product(Whole(c), Whole(e.low));
-    let other = whole_product(Whole(c), Whole(e.high));
-    let low = smaller(one, other);
-    let high = larger(one, other);
+    let one = whole_product(Whole(c), e.low);
+    let other = whole_product(Whole(c), e.high);
     Ends {
-        low: low.0,
-        high: high.0,
+        low: smaller(one, other),
+        high: larger(one, other),
     }
 }
 
 fn plus(a: Ends, b: Ends) -> Ends
     requires { ⌜ BoundedEnds greatest a × BoundedEnds greatestProduct b ⌝ }
-    ensures { λ r. ⌜ Added a b r ⌝ }
+    ensures { λ r. ⌜ endsSeen r ≡ added (endsSeen a) (endsSeen b) ⌝ }
 {
-    let low = whole_sum(Whole(a.low), Whole(b.low));
-    let high = whole_sum(Whole(a.high), Whole(b.high));
     Ends {
-        low: low.0,
-        high: high.0,
+        low: whole_sum(a.low, b.low),
+        high: whole_sum(a.high, b.high),
     }
 }
 
@@ -161,8 +157,8 @@ fn is_within(p: u32, e: Ends) -> bool
     requires { ⌜ 3 ≤ p ⌝ }
     ensures { λ r. ⌜ r ≡ endsInRange p (endsSeen e) ⌝ }
 {
-    if in_range(Whole(e.low), p) {
-        return in_range(Whole(e.high), p);
+    if in_range(e.low, p) {
+        return in_range(e.high, p);
     }
     false
 }

@@ -1,5 +1,6 @@
 // Reading a which line.
 use super::rule::Begun;
+use super::rule::Ends;
 use super::rule::Made;
 use super::rule::apart;
 use super::rule::are_made;
@@ -8,10 +9,13 @@ use super::rule::ends_named;
 use super::rule::sign_rule;
 ghost use mathlib.Core.Path.{_≡_};
 ghost use Prim.Native.Nat.{_≤_};
+ghost use lib.IntN.{pos};
 ghost use lib.ListN.{length, take};
 ghost use Rattle.meaning.specs.Word.{which};
-ghost use Rattle.meaning.specs.Known.{Known};
-ghost use Rattle.rules.specs.Ready.{Small, Ready, Seen};
+ghost use Rattle.meaning.specs.Known.{Known, ends, apart, digitRule};
+ghost use Rattle.meaning.specs.Gadget.Sign.{signShift};
+ghost use Rattle.rules.specs.Rule.{ruleTold, endsSeen, BoundedEnds, Field};
+ghost use Rattle.rules.specs.Ready.{Small, Ready, Seen, greatest};
 ghost use Rattle.rules.specs.Told.{toldOf, madeSeen, lineWith};
 
 pub fn read_which(
@@ -33,10 +37,18 @@ pub fn read_which(
         Begun::Digits(b, k) => {
             let u = ends_named(numbers, 0, values, lows, highs);
             let v = ends_named(numbers, 1, values, lows, highs);
-            if !sign_rule(p, b, k, apart(u, v)) {
-                return Made::Breaks(10);
-            }
-            Made::EndsOf(0, 1)
+            which_ends(p, b, k, u, v)
         }
     }
+}
+
+// The ends 0..1, where the digit rule is kept over u - v.
+fn which_ends(p: u32, b: u64, k: u32, u: Ends, v: Ends) -> Made
+    requires { ⌜ Field p × (1 ≤ b) × (1 ≤ k) × BoundedEnds greatest u × BoundedEnds greatest v ⌝ }
+    ensures { λ r. ⌜ madeSeen r ≡ ruleTold (digitRule p b k (apart (endsSeen u) (endsSeen v)) (signShift b k)) (ends (pos 0) (pos 1)) ⌝ }
+{
+    if !sign_rule(p, b, k, apart(u, v)) {
+        return Made::Breaks(10);
+    }
+    Made::EndsOf(0, 1)
 }

@@ -1,40 +1,26 @@
 -- Each end of `apart`, at most brought to 0.
-use mathlib.Core.Path.{_≡_, ap, _∙_}
+use mathlib.Core.Path.{ap}
 use native.Mathlib.Omega.{arith}
 use lib.IntN.{pos}
-use mir.Syntax.{w64}
-use mir.Val.{SFits, toZ, ofZ}
-use Rattle.meaning.specs.Known.{larger, smaller}
+use Rattle.meaning.specs.Known.{Ends, ends, larger, smaller, apart, above}
 use Rattle.number.specs.Bounded.{Bounded}
-use Rattle.number.proofs.Word.{back}
 use Rattle.number.proofs.Bounded.{larger-bounded, smaller-bounded}
+use Rattle.rules.specs.Ready.{greatestApart}
+use Rattle.rules.specs.Rule.{endsSeen}
 use borrow.Author.Needs.{needs}
 use Rattle.rules.proofs.max.above.Statement.{statement}
 use Rattle.rules.proofs.max.above.Tie as tie
-use Rattle.rules.specs.Ready.{greatestApart}
 
 returns : tie.Need-returns
+unfolding endsSeen apart above
 returns c =
-    let at-larger = c .before .before in
-    let at-smaller = at-larger .before .before in
-    let between = at-smaller .before .before .apart in
-    let f : SFits w64 (at-smaller .smaller .result .0) = search needs in
-    let g : SFits w64 (at-larger .larger .result .0) = search needs in
-    let low : SFits w64 (between .result .low) = search needs in
-    let high : SFits w64 (between .result .high) = search needs in
-    let zero : Bounded greatestApart (pos 0) = record { size = omega arith } in
-    let small : toZ w64 (ofZ w64 (at-smaller .smaller .result .0)) ≡ smaller (pos 0) (between .result .low) =
-    back f ∙ (rw (back low) at (at-smaller .smaller .ensures)) in
-    let large : toZ w64 (ofZ w64 (at-larger .larger .result .0)) ≡ larger (pos 0) (between .result .high) =
-    back g ∙ (rw (back high) at (at-larger .larger .ensures)) in
-    record {
-      sized = record {
-        low-sized = rw small (smaller-bounded zero (between .ensures .sized .low-sized));
-        high-sized = rw large (larger-bounded zero (between .ensures .sized .high-sized));
-      };
-      low-is = small ∙ ap (smaller (pos 0)) (between .ensures .low-is);
-      high-is = large ∙ ap (larger (pos 0)) (between .ensures .high-is);
-    }
+    let between = c .before .before .apart .ensures in
+    let small = c .before .smaller .ensures in
+    let large = c .larger .ensures in
+    let zero : Bounded greatestApart (pos 0) = record { size = omega arith } in (
+      record { low-sized = rw small (smaller-bounded zero (between .0 .low-sized)); high-sized = rw large (larger-bounded zero (between .0 .high-sized)) },
+      rw (small, large) (ap (λ (e : Ends). ends (smaller (pos 0) (e .E)) (larger (pos 0) (e .F))) (between .1)),
+    )
 
 pub above-spec : {M : Type 1} → statement M
 above-spec = tie.close (tie.spec (λ c κs. search needs) (λ c κs. search needs) (λ c κs. search needs) returns)

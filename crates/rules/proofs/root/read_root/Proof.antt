@@ -1,37 +1,33 @@
--- Each way out is one law of `DigitLines`.
-use mathlib.Core.Path.{_≡_, sym, _∙_}
-use mathlib.Core.Bool.{true}
-use native.Mathlib.Omega.{arith}
+-- The rules up to 9 are those of a line with digits, and the rest is `root_ends`.
+use mathlib.Core.Path.{sym, _∙_}
+use Rattle.meaning.specs.Gadget.Root.{rootLine}
 use Rattle.rules.specs.Told.{madeSeen}
-use Rattle.rules.specs.declared.rule.Begun.the-variants.{Digits}
+use Rattle.rules.specs.Rule.{rootTold}
 use Rattle.rules.proofs.Values.{ready-field}
-use Rattle.rules.proofs.DigitLines.{begunAt, oneName, root-shape, begins, digits-told, root-late}
+use Rattle.rules.proofs.Rules.{late}
+use Rattle.rules.proofs.DigitLines.{BegunBy, rootLayout, root-shape, begins, digits-stop, digits-late}
 use borrow.Author.Needs.{needs}
 use Rattle.rules.proofs.root.read_root.Statement.{statement}
 use Rattle.rules.proofs.root.read_root.Tie as tie
 
--- the line begins well
-told-begun : (c : tie.After-known-told2)
-    → let a = c .before .before .before .before .before .args in
-    Digits (c .before .begun2 .given .0 .0) (c .before .begun2 .given .0 .1 .0) ≡ begunAt (a .numbers .now) 1 true (oneName (a .values) (a .numbers .now)) (a .values) 1 (a .cells) 4 2
-told-begun c = rw (← c .before .before .before .before .is-made .ensures) (sym (c .before .begun2 .given .1) ∙ c .before .before .before .begin-line .ensures)
+told-begun : (c : tie.After-begin-line) → let a = c .before .before .args in BegunBy rootLayout (a .p) (a .values) (a .cells) (a .numbers .now) (c .begin-line .result)
+told-begun c = record { answer = rw (← c .before .is-made .ensures) (c .begin-line .ensures) }
 
 root-ends-requires : tie.Need-root-ends-requires
-root-ends-requires c κs =
-    let r = begins _ _ _ _ _ _ _ _ _ _ (told-begun c) .read in
-    (ready-field (c .before .before .before .before .before .pre .0), omega (arith, r .base-two))
+root-ends-requires c κs = (ready-field (c .before .before .before .before .before .pre .0), begins (told-begun (c .before .before .before)) (c .before .begun2 .given .1) .base-one)
 
 returns : tie.Need-returns
 unfolding madeSeen
 returns c =
-    let start = c .before .before .before .before .before in
-    λ s seen. sym (digits-told (start .pre .0) (start .args .numbers .now) seen root-shape
-    (rw (← c .before .before .before .before .is-made .ensures) (sym (c .before .begun .given .1) ∙ c .before .before .before .begin-line .ensures)))
+    let at-begun = c .before .before .before in
+    λ s seen. digits-stop (told-begun at-begun) root-shape (at-begun .before .before .pre .0) seen (c .before .begun .given .1)
 
 returns-2 : tie.Need-returns-2
+unfolding late rootLine rootTold
 returns-2 c =
-    let start = c .before .before .before .before .before .before in
-    λ s seen. c .root-ends .ensures ∙ sym (root-late (start .pre .0) (start .args .numbers .now) seen (told-begun (c .before)))
+    let at-begun = c .before .before .before .before in
+    λ s seen. c .root-ends .ensures
+    ∙ sym (digits-late (told-begun at-begun) root-shape (at-begun .before .before .pre .0) seen (c .before .before .begun2 .given .1) ∙ rw (seen .prime))
 
 pub read-root-spec : {M : Type 1} → statement M
 read-root-spec =

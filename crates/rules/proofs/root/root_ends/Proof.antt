@@ -1,14 +1,13 @@
 -- Each way out is one law of the root rule; c is at most p, so that its square fits.
-use mathlib.Core.Path.{sym, _∙_}
+use mathlib.Core.Path.{sym}
 use Prim.Native.Nat.{ℕ, _-_, _*_, _^_, _≤_}
 use native.Mathlib.Omega.{arith}
 use native.Mathlib.Nat.{mul-le-mul}
 use Rattle.meaning.specs.Number.{half}
 use Rattle.number.proofs.Word.{small}
-use Rattle.number.proofs.CappedPower.{above-capped}
 use Rattle.rules.specs.Ready.{greatest}
 use Rattle.rules.specs.Told.{madeSeen}
-use Rattle.rules.proofs.Digits.{Power, power-read, root-low, root-wide, root-above, root-kept}
+use Rattle.rules.proofs.Digits.{Power, power-above, power-within, root-low, root-wide, root-above, root-kept}
 use borrow.Author.Needs.{needs}
 use Rattle.rules.proofs.root.root_ends.Statement.{statement}
 use Rattle.rules.proofs.root.root_ends.Tie as tie
@@ -18,15 +17,12 @@ unfolding madeSeen
 returns c =
     let start = c .before .before .before in
     let a = start .args in
-    sym (root-above (a .p) (a .b ^ a .k) (above-capped (a .b) (a .k) (a .p)
-    (sym (c .enum-told .given .1) ∙ c .before .before .capped-power .ensures)) (start .pre .0 .three))
+    sym (root-above (a .p) (a .b ^ a .k) (power-above (a .p) (a .b) (a .k) (c .before .before .capped-power .ensures) (c .enum-told .given .1)) (start .pre .0 .three))
 
-power : (c : tie.After-known-told) → let a = c .before .before .before .before .args in Power (a .p) (a .b) (a .k)
-    (c .before .c .given .0 .0)
+power : (c : tie.After-known-told) → let a = c .before .before .before .before .args in Power (a .p) (a .b) (a .k) (c .before .c .given .0 .0)
 power c =
-    let start = c .before .before .before .before in
-    power-read (start .args .p) (start .args .b) (start .args .k) (start .pre .1)
-    (sym (c .before .c .given .1) ∙ c .before .before .before .capped-power .ensures)
+    let a = c .before .before .before .before .args in
+    power-within (a .p) (a .b) (a .k) (c .before .before .before .capped-power .ensures) (c .before .before .before .before .pre .1) (c .before .c .given .1)
 
 returns-2 : tie.Need-returns-2
 unfolding madeSeen

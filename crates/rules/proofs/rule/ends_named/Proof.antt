@@ -35,15 +35,15 @@ mul-t7 c =
 shared-slice-copy-out-t9 : tie.Need-shared-slice-copy-out-t9
 shared-slice-copy-out-t9 c = let n = name (c .before) in rw (number-read c) (omega (arith, n .below))
 
-mul-t11 : tie.Need-mul-t11
-mul-t11 c =
+mul-t12 : tie.Need-mul-t12
+mul-t12 c =
     let n = name (c .before .before) in
     let h : natAbs (getD (c .before .before .args .numbers .now) (c .before .before .args .at) (pos 0)) < length
     (c .before .before .args .highs .now) = omega (arith, n .below) in
     rw (number-read (c .before)) (search needs)
 
-shared-slice-copy-out-t13 : tie.Need-shared-slice-copy-out-t13
-shared-slice-copy-out-t13 c = let n = name (c .before .before) in rw (number-read (c .before)) (omega (arith, n .below))
+shared-slice-copy-out-t14 : tie.Need-shared-slice-copy-out-t14
+shared-slice-copy-out-t14 c = let n = name (c .before .before) in rw (number-read (c .before)) (omega (arith, n .below))
 
 returns : tie.Need-returns
 returns c =
@@ -66,6 +66,6 @@ ends-named-spec =
     cast-v
     mul-t7
     shared-slice-copy-out-t9
-    mul-t11
-    shared-slice-copy-out-t13
+    mul-t12
+    shared-slice-copy-out-t14
     returns)

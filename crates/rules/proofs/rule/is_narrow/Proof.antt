@@ -9,6 +9,7 @@ use Rattle.number.specs.Bounded.{Bounded}
 use Rattle.number.proofs.Word.{back, small}
 use Rattle.number.proofs.Bounded.{bounded-sum, sum-fits, difference-fits}
 use Rattle.rules.specs.Ready.{greatest}
+use Rattle.rules.specs.Rule.{endsSeen}
 use Rattle.rules.proofs.Tests.{less, not-less}
 use borrow.Author.Needs.{needs}
 use Rattle.rules.proofs.rule.is_narrow.Statement.{statement}
@@ -25,22 +26,23 @@ sub-above : tie.Need-sub-above
 sub-above c =
     let start = c .before .before in
     let e = start .args .e in
-    let f : SFits w64 (e .high) = search needs in
-    rw (back f, back (start .fits .shift)) (difference-fits (e .high) (start .args .shift) (start .pre .3 .high-sized) (start .pre .4) tt)
+    let f : SFits w64 (e .high .0) = search needs in
+    rw (back f, back (start .fits .shift)) (difference-fits (e .high .0) (start .args .shift) (start .pre .3 .high-sized) (start .pre .4) tt)
 
 above-is : (c : tie.After-struct-told)
-    → toZ w64 (ofZ w64 (toZ w64 (ofZ w64 (c .before .before .args .e .high)) -ℤ toZ w64 (ofZ w64 (c .before .before .args .shift))))
-    ≡ c .before .before .args .e .high -ℤ c .before .before .args .shift
+    → toZ w64 (ofZ w64 (toZ w64 (ofZ w64 (c .before .before .args .e .high .0)) -ℤ toZ w64 (ofZ w64 (c .before .before .args .shift))))
+    ≡ c .before .before .args .e .high .0 -ℤ c .before .before .args .shift
 above-is c =
     let start = c .before .before in
-    let f : SFits w64 (start .args .e .high) = search needs in
+    let f : SFits w64 (start .args .e .high .0) = search needs in
     back (sub-above c) ∙ rw (back f, back (start .fits .shift))
 
 returns : tie.Need-returns
+unfolding endsSeen
 returns c =
     let start = c .before .before .before in
     let a = start .args in
-    rw (less (pos (a .p - 1)) (a .e .high -ℤ a .shift) (rw (above-is (c .before), last-is start) at (c .if1 .taken)))
+    rw (less (pos (a .p - 1)) (a .e .high .0 -ℤ a .shift) (rw (above-is (c .before), last-is start) at (c .if1 .taken)))
 
 add-top : tie.Need-add-top
 add-top c =
@@ -59,16 +61,17 @@ sub-below : tie.Need-sub-below
 sub-below c =
     let start = c .before .before .before .before .before in
     let a = start .args in
-    let f : SFits w64 (a .e .low) = search needs in
+    let f : SFits w64 (a .e .low .0) = search needs in
     let top = bounded-sum (start .pre .4) (digits-last start) in
-    rw (top-is (c .before .before), back f) (difference-fits (a .shift +ℤ pos (a .c - 1)) (a .e .low) top (start .pre .3 .low-sized) tt)
+    rw (top-is (c .before .before), back f) (difference-fits (a .shift +ℤ pos (a .c - 1)) (a .e .low .0) top (start .pre .3 .low-sized) tt)
 
 returns-2 : tie.Need-returns-2
+unfolding endsSeen
 returns-2 c =
     let start = c .before .before .before .before .before in
     let a = start .args in
-    let f : SFits w64 (a .e .low) = search needs in
-    let within = not-less (pos (a .p - 1)) (a .e .high -ℤ a .shift)
+    let f : SFits w64 (a .e .low .0) = search needs in
+    let within = not-less (pos (a .p - 1)) (a .e .high .0 -ℤ a .shift)
     (rw (above-is (c .before .before .before), last-is start) at (c .before .before .if1 .left)) in
     rw (back (sub-below c), top-is (c .before .before), back f, last-is start, within)
 

@@ -12,8 +12,8 @@ returns : tie.Need-returns
 unfolding madeSeen endsSeen
 returns c =
     let e = c .before .args .e in
-    let f : SFits w64 (e .low) = search needs in
-    let g : SFits w64 (e .high) = search needs in
+    let f : SFits w64 (e .low .0) = search needs in
+    let g : SFits w64 (e .high .0) = search needs in
     rw (back f, back g)
 
 pub made-of-spec : {M : Type 1} → statement M

@@ -10,10 +10,9 @@ use Rattle.meaning.specs.Gadget.Sign.{signShift}
 use Rattle.number.specs.Bounded.{Bounded}
 use Rattle.number.proofs.Word.{back, small}
 use Rattle.number.proofs.Bounded.{bounded-negation, bounded-fits}
-use Rattle.number.proofs.CappedPower.{above-capped}
 use Rattle.rules.specs.Ready.{greatest}
 use Rattle.rules.specs.Rule.{endsSeen}
-use Rattle.rules.proofs.Digits.{Power, power-read, rule-above, rule-within, step-above, part-power, part-within, part-less, top-part, part-fits}
+use Rattle.rules.proofs.Digits.{Power, power-above, power-within, rule-above, rule-within, step-above, part-power, part-within, part-less, top-part, part-fits}
 use borrow.Author.Needs.{needs}
 use Rattle.rules.proofs.rule.sign_rule.Statement.{statement}
 use Rattle.rules.proofs.rule.sign_rule.Tie as tie
@@ -22,15 +21,13 @@ returns : tie.Need-returns
 returns c =
     let start = c .before .before .before in
     let a = start .args in
-    let above = above-capped (a .b) (a .k - 1) (a .p) (sym (c .enum-told .given .1) ∙ c .before .before .capped-power .ensures) in
+    let above = power-above (a .p) (a .b) (a .k - 1) (c .before .before .capped-power .ensures) (c .enum-told .given .1) in
     sym (rule-above (a .p) (a .b) (a .k) (endsSeen (a .e)) (signShift (a .b) (a .k)) (step-above (a .p) (a .b) (a .k) (start .pre .1) above))
 
-part : (c : tie.After-known-told) → let a = c .before .before .before .before .args in Power (a .p) (a .b) (a .k - 1)
-    (c .before .part .given .0 .0)
+part : (c : tie.After-known-told) → let a = c .before .before .before .before .args in Power (a .p) (a .b) (a .k - 1) (c .before .part .given .0 .0)
 part c =
-    let start = c .before .before .before .before in
-    power-read (start .args .p) (start .args .b) (start .args .k - 1) (start .pre .1)
-    (sym (c .before .part .given .1) ∙ c .before .before .before .capped-power .ensures)
+    let a = c .before .before .before .before .args in
+    power-within (a .p) (a .b) (a .k - 1) (c .before .before .before .capped-power .ensures) (c .before .before .before .before .pre .1) (c .before .part .given .1)
 
 mul-c : tie.Need-mul-c
 mul-c c =
@@ -94,12 +91,7 @@ is-narrow-requires c κs =
     rw (shift-is c) (start .pre .0, r .positive, r .within, start .pre .3, shift-small c)
 
 returns-3 : tie.Need-returns-3
-unfolding endsSeen
-returns-3 c =
-    let start = c .before .before .before .before .before .before in
-    let a = start .args in
-    (rw (shift-is (c .before)) at (c .is-narrow .ensures))
-    ∙ sym (rule-within (a .p) (a .b) (a .k) (endsSeen (a .e)) (signShift (a .b) (a .k)) (power (c .before)))
+returns-3 c = (rw (shift-is (c .before)) at (c .is-narrow .ensures)) ∙ sym (rule-within _ _ _ _ _ (power (c .before)))
 
 pub sign-rule-spec : {M : Type 1} → statement M
 sign-rule-spec =

@@ -1,20 +1,20 @@
 -- L + c - 1 fits; the new ends are the larger and the smaller, and the test is the definition's own, read from bits.
-use mathlib.Core.Path.{_≡_, _∙_}
+use mathlib.Core.Path.{_≡_}
 use native.Mathlib.Omega.{arith}
 use lib.IntN.{pos, _+ℤ_}
 use mir.Syntax.{w64}
-use mir.Val.{SFits, toZ, ofZ}
+use mir.Val.{SFits}
 use Rattle.meaning.specs.Known.{larger, smaller}
 use Rattle.number.specs.Bounded.{Bounded}
 use Rattle.number.proofs.Word.{back, small}
 use Rattle.number.proofs.Bounded.{sum-fits}
+use Rattle.rules.specs.Ready.{greatest}
 use Rattle.rules.specs.Told.{madeSeen}
 use Rattle.rules.specs.Rule.{sharedTold}
 use Rattle.rules.proofs.Tests.{less, not-less}
 use borrow.Author.Needs.{needs}
 use Rattle.rules.proofs.span.shared_ends.Statement.{statement}
 use Rattle.rules.proofs.span.shared_ends.Tie as tie
-use Rattle.rules.specs.Ready.{greatest}
 
 add-top : tie.Need-add-top
 add-top c =
@@ -22,29 +22,22 @@ add-top c =
     rw (back (c .fits .shift), small (c .args .last) (omega (arith, c .pre .0)))
     (sum-fits (c .args .shift) (pos (c .args .last)) (c .pre .1) last tt)
 
-top-is : (c : tie.Start) → toZ w64 (ofZ w64 (toZ w64 (ofZ w64 (c .args .shift)) +ℤ toZ w64 (c .args .last))) ≡ c .args .shift +ℤ pos
-    (c .args .last)
-top-is c = back (add-top c) ∙ rw (back (c .fits .shift), small (c .args .last) (omega (arith, c .pre .0)))
+-- the new ends
+module _ (c : tie.After-smaller) where
+  abbrev start : tie.Start
+  start = c .before .before
 
-low-is : (c : tie.After-smaller) → let a = c .before .before .before .before .args in c .before .before .larger .result .0 ≡ larger
-    (a .old .low) (a .shift)
-low-is c =
-    let start = c .before .before .before .before in
-    let f : SFits w64 (start .args .old .low) = search needs in
-    rw (back f, back (start .fits .shift)) at (c .before .before .larger .ensures)
+  low-is : c .before .larger .result .0 ≡ larger (start .args .old .low .0) (start .args .shift)
+  low-is = rw (back (start .fits .shift)) at (c .before .larger .ensures)
 
-high-is : (c : tie.After-smaller)
-    → let a = c .before .before .before .before .args in c .smaller .result .0 ≡ smaller (a .old .high) (a .shift +ℤ pos (a .last))
-high-is c =
-    let start = c .before .before .before .before in
-    let f : SFits w64 (start .args .old .high) = search needs in
-    rw (back f, top-is start) at (c .smaller .ensures)
+  high-is : c .smaller .result .0 ≡ smaller (start .args .old .high .0) (start .args .shift +ℤ pos (start .args .last))
+  high-is = rw (back (add-top start), back (start .fits .shift), small (start .args .last) (omega (arith, start .pre .0))) at (c .smaller .ensures)
 
 returns : tie.Need-returns
 unfolding madeSeen sharedTold
 returns c =
     let at-smaller = c .before .before .before .before .before in
-    let low = at-smaller .before .before .larger .result .0 in
+    let low = at-smaller .before .larger .result .0 in
     let high = at-smaller .smaller .result .0 in
     let f : SFits w64 low = search needs in
     let g : SFits w64 high = search needs in
@@ -55,7 +48,7 @@ unfolding madeSeen sharedTold
 returns-2 c =
     let at-if1 = c .before .before in
     let at-smaller = at-if1 .before .before .before .before .before in
-    let low = at-smaller .before .before .larger .result .0 in
+    let low = at-smaller .before .larger .result .0 in
     let high = at-smaller .smaller .result .0 in
     let f : SFits w64 low = search needs in
     let g : SFits w64 high = search needs in

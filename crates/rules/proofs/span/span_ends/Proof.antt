@@ -5,10 +5,10 @@ use borrow.Author.Tests.{not-true, not-false}
 use Rattle.meaning.specs.Known.{digitRule}
 use Rattle.meaning.specs.Gadget.Span.{spanTop, shared}
 use Rattle.number.proofs.Word.{back}
-use Rattle.number.proofs.CappedPower.{above-capped}
 use Rattle.rules.specs.Told.{madeSeen}
 use Rattle.rules.specs.Rule.{endsSeen}
-use Rattle.rules.proofs.Digits.{Power, power-read, rule-above, rule-within}
+use Rattle.rules.proofs.Values.{sized-more}
+use Rattle.rules.proofs.Digits.{Power, power-above, power-within, rule-above, rule-within}
 use borrow.Author.Needs.{needs}
 use Rattle.rules.proofs.span.span_ends.Statement.{statement}
 use Rattle.rules.proofs.span.span_ends.Tie as tie
@@ -17,31 +17,23 @@ returns : tie.Need-returns
 unfolding madeSeen
 returns c =
     let a = c .before .before .before .args in
-    rw (rule-above (a .p) (a .b) (a .k) (endsSeen (a .old)) (a .shift)
-    (above-capped (a .b) (a .k) (a .p) (sym (c .enum-told .given .1) ∙ c .before .before .capped-power .ensures)))
+    rw (rule-above (a .p) (a .b) (a .k) (endsSeen (a .old)) (a .shift) (power-above (a .p) (a .b) (a .k) (c .before .before .capped-power .ensures) (c .enum-told .given .1)))
 
-power : (c : tie.After-known-told) → let a = c .before .before .before .before .args in Power (a .p) (a .b) (a .k)
-    (c .before .c .given .0 .0)
+power : (c : tie.After-known-told) → let a = c .before .before .before .before .args in Power (a .p) (a .b) (a .k) (c .before .c .given .0 .0)
 power c =
-    let start = c .before .before .before .before in
-    power-read (start .args .p) (start .args .b) (start .args .k) (start .pre .1)
-    (sym (c .before .c .given .1) ∙ c .before .before .before .capped-power .ensures)
+    let a = c .before .before .before .before .args in
+    power-within (a .p) (a .b) (a .k) (c .before .before .before .capped-power .ensures) (c .before .before .before .before .pre .1) (c .before .c .given .1)
 
 is-narrow-requires : tie.Need-is-narrow-requires
 is-narrow-requires c κs =
     let start = c .before .before .before .before in
     let r = power c in
-    rw (back (start .fits .shift)) (start .pre .0, r .positive, r .within, start .pre .2, start .pre .3)
+    rw (back (start .fits .shift)) (start .pre .0, r .positive, r .within, sized-more (start .pre .2), start .pre .3)
 
 rule-is : (c : tie.After-is-narrow)
     → let a = c .before .before .before .before .before .args in digitRule (a .p) (a .b) (a .k) (endsSeen (a .old)) (a .shift)
     ≡ c .is-narrow .result
-unfolding endsSeen
-rule-is c =
-    let start = c .before .before .before .before .before in
-    let a = start .args in
-    rule-within (a .p) (a .b) (a .k) (endsSeen (a .old)) (a .shift) (power (c .before)) ∙ sym
-    (rw (back (start .fits .shift)) at (c .is-narrow .ensures))
+rule-is c = rule-within _ _ _ _ _ (power (c .before)) ∙ sym (rw (back (c .before .before .before .before .before .fits .shift)) at (c .is-narrow .ensures))
 
 returns-2 : tie.Need-returns-2
 unfolding madeSeen

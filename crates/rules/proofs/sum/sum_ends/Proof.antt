@@ -17,7 +17,7 @@ use Rattle.rules.specs.Told.{madeSeen}
 use Rattle.rules.specs.Rule.{endsSeen}
 use Rattle.rules.specs.Sum.{endsAt, sumTold}
 use Rattle.rules.proofs.Values.{read-sized, ready-lows, ready-highs}
-use Rattle.rules.proofs.SumLine.{all-here, next-seen, sum-end, sum-next, sum-leaves, range-sized}
+use Rattle.rules.proofs.SumLine.{all-here, read-at, sum-end, sum-next, sum-leaves, range-sized}
 use borrow.Author.Needs.{needs}
 use Rattle.rules.proofs.sum.sum_ends.Statement.{statement}
 use Rattle.rules.proofs.sum.sum_ends.Tie as tie
@@ -76,7 +76,7 @@ plus-requires : tie.Need-plus-requires Inv-loop μ-loop
 plus-requires c κs =
     let at-loop = c .before .before .before .before in
     let start = at-loop .before .before in
-    (range-sized (start .args .p) (at-loop .loop .so-far) (start .pre .0 .p-high) (at-loop .loop .inv .2), c .scaled .ensures .sized)
+    (range-sized (start .args .p) (at-loop .loop .so-far) (start .pre .0 .p-high) (at-loop .loop .inv .2), c .scaled .ensures .0)
 
 is-within-requires : tie.Need-is-within-requires Inv-loop μ-loop
 is-within-requires c κs = c .before .before .before .before .before .before .before .pre .0 .p-low
@@ -92,9 +92,8 @@ next : (c : tie.After-plus Inv-loop μ-loop)
 next c =
     let at-ends-named = c .before .before .before in
     let at-loop = at-ends-named .before .before in
-    let a = at-loop .before .before .args in
-    let f : SFits w64 (getD (a .numbers .now) (at-loop .loop .i) (pos 0)) = search needs in
-    next-seen (at-ends-named .ends-named .ensures) (rw (back f) at (c .before .scaled .ensures)) (c .plus .ensures)
+    let f : SFits w64 (getD (at-loop .before .before .args .numbers .now) (at-loop .loop .i) (pos 0)) = search needs in
+    c .plus .ensures ∙ rw (rw (back f) at (c .before .scaled .ensures .1), read-at (at-ends-named .ends-named .ensures))
 
 returns : tie.Need-returns Inv-loop μ-loop
 unfolding madeSeen

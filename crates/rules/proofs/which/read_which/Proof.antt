@@ -1,39 +1,31 @@
--- Each way out is one law of `DigitLines`.
+-- The rules up to 9 are those of a line with digits, and the rest is `which_ends`.
 use mathlib.Core.Path.{_≡_, sym, _∙_}
-use mathlib.Core.Bool.{true, cond}
-use mathlib.Core.List.{[], _∷_}
+use mathlib.Core.Bool.{true}
 use native.Mathlib.Omega.{arith}
 use lib.IntN.{pos}
-use lib.ListN.{getD, take}
-use borrow.Author.Tests.{not-true, not-false}
-use Rattle.meaning.specs.Word.{which}
-use Rattle.meaning.specs.Known.{Known, ends}
+use lib.ListN.{getD}
 use Rattle.meaning.specs.Refusal.{isMade}
-use Rattle.rules.specs.Ready.{Seen}
-use Rattle.rules.specs.Told.{refuses, makes, toldOf, madeSeen, lineWith}
-use Rattle.rules.specs.declared.rule.Begun.the-variants.{Digits}
-use Rattle.rules.proofs.Digits.{Read}
-use Rattle.rules.proofs.Values.{read-sized, ready-field, ready-lows, ready-highs, apart-seen}
-use Rattle.rules.proofs.DigitLines.{begunAt, twoNames, two-made, which-shape, begins, digits-told, which-late}
+use Rattle.meaning.specs.Gadget.Which.{whichLine}
+use Rattle.rules.specs.Told.{madeSeen}
+use Rattle.rules.proofs.Tests.{both-true}
+use Rattle.rules.proofs.Values.{read-sized, ready-field, ready-lows, ready-highs, ends-known}
+use Rattle.rules.proofs.Rules.{late}
+use Rattle.rules.proofs.DigitLines.{BegunBy, Begins, whichLayout, which-shape, begins, digits-stop, digits-late}
 use borrow.Author.Needs.{needs}
 use Rattle.rules.proofs.which.read_which.Statement.{statement}
 use Rattle.rules.proofs.which.read_which.Tie as tie
 
--- the line begins well
-told-begun : (c : tie.After-known-told2)
-    → let a = c .before .before .before .before .before .args in
-    Digits (c .before .begun2 .given .0 .0) (c .before .begun2 .given .0 .1 .0) ≡ begunAt (a .numbers .now) 2 true (twoNames (a .values) (a .numbers .now)) (a .values) 1 (a .cells) 1 3
-told-begun c = rw (← c .before .before .before .before .are-made .ensures) (sym (c .before .begun2 .given .1) ∙ c .before .before .before .begin-line .ensures)
+told-begun : (c : tie.After-begin-line) → let a = c .before .before .args in BegunBy whichLayout (a .p) (a .values) (a .cells) (a .numbers .now) (c .begin-line .result)
+told-begun c = record { answer = rw (← c .before .are-made .ensures) (c .begin-line .ensures) }
 
-read : (c : tie.After-known-told2)
-    → let a = c .before .before .before .before .before .args in
-    Read (getD (a .numbers .now) 2 (pos 0)) (getD (a .numbers .now) 3 (pos 0)) (c .before .begun2 .given .0 .0) (c .before .begun2 .given .0 .1 .0)
-read c = begins _ _ _ _ _ _ _ _ _ _ (told-begun c) .read
+well : (c : tie.After-known-told2)
+    → let a = c .before .before .before .before .before .args in Begins whichLayout (a .values) (a .numbers .now) (c .before .begun2 .given .0 .0) (c .before .begun2 .given .0 .1 .0)
+well c = begins (told-begun (c .before .before .before)) (c .before .begun2 .given .1)
 
 made : (c : tie.After-known-told2)
     → let a = c .before .before .before .before .before .args in
     (isMade (a .values) (getD (a .numbers .now) 0 (pos 0)) ≡ true) × (isMade (a .values) (getD (a .numbers .now) 1 (pos 0)) ≡ true)
-made c = let a = c .before .before .before .before .before .args in two-made (a .values) (a .numbers .now) (begins _ _ _ _ _ _ _ _ _ _ (told-begun c) .are-made)
+made c = both-true _ _ (well c .are-made)
 
 ends-named-requires : tie.Need-ends-named-requires
 ends-named-requires c κs =
@@ -45,42 +37,27 @@ ends-named-requires-2 c κs =
     let start = c .before .before .before .before .before .before in
     (omega (arith, start .pre .1), ready-lows (start .pre .0), ready-highs (start .pre .0), made (c .before) .1)
 
-apart-requires : tie.Need-apart-requires
-apart-requires c κs =
-    let start = c .before .before .before .before .before .before .before in
+which-ends-requires : tie.Need-which-ends-requires
+which-ends-requires c κs =
+    let ready = c .before .before .before .before .before .before .before .pre .0 in
+    let w = well (c .before .before) in
     let m = made (c .before .before) in
-    (read-sized (start .pre .0) (m .0) (c .before .ends-named .ensures), read-sized (start .pre .0) (m .1) (c .ends-named2 .ensures))
-
-sign-rule-requires : tie.Need-sign-rule-requires
-sign-rule-requires c κs =
-    let start = c .before .before .before .before .before .before .before .before in
-    let r = read (c .before .before .before) in
-    (ready-field (start .pre .0), omega (arith, r .base-two), r .count-one, c .apart .ensures .sized)
-
--- what is left to say is what the rule's test says
-told : (c : tie.After-sign-rule) (s : Known)
-    → let a = c .before .before .before .before .before .before .before .before .before .args in
-    Seen s (a .p) (a .values) (a .cells) (a .lows .now) (a .highs .now)
-    → toldOf s (lineWith which (take 4 (a .numbers .now))) ≡ cond (c .sign-rule .result) (makes (ends (pos 0) (pos 1) ∷ [])) (refuses 10)
-told c s seen =
-    let start = c .before .before .before .before .before .before .before .before .before in
-    rw (c .sign-rule .ensures, apart-seen (c .before .apart .ensures))
-    (which-late (start .pre .0) (start .args .numbers .now) seen (c .before .before .before .ends-named .ensures) (c .before .before .ends-named2 .ensures) (told-begun (c .before .before .before .before)))
+    (ready-field ready, w .base-one, w .count-one, read-sized ready (m .0) (c .before .ends-named .ensures), read-sized ready (m .1) (c .ends-named2 .ensures))
 
 returns : tie.Need-returns
 unfolding madeSeen
-returns c = λ s seen. sym (told (c .before) s seen ∙ rw (not-true (c .before .sign-rule .result) (c .if1 .taken)))
+returns c =
+    let at-begun = c .before .before .before in
+    λ s seen. digits-stop (told-begun at-begun) which-shape (at-begun .before .before .pre .0) seen (c .before .begun .given .1)
 
 returns-2 : tie.Need-returns-2
-unfolding madeSeen
+unfolding late whichLine
 returns-2 c =
-    let start = c .before .before .before .before .before in
-    λ s seen. sym (digits-told (start .pre .0) (start .args .numbers .now) seen which-shape
-    (rw (← c .before .before .before .before .are-made .ensures) (sym (c .before .begun .given .1) ∙ c .before .before .before .begin-line .ensures)))
-
-returns-3 : tie.Need-returns-3
-unfolding madeSeen
-returns-3 c = λ s seen. sym (told (c .before) s seen ∙ rw (not-false (c .before .sign-rule .result) (c .if1 .left)))
+    let at-begun = c .before .before .before .before .before .before in
+    let ready = at-begun .before .before .pre .0 in
+    let m = made (c .before .before .before) in
+    λ s seen. c .which-ends .ensures ∙ sym (digits-late (told-begun at-begun) which-shape ready seen (c .before .before .before .before .begun2 .given .1)
+    ∙ rw (ends-known ready seen (m .0) (c .before .before .ends-named .ensures), ends-known ready seen (m .1) (c .before .ends-named2 .ensures), seen .prime))
 
 pub read-which-spec : {M : Type 1} → statement M
 read-which-spec =
@@ -92,8 +69,6 @@ read-which-spec =
     (λ c. search needs)
     ends-named-requires
     ends-named-requires-2
-    apart-requires
-    sign-rule-requires
+    which-ends-requires
     returns
-    returns-2
-    returns-3)
+    returns-2)
