@@ -19,7 +19,7 @@ pub fn size_at(numbers: &[i64], at: usize) -> usize
 }
 
 // The number at a place where a base stands.
-pub fn base_at(numbers: &[i64], at: usize) -> u32
+fn base_at(numbers: &[i64], at: usize) -> u32
     requires { ⌜ (at < length (now numbers)) × (pos 0 ≤ℤ getD (now numbers) at (pos 0)) × (natAbs (getD (now numbers) at (pos 0)) ≤ greatest) ⌝ }
     ensures { λ r. ⌜ r ≡ natAbs (getD (now (numbers .entry)) at (pos 0)) ⌝ }
 {

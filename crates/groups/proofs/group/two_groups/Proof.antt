@@ -16,7 +16,7 @@ returns c =
     let first = second .before .before .before .before in
     let s = first .before .before .before in
     let a = s .args in
-    written-after (a .k) (a .k) (a .k + a .k) (a .out .now) (first .form-cells .last .0) (second .form-cells2 .last .0)
+    written-after (a .k) (a .k) (a .k + a .k) _ _ _
     (groupCells (a .b) (a .k) (a .first) (pos 0))
     (groupCells (a .b) (a .k) (a .second) (pos 0))
     (length-group (a .b) (a .k) (a .first) (pos 0))

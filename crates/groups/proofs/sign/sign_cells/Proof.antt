@@ -83,7 +83,7 @@ returns c =
     let number-at = first .before .before in
     let a = number-at .before .before .before .args in
     let n = number-at .apart .result in
-    written-after (a .k) 2 (a .k + 2) (a .out .now) (first .group-cells .last .0) (last .flag-cells .last .0)
+    written-after (a .k) 2 (a .k + 2) _ _ _
     (digits (a .b) (a .k) n)
     (flagCells (a .p) (remainder (a .p) (pos (n / a .b ^ (a .k - 1) % a .b) -ℤ pos (a .b - 1))))
     (length-digits (a .b) (a .k) n)

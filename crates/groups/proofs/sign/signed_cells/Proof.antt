@@ -17,7 +17,7 @@ returns c =
     let first = last .before .before .before .before in
     let s = first .before .before .before in
     let a = s .args in
-    written-after 1 (a .k + 2) (a .k + 3) (a .out .now) (first .value-cell .last .0) (last .sign-cells .last .0)
+    written-after 1 (a .k + 2) (a .k + 3) _ _ _
     (remainder (a .p) (a .y) ∷ [])
     (signCells (a .p) (a .b) (a .k) (a .x))
     refl

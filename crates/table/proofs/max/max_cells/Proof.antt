@@ -64,7 +64,7 @@ returns c =
     let s = y-at .before .before in
     let a = s .args in
     let y = larger (a .u) (a .v) in
-    written-after 1 (a .k + a .k) (suc (2 * a .k)) (a .out .now) (first .value-cell .last .0) (last .two-groups .last .0)
+    written-after 1 (a .k + a .k) (suc (2 * a .k)) (a .out .now) _ _
     (remainder (a .p) y ∷ [])
     (groupCells (a .b) (a .k) (y -ℤ a .u) (pos 0) ++ groupCells (a .b) (a .k) (y -ℤ a .v) (pos 0))
     refl

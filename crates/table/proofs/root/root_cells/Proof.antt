@@ -61,14 +61,14 @@ returns c =
     let cells = squares .square-cells .last .0 in
     let start : putMid 2 (length cells - 2) cells (groups .two-groups .last .0)
     ≡ rootStart (a .p) (a .b) (a .k) (a .v) ++ drop (2 + 2 * a .k) (a .out .now) =
-    written-after 2 (a .k + a .k) (2 + 2 * a .k) (a .out .now) cells (groups .two-groups .last .0)
+    written-after 2 (a .k + a .k) (2 + 2 * a .k) _ _ _
     (remainder (a .p) y ∷ remainder (a .p) (y *ℤ y) ∷ [])
     (groupCells (a .b) (a .k) (a .v) (pos 0) ++ groupCells (a .b) (a .k) y (pos 0))
     refl
     (rw (root r) at (squares .square-cells .ensures))
     (rw (root r, back (s .fits .v)) at (groups .two-groups .ensures))
     (omega arith) in
-    written-after (2 + 2 * a .k) (a .k + a .k) (2 + 4 * a .k) (a .out .now) _ (rest .rest-cells .last .0)
+    written-after (2 + 2 * a .k) (a .k + a .k) (2 + 4 * a .k) _ _ _
     (rootStart (a .p) (a .b) (a .k) (a .v))
     (restCells (a .b) (a .k) (a .v) y)
     (length-start (a .p) (a .b) (a .k) (a .v))

@@ -21,7 +21,7 @@ returns c =
     let first = last .before .before .before .before in
     let s = first .before .before .before in
     let a = s .args in
-    written-after 1 1 2 (a .out .now) (first .value-cell .last .0) (last .value-cell2 .last .0)
+    written-after 1 1 2 (a .out .now) _ _
     (remainder (a .p) (a .r) ∷ [])
     (remainder (a .p) (a .r *ℤ a .r) ∷ [])
     refl
