@@ -1,9 +1,9 @@
--- A line's answer taken into the arrays: what reading tells of the line is what stepping over it does, an array with one more entry stands
+-- A line's answer taken into the arrays: what the rules tell of the line is what stepping over it does, an array with one more entry stands
 -- for the state after the line, and the arrays are left as they were past the values, or all of them where the line is refused.
-use mathlib.Core.Path.{_≡_, refl, sym, ap, ap₂, _∙_, subst}
+use mathlib.Core.Path.{_≡_, refl, sym, ap, ap₂, _∙_}
 use mathlib.Core.List.{List, [], _∷_, _++_}
 use mathlib.Core.Option.{Option, none, some}
-use Prim.Native.Nat.{ℕ, _+_, _<_}
+use Prim.Native.Nat.{ℕ, _+_, _≤_, _<_}
 use native.Mathlib.Omega.{arith}
 use native.Mathlib.Numerals.{add-one}
 use lib.Dec.{leb→le}
@@ -17,59 +17,37 @@ use Rattle.meaning.specs.Refusal.{valueLimit, onSome, rules, firstBroken}
 use Rattle.meaning.specs.Kept.{Keeps}
 use Rattle.meaning.proofs.Kept.{keeps-all}
 use Rattle.rules.specs.Ready.{endsFrom}
-use Rattle.reader.specs.State.{stateOf}
-use Rattle.rules.specs.Told.{Told, refuses, makes, toldOf, madeSeen}
-use Rattle.reader.specs.Step.{stops, goes, stepOf, stepSeen, placedAt, answered, entered, untouched, Left, WithinLimits, Grows}
+use Rattle.rules.specs.Told.{refuses, makes, toldOf, madeSeen}
 use Rattle.rules.specs.declared.rule.Made.{Made}
 use Rattle.rules.specs.declared.rule.Made.the-variants.{EndsOf, Breaks}
+use Rattle.rules.proofs.Rules.{toldWith}
+use Rattle.rules.proofs.Values.{known-long}
+use Rattle.reader.specs.State.{stateOf}
+use Rattle.reader.specs.Size.{counted, added, Adds}
+use Rattle.reader.specs.Step.{stops, goes, stepOf, stepSeen, placedAt, answered, entered, untouched, valuesIn, Left, WithinLimits}
 use Rattle.reader.specs.declared.state.Counts.{Counts}
 use Rattle.reader.specs.declared.state.Stepped.{Stepped}
-use Rattle.reader.specs.declared.state.Stepped.the-variants.{Next, Refused}
-use Rattle.rules.proofs.Values.{known-long}
 
 -- ---- what is told, taken apart
 
-abbrev numberIn : Told → ℕ
-numberIn (refuses n) = n
-numberIn (makes es) = 0
-
-abbrev endsIn : Told → List Ends
-endsIn (refuses n) = []
-endsIn (makes es) = es
-
-abbrev IsMade : Told → Type 0
-IsMade (refuses n) = ⊥
-IsMade (makes es) = Unit {0}
-
-pub told-refused : (o : Option ℕ) (m : List Ends) (a : Known) (n : ℕ) → refuses n ≡ onSome o refuses (makes m) → stops n ≡ onSome o stops (goes a)
+told-refused : (o : Option ℕ) (es : List Ends) (a : Known) (n : ℕ) → refuses n ≡ onSome o refuses (makes es) → stops n ≡ onSome o stops (goes a)
 unfolding onSome
-told-refused none m a n e = absurd (subst IsMade (sym e) tt)
-told-refused (some r) m a n e = ap stops (ap numberIn e)
+told-refused none es a n e = let z : _≡_ {A = ℕ} 0 1 = cc in absurd (omega arith)
+told-refused (some r) es a n e = cc
 
-pub told-made : (o : Option ℕ) (m es : List Ends) → makes es ≡ onSome o refuses (makes m) → (o ≡ none) × (m ≡ es)
+told-made : (o : Option ℕ) (es : List Ends) (e : Ends) → makes (e ∷ []) ≡ onSome o refuses (makes es) → (o ≡ none) × (es ≡ e ∷ [])
 unfolding onSome
-told-made none m es e = (refl, sym (ap endsIn e))
-told-made (some r) m es e = absurd (subst IsMade e tt)
+told-made none es e q = (refl, cc)
+told-made (some r) es e q = let z : _≡_ {A = ℕ} 0 1 = cc in absurd (omega arith)
 
-module _ (s : Known) (l : Line) where
-  pub refused-step : (n : ℕ) → refuses n ≡ toldOf s l → stops n ≡ stepOf 1 s l
-  unfolding toldOf stepOf
-  refused-step n e = told-refused (firstBroken rules 1 s l) (gadget s l .made) (after s l) n e
+module _ (s : Known) (l : Line) (es : List Ends) where
+  pub refused-step : (n : ℕ) → refuses n ≡ toldWith s l es → stops n ≡ stepOf 1 s l
+  unfolding stepOf
+  refused-step n e = told-refused (firstBroken rules 1 s l) es (after s l) n e
 
-  pub no-rule-broken : (es : List Ends) → makes es ≡ toldOf s l → firstBroken rules 1 s l ≡ none
-  unfolding toldOf
-  no-rule-broken es e = told-made (firstBroken rules 1 s l) (gadget s l .made) es e .0
-
-  pub rules-kept : (es : List Ends) → makes es ≡ toldOf s l → Keeps 1 s l
-  rules-kept es e = keeps-all 1 s l (no-rule-broken es e)
-
-  pub ends-made : (es : List Ends) → makes es ≡ toldOf s l → gadget s l .made ≡ es
-  unfolding toldOf
-  ends-made es e = told-made (firstBroken rules 1 s l) (gadget s l .made) es e .1
-
-  pub kept-step : firstBroken rules 1 s l ≡ none → goes (after s l) ≡ stepOf 1 s l
-  unfolding stepOf onSome
-  kept-step e = rw e refl
+  -- no rule is broken, and these are the ends
+  pub kept-ends : {low high : ℤ} → makes (ends low high ∷ []) ≡ toldWith s l es → (firstBroken rules 1 s l ≡ none) × (es ≡ ends low high ∷ [])
+  kept-ends {low} {high} e = told-made (firstBroken rules 1 s l) es (ends low high) e
 
 -- ---- the arrays with one more value
 
@@ -86,20 +64,6 @@ module _ (n : ℕ) (lows highs : List ℤ) (a b : ℤ) (in-lows : n < length low
   ends-grown = rw (add-one n, take-suc-set lows n a in-lows, take-suc-set highs n b in-highs)
       (ends-append (take n lows) (take n highs) (a ∷ []) (b ∷ []) (length-take-le n lows (omega arith) ∙ sym (length-take-le n highs (omega arith))))
 
--- ---- a state, by its fields
-
-pub same-state : {a b : Known} → a .p ≡ b .p → a .known ≡ b .known → a .places ≡ b .places → a .inputs ≡ b .inputs → a .cells ≡ b .cells
-    → a .rows ≡ b .rows → a ≡ b
-same-state e f g h k m = λ i. record { p = e i; known = f i; places = g i; inputs = h i; cells = k i; rows = m i }
-
--- as many values are known as the code counts
-pub values-are : {s : Known} {c : Counts} (p : ℕ) (lows highs : List ℤ) (places : List ℕ) → s ≡ stateOf p c lows highs places
-    → WithinLimits c (length lows) (length highs) → length (s .known) ≡ c .values
-unfolding stateOf
-values-are {s} {c} p lows highs places is sized =
-    known-long s (c .values) lows highs (ap (λ (q : Known). q .known) is) (omega (arith, sized .values-most, sized .lows-long))
-    (omega (arith, sized .values-most, sized .highs-long))
-
 -- ---- what is left of the arrays
 
 left-entered : {A : Type 0} (made : Made) (at : ℕ) (c : Counts) (entry : ℤ → ℤ → A) (xs : List A)
@@ -113,52 +77,99 @@ pub left-by-entry : {A : Type 0} {r : Stepped} {after : List A} (made : Made) (a
     → ((low high : ℤ) → made ≡ EndsOf low high → at < c .values) → r ≡ answered made c → after ≡ entered made at entry before → Left r before after
 left-by-entry made at c entry before h e f = rw (e, f) (left-entered made at c entry before h)
 
--- ---- the ways out of taking in a line
+-- ---- taking in a line
 
-module _ (p : ℕ) (s : Known) (l : Line) (c : Counts) (lows highs : List ℤ) (places : List ℕ) (is : s ≡ stateOf p c lows highs places)
-    (sized : WithinLimits c (length lows) (length highs)) (made : Made) (e : madeSeen made ≡ toldOf s l) where
-  -- a line that is refused
-  pub grown-refused : (n : ℕ) (ls hs : List ℤ) (ps : List ℕ) → made ≡ Breaks n → stepSeen p (Refused n) ls hs ps ≡ stepOf 1 s l
-  unfolding stepSeen madeSeen
-  grown-refused n ls hs ps q = refused-step s l n (sym (ap madeSeen q) ∙ e)
+-- the counts and the arrays are those of state s, all of it
+pub record Held (p : ℕ) (s : Known) (c : Counts) (lows highs : List ℤ) (places : List ℕ) : Type 0 where
+  pub is : s ≡ stateOf p c lows highs places
+  pub sized : WithinLimits c (length lows) (length highs)
 
-  module _ (low high : ℤ) (q : made ≡ EndsOf low high) where
-    told : makes (ends low high ∷ []) ≡ toldOf s l
-    unfolding madeSeen
-    told = sym (ap madeSeen q) ∙ e
+same-state : {a b : Known} → a .p ≡ b .p → a .known ≡ b .known → a .places ≡ b .places → a .inputs ≡ b .inputs → a .cells ≡ b .cells
+    → a .rows ≡ b .rows → a ≡ b
+same-state e f g h k m = λ i. record { p = e i; known = f i; places = g i; inputs = h i; cells = k i; rows = m i }
+
+module _ {p : ℕ} {s : Known} {c : Counts} {lows highs : List ℤ} {places : List ℕ} (held : Held p s c lows highs places) (l : Line) where
+  -- as many values are known as the code counts
+  pub values-are : length (s .known) ≡ c .values
+  unfolding stateOf
+  values-are =
+      known-long s (c .values) lows highs (ap (λ (q : Known). q .known) (held .is)) (omega (arith, held .sized .values-most, held .sized .lows-long))
+      (omega (arith, held .sized .values-most, held .sized .highs-long))
+
+  -- what a line does that breaks no rule
+  module _ (size : Counts) (adds : Adds s l size) (prime-is : after s l .p ≡ s .p) (kept : firstBroken rules 1 s l ≡ none) where
+    pub stepped : (ls hs : List ℤ)
+        → endsFrom (take (c .values + size .values) ls) (take (c .values + size .values) hs) ≡ gadget s l .narrowed ++ gadget s l .made
+        → take (c .values + size .values) (placedAt c places) ≡ s .places ++ placesFrom (s .cells) (gadget s l .made)
+        → goes (stateOf p (added c size) ls hs (placedAt c places)) ≡ stepOf 1 s l
+    unfolding stateOf counted added after stepOf onSome
+    stepped ls hs known-is places-is =
+        rw kept (ap goes (same-state
+        (ap (λ (z : Known). z .p) (sym (held .is)) ∙ sym prime-is)
+        known-is
+        places-is
+        (ap₂ (λ (x y : ℕ). x + y) (ap (λ (z : Known). z .inputs) (sym (held .is))) (sym (adds .inputs-are)))
+        (ap₂ (λ (x y : ℕ). x + y) (ap (λ (z : Known). z .cells) (sym (held .is))) (sym (adds .cells-are)))
+        (ap₂ (λ (x y : ℕ). x + y) (ap (λ (z : Known). z .rows) (sym (held .is))) (sym (adds .rows-are)))))
+
+  -- no more than 256 values, by the line's own rules
+  pub few-values : (size : Counts) → (Keeps 1 s l → Adds s l size) → (es : List Ends) (made : Made) → madeSeen made ≡ toldWith s l es → valuesIn (answered made (added c size)) ≤ valueLimit
+  unfolding valuesIn answered counted added madeSeen
+  few-values size adds es (EndsOf low high) told =
+      let kept = keeps-all 1 s l (kept-ends s l es told .0) in
+      omega (arith, leb→le (length (s .known) + length (gadget s l .made)) valueLimit (kept .values-fit), values-are, adds kept .values-are)
+  few-values size adds es (Breaks n) told = omega arith
+
+-- ---- a line that makes a value
+
+-- it adds these counts and narrows no ends
+pub record Grows (s : Known) (l : Line) (size : Counts) : Type 0 where
+  pub adds : Adds s l size
+  pub narrowed-is : gadget s l .narrowed ≡ s .known
+  pub prime-is : after s l .p ≡ s .p
+
+module _ {p : ℕ} {s : Known} {c : Counts} {lows highs : List ℤ} {places : List ℕ} (held : Held p s c lows highs places) (l : Line) where
+  module _ {low high : ℤ} (told : makes (ends low high ∷ []) ≡ toldOf s l) where
+    parts : (firstBroken rules 1 s l ≡ none) × (gadget s l .made ≡ ends low high ∷ [])
+    unfolding toldOf
+    parts = kept-ends s l (gadget s l .made) told
 
     kept : Keeps 1 s l
-    kept = rules-kept s l (ends low high ∷ []) told
-
-    one : length (gadget s l .made) ≡ 1
-    one = ap (λ (es : List Ends). length es) (ends-made s l (ends low high ∷ []) told)
+    kept = keeps-all 1 s l (parts .0)
 
     -- value 257 is refused by the line's own rules
-    pub room : c .values < valueLimit
-    room =
-        omega (arith, leb→le (length (s .known) + length (gadget s l .made)) valueLimit (kept .values-fit), values-are p lows highs places is sized, one)
+    room-for : c .values < valueLimit
+    room-for = omega (arith, leb→le (length (s .known) + length (gadget s l .made)) valueLimit (kept .values-fit), values-are held l, ap (λ (es : List Ends). length es) (parts .1))
 
-    values-one : (size : Counts) → (Keeps 1 s l → Grows s l size) → size .values ≡ 1
-    values-one size grows-if = sym (grows-if kept .adds .values-are) ∙ one
+    module _ (size : Counts) (grows : Grows s l size) where
+      one : size .values ≡ 1
+      one = sym (grows .adds .values-are) ∙ ap (λ (es : List Ends). length es) (parts .1)
 
-    pub entry-counted : (size : Counts) → (Keeps 1 s l → Grows s l size) → c .values < c .values + size .values
-    entry-counted size grows-if = omega (arith, values-one size grows-if)
+      grown-with : length places ≡ valueLimit
+          → goes (stateOf p (added c size) (set lows (c .values) low) (set highs (c .values) high) (placedAt c places)) ≡ stepOf 1 s l
+      unfolding stateOf placedAt placesFrom
+      grown-with long = stepped held l size (grows .adds) (grows .prime-is) (parts .0) (set lows (c .values) low) (set highs (c .values) high)
+          (rw one (ends-grown (c .values) lows highs low high (omega (arith, room-for, held .sized .lows-long)) (omega (arith, room-for, held .sized .highs-long))
+          ∙ ap₂ (λ (xs ys : List Ends). xs ++ ys) (sym (grows .narrowed-is ∙ ap (λ (z : Known). z .known) (held .is))) (sym (parts .1))))
+          (rw (one, add-one (c .values), take-suc-set places (c .values) (c .cells) (omega (arith, room-for, long)))
+          (ap₂ (λ (xs ys : List ℕ). xs ++ ys) (ap (λ (z : Known). z .places) (sym (held .is)))
+          (ap (λ (i : ℕ). i ∷ []) (ap (λ (z : Known). z .cells) (sym (held .is))) ∙ ap (placesFrom (s .cells)) (sym (parts .1)))))
 
-    pub grown : length places ≡ valueLimit → (size : Counts) → (Keeps 1 s l → Grows s l size)
-        → stepSeen p (Next (record { values = c .values + size .values; inputs = c .inputs + size .inputs; cells = c .cells + size .cells; rows = c .rows + size .rows }))
-        (set lows (c .values) low) (set highs (c .values) high) (placedAt c places) ≡ stepOf 1 s l
-    unfolding stepSeen stateOf placedAt after placesFrom
-    grown long size grows-if =
-        let grows = grows-if kept in
-        let made-is = ends-made s l (ends low high ∷ []) told in
-        let there = kept-step s l (no-rule-broken s l (ends low high ∷ []) told) in
-        rw (values-one size grows-if) (ap goes (same-state
-        (ap (λ (z : Known). z .p) (sym is) ∙ sym (grows .prime-is))
-        (ends-grown (c .values) lows highs low high (omega (arith, room, sized .lows-long)) (omega (arith, room, sized .highs-long))
-        ∙ ap₂ (λ (xs ys : List Ends). xs ++ ys) (sym (grows .narrowed-is ∙ ap (λ (z : Known). z .known) is)) (sym made-is))
-        (rw (add-one (c .values), take-suc-set places (c .values) (c .cells) (omega (arith, room, long)))
-        (ap₂ (λ (xs ys : List ℕ). xs ++ ys) (ap (λ (z : Known). z .places) (sym is))
-        (ap (λ (i : ℕ). i ∷ []) (ap (λ (z : Known). z .cells) (sym is)) ∙ ap (placesFrom (s .cells)) (sym made-is))))
-        (ap₂ (λ (x y : ℕ). x + y) (ap (λ (z : Known). z .inputs) (sym is)) (sym (grows .adds .inputs-are)))
-        (ap₂ (λ (x y : ℕ). x + y) (ap (λ (z : Known). z .cells) (sym is)) (sym (grows .adds .cells-are)))
-        (ap₂ (λ (x y : ℕ). x + y) (ap (λ (z : Known). z .rows) (sym is)) (sym (grows .adds .rows-are)))) ∙ there)
+  pub room : (made : Made) → madeSeen made ≡ toldOf s l → (low high : ℤ) → made ≡ EndsOf low high → c .values < valueLimit
+  unfolding madeSeen
+  room made told low high q = room-for (rw q at told)
+
+  module _ (size : Counts) (grows : Keeps 1 s l → Grows s l size) where
+    pub entry-counted : (made : Made) → madeSeen made ≡ toldOf s l → (low high : ℤ) → made ≡ EndsOf low high → c .values < c .values + size .values
+    unfolding madeSeen
+    entry-counted made told low high q = let t : makes (ends low high ∷ []) ≡ toldOf s l = rw q at told in omega (arith, one t size (grows (kept t)))
+
+    pub grown : (made : Made) → madeSeen made ≡ toldOf s l → length places ≡ valueLimit
+        → stepSeen p (answered made (added c size)) (entered made (c .values) (λ low high. low) lows) (entered made (c .values) (λ low high. high) highs) (placedAt c places) ≡ stepOf 1 s l
+    unfolding stepSeen answered entered toldOf madeSeen
+    grown (EndsOf low high) told long = grown-with told size (grows (kept told)) long
+    grown (Breaks n) told long = refused-step s l (gadget s l .made) n told
+
+    pub few-grown : (made : Made) → madeSeen made ≡ toldOf s l → valuesIn (answered made (added c size)) ≤ valueLimit
+    unfolding toldOf
+    few-grown made told = few-values held l size (λ k. grows k .adds) (gadget s l .made) made told

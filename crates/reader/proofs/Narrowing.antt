@@ -4,7 +4,6 @@ use mathlib.Core.List.{List, [], _∷_, append-nil}
 use mathlib.Core.Option.{none}
 use Prim.Native.Nat.{ℕ, zero, suc, _+_, _≤_, _<_}
 use native.Mathlib.Omega.{arith}
-use native.Mathlib.Nat.{add-zero}
 use lib.ListN.{length, getD, take, set}
 use lib.Seq.{take-set-le, take-set-lt, length-take-le}
 use lib.IntN.{ℤ}
@@ -19,14 +18,13 @@ use Rattle.meaning.proofs.Kept.{keeps-all}
 use Rattle.meaning.proofs.Lines.{first-named}
 use Rattle.rules.specs.Ready.{endsFrom}
 use Rattle.reader.specs.State.{stateOf}
-use Rattle.rules.specs.Told.{spanTold, madeSeen, lineWith}
-use Rattle.reader.specs.Size.{Adds}
-use Rattle.reader.specs.Step.{goes, stepOf, stepSeen, placedAt, WithinLimits}
+use Rattle.rules.specs.Told.{makes, spanTold, madeSeen, lineWith}
+use Rattle.reader.specs.Size.{added, Adds}
+use Rattle.reader.specs.Step.{goes, stepOf, stepSeen, placedAt, answered, entered, valuesIn}
 use Rattle.rules.specs.declared.rule.Made.{Made}
 use Rattle.rules.specs.declared.rule.Made.the-variants.{EndsOf, Breaks}
 use Rattle.reader.specs.declared.state.Counts.{Counts}
-use Rattle.reader.specs.declared.state.Stepped.the-variants.{Next, Refused}
-use Rattle.reader.proofs.Growth.{told-refused, told-made, kept-step, values-are, same-state}
+use Rattle.reader.proofs.Growth.{Held, refused-step, kept-ends, values-are, stepped, few-values}
 
 ends-set : (xs ys : List ℤ) (i : ℕ) (a b : ℤ) → length xs ≡ length ys → endsFrom (set xs i a) (set ys i b) ≡ set (endsFrom xs ys) i (ends a b)
 unfolding endsFrom
@@ -36,58 +34,60 @@ ends-set (x ∷ xs) [] i a b h = absurd (omega arith)
 ends-set (x ∷ xs) (y ∷ ys) zero a b h = refl
 ends-set (x ∷ xs) (y ∷ ys) (suc i) a b h = ap (λ (es : List Ends). ends x y ∷ es) (ends-set xs ys i a b (omega arith))
 
-module _ (p : ℕ) (s : Known) (ns : List ℤ) (c : Counts) (lows highs : List ℤ) (places : List ℕ) (is : s ≡ stateOf p c lows highs places)
-    (sized : WithinLimits c (length lows) (length highs)) (made : Made) (e : madeSeen made ≡ spanTold s (lineWith span ns)) where
+module _ {p : ℕ} {s : Known} {c : Counts} {lows highs : List ℤ} {places : List ℕ} (held : Held p s c lows highs places) (ns : List ℤ)
+    (at : ℕ) (at-is : Keeps 1 s (lineWith span ns) → sizeAt ns 0 ≡ at) where
   abbrev line : Line
   line = lineWith span ns
 
   abbrev new : Ends
   new = shared (sizeAt ns 1) (sizeAt ns 2) (numberAt ns 3) (endsOf s (sizeAt ns 0))
 
-  pub narrowed-refused : (n : ℕ) (ls hs : List ℤ) → made ≡ Breaks n → stepSeen p (Refused n) ls hs (placedAt c places) ≡ stepOf 1 s line
-  unfolding stepSeen madeSeen spanTold stepOf
-  narrowed-refused n ls hs q = told-refused (firstBroken rules 1 s line) (new ∷ []) (after s line) n (sym (ap madeSeen q) ∙ e)
-
-  module _ (low high : ℤ) (q : made ≡ EndsOf low high) where
+  module _ {low high : ℤ} (told : makes (ends low high ∷ []) ≡ spanTold s line) where
     parts : (firstBroken rules 1 s line ≡ none) × (new ∷ [] ≡ ends low high ∷ [])
-    unfolding spanTold madeSeen
-    parts = told-made (firstBroken rules 1 s line) (new ∷ []) (ends low high ∷ []) (sym (ap madeSeen q) ∙ e)
-
-    new-is : new ≡ ends low high
-    new-is = ap (λ (es : List Ends). getD es 0 (ends low high)) (parts .1)
+    unfolding spanTold
+    parts = kept-ends s line (new ∷ []) told
 
     kept : Keeps 1 s line
     kept = keeps-all 1 s line (parts .0)
 
-    module _ (at : ℕ) (at-is : Keeps 1 s line → sizeAt ns 0 ≡ at) where
-      -- a value that is not made is refused by the line's own rules
-      pub named : at < c .values
-      unfolding kindOf
-      named = omega (arith, first-named (length (s .known)) 0 ns [] (kept .names-made), values-are p lows highs places is sized, at-is kept)
+    -- a value that is not made is refused by the line's own rules
+    named-for : at < c .values
+    unfolding kindOf
+    named-for = omega (arith, first-named (length (s .known)) 0 ns [] (kept .names-made), values-are held line, at-is kept)
 
-      pub named-within : at < valueLimit
-      named-within = omega (arith, named, sized .values-most)
+    known-narrowed : endsFrom (take (c .values) (set lows at low)) (take (c .values) (set highs at high)) ≡ set (s .known) (sizeAt ns 0) new
+    unfolding stateOf
+    known-narrowed =
+        let h : c .values ≤ length lows = omega (arith, held .sized .values-most, held .sized .lows-long) in
+        let k : c .values ≤ length highs = omega (arith, held .sized .values-most, held .sized .highs-long) in
+        let new-is : ends low high ≡ new = ap (λ (es : List Ends). getD es 0 new) (sym (parts .1)) in
+        rw (take-set-lt (c .values) lows at low named-for, take-set-lt (c .values) highs at high named-for)
+        (ends-set (take (c .values) lows) (take (c .values) highs) at low high (length-take-le (c .values) lows h ∙ sym (length-take-le (c .values) highs k))
+        ∙ ap (λ (es : List Ends). set es at (ends low high)) (ap (λ (z : Known). z .known) (sym (held .is)))
+        ∙ ap₂ (λ (i : ℕ) (f : Ends). set (s .known) i f) (sym (at-is kept)) new-is)
 
-      known-narrowed : endsFrom (take (c .values) (set lows at low)) (take (c .values) (set highs at high)) ≡ set (s .known) (sizeAt ns 0) new
-      unfolding stateOf
-      known-narrowed =
-          let h : c .values ≤ length lows = omega (arith, sized .values-most, sized .lows-long) in
-          let k : c .values ≤ length highs = omega (arith, sized .values-most, sized .highs-long) in
-          rw (take-set-lt (c .values) lows at low named, take-set-lt (c .values) highs at high named)
-          (ends-set (take (c .values) lows) (take (c .values) highs) at low high (length-take-le (c .values) lows h ∙ sym (length-take-le (c .values) highs k))
-          ∙ ap (λ (es : List Ends). set es at (ends low high)) (ap (λ (z : Known). z .known) (sym is))
-          ∙ ap₂ (λ (i : ℕ) (f : Ends). set (s .known) i f) (sym (at-is kept)) (sym new-is))
+    narrowed-with : (size : Counts) → Adds s line size → goes (stateOf p (added c size) (set lows at low) (set highs at high) (placedAt c places)) ≡ stepOf 1 s line
+    unfolding stateOf placedAt after gadget kindOf spanLine primeAfter placesFrom
+    narrowed-with size adds =
+        let none-made : c .values + size .values ≡ c .values = omega (arith, adds .values-are) in
+        stepped held line size adds refl (parts .0) (set lows at low) (set highs at high)
+        (rw none-made (known-narrowed ∙ sym (append-nil (set (s .known) (sizeAt ns 0) new))))
+        (rw none-made (take-set-le (c .values) places (c .values) (c .cells) (omega arith) ∙ ap (λ (z : Known). z .places) (sym (held .is)) ∙ sym (append-nil (s .places))))
 
-      pub narrowed : (size : Counts) → (Keeps 1 s line → Adds s line size)
-          → stepSeen p (Next (record { values = c .values; inputs = c .inputs; cells = c .cells + size .cells; rows = c .rows + size .rows }))
-          (set lows at low) (set highs at high) (placedAt c places) ≡ stepOf 1 s line
-      unfolding stepSeen stateOf placedAt after gadget kindOf spanLine primeAfter placesFrom
-      narrowed size adds-if =
-          let adds = adds-if kept in
-          ap goes (same-state
-          (ap (λ (z : Known). z .p) (sym is))
-          (known-narrowed ∙ sym (append-nil (set (s .known) (sizeAt ns 0) new)))
-          (take-set-le (c .values) places (c .values) (c .cells) (omega arith) ∙ ap (λ (z : Known). z .places) (sym is) ∙ sym (append-nil (s .places)))
-          (ap (λ (z : Known). z .inputs) (sym is) ∙ sym (add-zero (s .inputs)))
-          (ap₂ (λ (x y : ℕ). x + y) (ap (λ (z : Known). z .cells) (sym is)) (sym (adds .cells-are)))
-          (ap₂ (λ (x y : ℕ). x + y) (ap (λ (z : Known). z .rows) (sym is)) (sym (adds .rows-are)))) ∙ kept-step s line (parts .0)
+  pub named : (made : Made) → madeSeen made ≡ spanTold s line → (low high : ℤ) → made ≡ EndsOf low high → at < c .values
+  unfolding madeSeen
+  named made told low high q = named-for (rw q at told)
+
+  module _ (size : Counts) (adds : Keeps 1 s line → Adds s line size) where
+    pub narrowed : (made : Made) → madeSeen made ≡ spanTold s line
+        → stepSeen p (answered made (added c size)) (entered made at (λ low high. low) lows) (entered made at (λ low high. high) highs) (placedAt c places) ≡ stepOf 1 s line
+    unfolding stepSeen answered entered spanTold madeSeen
+    narrowed (EndsOf low high) told = narrowed-with told size (adds (kept told))
+    narrowed (Breaks n) told = refused-step s line (new ∷ []) n told
+
+    pub named-counted : (made : Made) → madeSeen made ≡ spanTold s line → (low high : ℤ) → made ≡ EndsOf low high → at < c .values + size .values
+    named-counted made told low high q = omega (arith, named made told low high q)
+
+    pub few-narrowed : (made : Made) → madeSeen made ≡ spanTold s line → valuesIn (answered made (added c size)) ≤ valueLimit
+    unfolding spanTold
+    few-narrowed made told = few-values held line size adds (new ∷ []) made told

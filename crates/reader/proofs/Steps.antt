@@ -43,19 +43,19 @@ use Rattle.rules.specs.Ready.{Small, Seen}
 use Rattle.reader.specs.State.{stateOf}
 use Rattle.rules.specs.Told.{Told, refuses, toldOf, lineWith}
 use Rattle.reader.specs.Size.{Adds}
-use Rattle.reader.specs.Step.{ParsedLine, toldBy, lineTold, Step, stops, Grows, stepOf, stepOption}
+use Rattle.reader.specs.Step.{ParsedLine, toldBy, lineTold, Step, stops, stepOf, stepOption}
 use Rattle.reader.specs.declared.state.Counts.{Counts}
+use Rattle.reader.proofs.Growth.{Held, Grows}
 use Rattle.reader.proofs.Sizes.{length-groupRows, length-signRows, two-groups, four-groups}
 
 -- ---- the arguments of a line's reader
 
-pub seen-state : {s : Known} (p : ℕ) (c : Counts) (lows highs : List ℤ) (places : List ℕ) → s ≡ stateOf p c lows highs places
-    → Seen s p (c .values) (c .cells) lows highs
+pub seen-state : {p : ℕ} {s : Known} {c : Counts} {lows highs : List ℤ} {places : List ℕ} → Held p s c lows highs places → Seen s p (c .values) (c .cells) lows highs
 unfolding stateOf
-seen-state p c lows highs places is = record {
-  prime = ap (λ (q : Known). q .p) is;
-  known = ap (λ (q : Known). q .known) is;
-  cells-are = ap (λ (q : Known). q .cells) is;
+seen-state held = record {
+  prime = ap (λ (q : Known). q .p) (held .is);
+  known = ap (λ (q : Known). q .known) (held .is);
+  cells-are = ap (λ (q : Known). q .cells) (held .is);
 }
 
 pub fewer : {n m : ℕ} (zs : List ℤ) → m ≡ n → Small m zs → Small n zs

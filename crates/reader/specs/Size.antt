@@ -1,6 +1,6 @@
 -- How much a line adds to the counts of a list.
 use mathlib.Core.Path.{_≡_}
-use Prim.Native.Nat.{ℕ, _≤_}
+use Prim.Native.Nat.{ℕ, _+_, _≤_}
 use lib.ListN.{length}
 use Rattle.meaning.specs.Line.{Line}
 use Rattle.meaning.specs.Known.{Known}
@@ -9,6 +9,10 @@ use Rattle.reader.specs.declared.state.Counts.{Counts}
 
 unfoldable pub counted : (values inputs cells rows : ℕ) → Counts
 counted values inputs cells rows = record { values = values; inputs = inputs; cells = cells; rows = rows }
+
+-- counts with those of one more line
+unfoldable pub added : (before size : Counts) → Counts
+added c size = counted (c .values + size .values) (c .inputs + size .inputs) (c .cells + size .cells) (c .rows + size .rows)
 
 -- how much a line adds to the counts of what is known before it
 pub record Adds (s : Known) (l : Line) (c : Counts) : Type 0 where

@@ -9,14 +9,13 @@ use lib.IntN.{ℤ}
 use Rattle.meaning.specs.Word.{Word, field, input, span, sum, relu, which, max, root, kindOf, mostNumbers}
 use Rattle.meaning.specs.Line.{Line}
 use Rattle.meaning.specs.Known.{Known}
-use Rattle.meaning.specs.Meaning.{gadget, after}
+use Rattle.meaning.specs.Meaning.{after}
 use Rattle.meaning.specs.Refusal.{onSome, rules, firstBroken, cellLimit, valueLimit}
 use Rattle.text.specs.Word.{wordOf}
 use Rattle.text.specs.declared.Word.{Word as WordRead}
 use Rattle.rules.specs.Ready.{Small}
 use Rattle.rules.specs.Told.{Told, toldOf, spanTold}
 use Rattle.reader.specs.State.{stateOf}
-use Rattle.reader.specs.Size.{Adds}
 use Rattle.rules.specs.declared.rule.Made.{Made}
 use Rattle.rules.specs.declared.rule.Made.the-variants.{EndsOf, Breaks}
 use Rattle.reader.specs.declared.state.Counts.{Counts}
@@ -98,12 +97,6 @@ pub record WithinLimits (c : Counts) (lows highs : ℕ) : Type 0 where
   pub inputs-most : c .inputs ≤ c .values
   pub cells-most : c .cells ≤ cellLimit
   pub rows-most : c .rows ≤ 2 * c .cells
-
--- a line that adds these counts and narrows no ends
-pub record Grows (s : Known) (l : Line) (size : Counts) : Type 0 where
-  pub adds : Adds s l size
-  pub narrowed-is : gadget s l .narrowed ≡ s .known
-  pub prime-is : after s l .p ≡ s .p
 
 -- where a line has ends, its place is one of the arrays'
 abbrev pub Placed : Made → ℕ → Type 0

@@ -4,8 +4,7 @@ use super::size::line_size;
 use super::size::natural;
 use super::state::Counts;
 use super::state::Stepped;
-use super::state::grow;
-use super::state::narrow;
+use super::state::enter;
 use rules::Made;
 use rules::read_input;
 use rules::read_max;
@@ -83,8 +82,8 @@ pub fn step_parsed(
     );
     let size = line_size(word, numbers);
     let Word::Span = word else {
-        return grow(made, size, counts, lows, highs);
+        return enter(made, counts.values, size, counts, lows, highs);
     };
     let at = natural(numbers[0]);
-    narrow(made, at, size, counts, lows, highs)
+    enter(made, at, size, counts, lows, highs)
 }

@@ -1,11 +1,12 @@
--- `reader::step::step_parsed`: what reading tells of the line, taken in by `grow`, or by `narrow` where it is a span line.
+-- `reader::step::step_parsed`: what the rules tell of the line, taken in behind the values, or at the value that a span line names.
 use mathlib.Core.Path.{_≡_, refl, _∙_}
 use mathlib.Core.List.{List, []}
-use Prim.Native.Nat.{ℕ, _+_, _<_}
+use Prim.Native.Nat.{ℕ}
 use native.Mathlib.Omega.{arith}
 use denote.Ref.{now}
 use lib.ListN.{take, getD}
-use lib.IntN.{ℤ, pos}
+use lib.IntN.{ℤ, pos, natAbs}
+use lib.Signed.{_≤ℤ_}
 use mir.Syntax.{w64}
 use mir.Val.{SFits}
 use Rattle.number.proofs.Word.{back}
@@ -13,98 +14,119 @@ use Rattle.meaning.specs.Word.{span, sizeAt, kindOf}
 use Rattle.meaning.specs.Known.{Known}
 use Rattle.meaning.specs.Kept.{Keeps}
 use Rattle.text.specs.Word.{wordOf}
-use Rattle.reader.specs.State.{stateOf}
+use Rattle.text.specs.declared.Word.the-variants.{Span}
 use Rattle.rules.specs.Told.{toldOf, spanTold, madeSeen, lineWith}
-use Rattle.reader.specs.Size.{counted}
-use Rattle.reader.specs.Step.{toldBy, lineTold, Grows}
-use Rattle.rules.specs.declared.rule.Made.the-variants.{EndsOf}
-use Rattle.reader.proofs.Growth.{room, entry-counted, left-by-entry}
-use Rattle.reader.proofs.Narrowing.{named, named-within}
+use Rattle.reader.specs.State.{stateOf}
+use Rattle.reader.specs.Size.{counted, added, Adds}
+use Rattle.reader.specs.Step.{toldBy, lineTold}
+use Rattle.reader.proofs.Growth.{Held, Grows, few-grown, room, entry-counted, grown, left-by-entry}
+use Rattle.reader.proofs.Narrowing.{named, narrowed, named-counted, few-narrowed}
 use Rattle.reader.proofs.Sizes.{count-is}
-use Rattle.reader.proofs.Steps.{seen-state, not-span, told-by-word, grows-by-word, span-word, name-counted}
+use Rattle.reader.proofs.Steps.{seen-state, NotSpan, not-span, told-by-word, grows-by-word, span-word, name-counted}
 use borrow.Author.Needs.{needs}
 use Rattle.reader.proofs.step.step_parsed.Statement.{statement}
 use Rattle.reader.proofs.step.step_parsed.Tie as tie
 
-grow-requires : tie.Need-grow-requires
-grow-requires c κs =
-    let S = c .before .before .before .before .before .before .before in
-    let a = S .args in
-    let s = stateOf (a .p) (a .counts) (now (a .lows)) (now (a .highs)) [] in
-    let ns = take (a .count) (now (a .numbers)) in
-    let told = c .before .before .before .before .read-ends .ensures s (seen-state (a .p) (a .counts) (now (a .lows)) (now (a .highs)) [] refl)
-    ∙ told-by-word s (wordOf (a .word)) ns (not-span (a .word) (c .before .before .match .keys2)) in
-    (S .pre .1, c .before .before .before .line-size .ensures .1, room (a .p) s (lineWith (wordOf (a .word)) ns) (a .counts) (now (a .lows)) (now (a .highs)) [] refl (S .pre .1) _ told)
+-- ---- what is known where the line is taken in, of any state that the counts and the arrays are
+
+module _ (c : tie.After-line-size) where
+  abbrev start : tie.Start
+  start = c .before .before .before .before
+
+  abbrev HeldHere : Known → List ℕ → Type 0
+  HeldHere s places = Held (start .args .p) s (start .args .counts) (now (start .args .lows)) (now (start .args .highs)) places
+
+  held : (s : Known) (places : List ℕ) → s ≡ stateOf (start .args .p) (start .args .counts) (now (start .args .lows)) (now (start .args .highs)) places → HeldHere s places
+  held s places is = record { is = is; sized = start .pre .1 }
+
+  abbrev numbers : List ℤ
+  numbers = take (start .args .count) (now (start .args .numbers))
+
+  line-told : {s : Known} {places : List ℕ} → HeldHere s places → madeSeen (c .before .read-ends .result) ≡ lineTold s (lineWith (wordOf (start .args .word)) numbers)
+  line-told {s} held = c .before .read-ends .ensures s (seen-state held)
+
+  -- a line that makes a value
+  module _ (other : NotSpan (wordOf (start .args .word))) where
+    told : {s : Known} {places : List ℕ} → HeldHere s places → madeSeen (c .before .read-ends .result) ≡ toldOf s (lineWith (wordOf (start .args .word)) numbers)
+    told {s} held = line-told held ∙ told-by-word s (wordOf (start .args .word)) numbers other
+
+    grows : (s : Known) → Keeps 1 s (lineWith (wordOf (start .args .word)) numbers) → Grows s (lineWith (wordOf (start .args .word)) numbers) (c .line-size .result)
+    grows s kept = grows-by-word s (c .line-size .result) (wordOf (start .args .word)) numbers other kept (c .line-size .ensures .0 1 (start .args .count) s (start .pre .2 .counted) kept)
+
+  -- a span line, and the value that it names
+  module _ (span-is : start .args .word ≡ Span) (at : ℕ) (at-is : pos 0 ≤ℤ getD (now (start .args .numbers)) 0 (pos 0) → at ≡ natAbs (getD (now (start .args .numbers)) 0 (pos 0))) where
+    told-span : {s : Known} {places : List ℕ} → HeldHere s places → madeSeen (c .before .read-ends .result) ≡ spanTold s (lineWith span numbers)
+    unfolding toldBy lineTold
+    told-span held = rw (span-word span-is) at (line-told held)
+
+    adds : (s : Known) → Keeps 1 s (lineWith span numbers) → Adds s (lineWith span numbers) (c .line-size .result)
+    adds s = rw (span-word span-is) at (c .line-size .ensures .0 1 (start .args .count) s (start .pre .2 .counted))
+
+    names : (s : Known) → Keeps 1 s (lineWith span numbers) → sizeAt numbers 0 ≡ at
+    unfolding kindOf wordOf
+    names s kept = name-counted s (now (start .args .numbers)) (start .args .count) at (omega (arith, count-is (now (start .args .numbers)) 4 (start .args .count) span-is (λ ns. refl) (start .pre .2 .counted) (omega (arith, start .pre .2 .numbers-long, start .pre .2 .most)))) at-is kept
+
+-- ---- the ways out
+
+enter-requires : tie.Need-enter-requires
+enter-requires c κs =
+    let at-size = c .before .before .before in
+    let before = held at-size _ [] refl in
+    (start at-size .pre .1, at-size .line-size .ensures .1, room before _ _ (told at-size (not-span _ (c .before .before .match .keys2)) before))
 
 returns : tie.Need-returns
-unfolding counted
+unfolding counted added
 returns c =
-    let S = c .before .before .before .before .before .before .before .before .before .before in
-    let a = S .args in
-    let w = wordOf (a .word) in
-    let ns = take (a .count) (now (a .numbers)) in
-    let other = not-span (a .word) (c .before .before .before .before .before .match .keys2) in
-    let made = c .before .before .before .before .before .before .before .read-ends .result in
-    let size = c .before .before .before .before .before .before .line-size .result in
-    let grows : (s : Known) → Keeps 1 s (lineWith w ns) → Grows s (lineWith w ns) size =
-    λ s kept. grows-by-word s size w ns other kept (c .before .before .before .before .before .before .line-size .ensures .0 1 (a .count) s (S .pre .2 .counted) kept) in
-    let told : (s : Known) (places : List ℕ) → s ≡ stateOf (a .p) (a .counts) (now (a .lows)) (now (a .highs)) places → madeSeen made ≡ toldOf s (lineWith w ns) =
-    λ s places is. c .before .before .before .before .before .before .before .read-ends .ensures s (seen-state (a .p) (a .counts) (now (a .lows)) (now (a .highs)) places is) ∙ told-by-word s w ns other in
-    let s = stateOf (a .p) (a .counts) (now (a .lows)) (now (a .highs)) [] in
-    let counted-in : (low high : ℤ) → made ≡ EndsOf low high → a .counts .values < a .counts .values + size .values =
-    λ low high q. entry-counted (a .p) s (lineWith w ns) (a .counts) (now (a .lows)) (now (a .highs)) [] refl (S .pre .1) made (told s [] refl) low high q size (grows s) in
-    let grown = c .before .before .grow .ensures in (
-      λ s places long is. grown .0 (a .p) s (lineWith w ns) places long is (grows s) (told s places is),
+    let at-size = c .before .before .before .before .before .before in
+    let size = at-size .line-size .result in
+    let other = not-span _ (c .before .before .before .before .before .match .keys2) in
+    let before = held at-size _ [] refl in
+    let counted-in = entry-counted before _ size (grows at-size other _) _ (told at-size other before) in
+    let entered = c .before .before .enter .ensures in (
+      λ s places long is. let here = held at-size s places is in rw (entered .0, entered .1, entered .2) (grown here _ size (grows at-size other s) _ (told at-size other here) long),
       (
-        grown .1 .0,
-        left-by-entry made (a .counts .values) _ _ _ counted-in (grown .1 .1) (grown .1 .2),
-        left-by-entry made (a .counts .values) _ _ _ counted-in (grown .1 .1) (grown .1 .3),
+        rw (entered .0) (few-grown before _ size (grows at-size other _) _ (told at-size other before)),
+        left-by-entry _ _ _ _ _ counted-in (entered .0) (entered .1),
+        left-by-entry _ _ _ _ _ counted-in (entered .0) (entered .2),
       ),
     )
 
-narrow-requires : tie.Need-narrow-requires
-unfolding kindOf wordOf toldBy lineTold
-narrow-requires c κs =
-    let S = c .before .before .before .before .before .before .before .before .before .before in
-    let a = S .args in
-    let s = stateOf (a .p) (a .counts) (now (a .lows)) (now (a .highs)) [] in
-    let ns = take (a .count) (now (a .numbers)) in
-    let word-is = c .before .before .before .before .enum-told .given .1 in
-    let four = count-is (now (a .numbers)) 4 (a .count) word-is (λ ns. refl) (S .pre .2 .counted) (omega (arith, S .pre .2 .numbers-long, S .pre .2 .most)) in
-    let at-fits : SFits w64 (getD (now (a .numbers)) 0 (pos 0)) = search needs in
-    let told = rw (span-word word-is) at (c .before .before .before .before .before .before .before .read-ends .ensures s (seen-state (a .p) (a .counts) (now (a .lows)) (now (a .highs)) [] refl)) in (
-      S .pre .1,
-      c .before .before .before .before .before .before .line-size .ensures .1,
-      λ low high q. named-within (a .p) s ns (a .counts) (now (a .lows)) (now (a .highs)) [] refl (S .pre .1) _ told low high q (c .before .before .natural .result)
-          (name-counted s (now (a .numbers)) (a .count) _ (omega (arith, four)) (rw (back at-fits) at (c .before .before .natural .ensures))),
-    )
+-- the value that the line names
+at-is : (c : tie.After-natural)
+    → let z = getD (now (start (c .before .before .before .before) .args .numbers)) 0 (pos 0) in
+    pos 0 ≤ℤ z → c .natural .result ≡ natAbs z
+at-is c =
+    let f : SFits w64 (getD (now (start (c .before .before .before .before) .args .numbers)) 0 (pos 0)) = search needs in
+    rw (back f) at (c .natural .ensures)
+
+enter-requires-2 : tie.Need-enter-requires-2
+enter-requires-2 c κs =
+    let at-natural = c .before .before in
+    let at-size = at-natural .before .before .before .before in
+    let span-is = at-natural .before .before .enum-told .given .1 in
+    let before = held at-size _ [] refl in
+    let within = named before _ _ (names at-size span-is _ (at-is at-natural) _) _ (told-span at-size span-is _ (at-is at-natural) before) in
+    (start at-size .pre .1, at-size .line-size .ensures .1, λ low high q. omega (arith, within low high q, start at-size .pre .1 .values-most))
 
 returns-2 : tie.Need-returns-2
-unfolding counted kindOf wordOf toldBy lineTold
+unfolding counted added
 returns-2 c =
-    let S = c .before .before .before .before .before .before .before .before .before .before .before .before .before in
-    let a = S .args in
-    let ns = take (a .count) (now (a .numbers)) in
-    let word-is = c .before .before .before .before .before .before .before .enum-told .given .1 in
-    let four = count-is (now (a .numbers)) 4 (a .count) word-is (λ ns. refl) (S .pre .2 .counted) (omega (arith, S .pre .2 .numbers-long, S .pre .2 .most)) in
-    let at-fits : SFits w64 (getD (now (a .numbers)) 0 (pos 0)) = search needs in
-    let made = c .before .before .before .before .before .before .before .before .before .before .read-ends .result in
-    let at = c .before .before .before .before .before .natural .result in
-    let at-is : (s : Known) → Keeps 1 s (lineWith span ns) → sizeAt ns 0 ≡ at =
-    λ s kept. name-counted s (now (a .numbers)) (a .count) _ (omega (arith, four)) (rw (back at-fits) at (c .before .before .before .before .before .natural .ensures)) kept in
-    let told : (s : Known) (places : List ℕ) → s ≡ stateOf (a .p) (a .counts) (now (a .lows)) (now (a .highs)) places → madeSeen made ≡ spanTold s (lineWith span ns) =
-    λ s places is. rw (span-word word-is) at (c .before .before .before .before .before .before .before .before .before .before .read-ends .ensures s (seen-state (a .p) (a .counts) (now (a .lows)) (now (a .highs)) places is)) in
-    let s = stateOf (a .p) (a .counts) (now (a .lows)) (now (a .highs)) [] in
-    let counted-in : (low high : ℤ) → made ≡ EndsOf low high → at < a .counts .values =
-    λ low high q. named (a .p) s ns (a .counts) (now (a .lows)) (now (a .highs)) [] refl (S .pre .1) made (told s [] refl) low high q at (at-is s) in
-    let narrowed = c .before .before .narrow .ensures in (
-      λ s places long is. rw (span-word word-is) (narrowed .0 (a .p) s ns places is
-          (λ kept. (at-is s kept, (rw (span-word word-is) at (c .before .before .before .before .before .before .before .before .before .line-size .ensures .0 1 (a .count) s (S .pre .2 .counted))) kept))
-          (told s places is)),
+    let at-natural = c .before .before .before .before .before in
+    let at-size = at-natural .before .before .before .before in
+    let size = at-size .line-size .result in
+    let span-is = at-natural .before .before .enum-told .given .1 in
+    let named-at = names at-size span-is _ (at-is at-natural) in
+    let adds-so = adds at-size span-is _ (at-is at-natural) in
+    let before = held at-size _ [] refl in
+    let told-before = told-span at-size span-is _ (at-is at-natural) before in
+    let counted-in = named-counted before _ _ (named-at _) size (adds-so _) _ told-before in
+    let entered = c .before .before .enter2 .ensures in (
+      λ s places long is. let here = held at-size s places is in
+          rw (span-word span-is, entered .0, entered .1, entered .2) (narrowed here _ _ (named-at s) size (adds-so s) _ (told-span at-size span-is _ (at-is at-natural) here)),
       (
-        narrowed .1 .0,
-        left-by-entry made at _ _ _ counted-in (narrowed .1 .1) (narrowed .1 .2),
-        left-by-entry made at _ _ _ counted-in (narrowed .1 .1) (narrowed .1 .3),
+        rw (entered .0) (few-narrowed before _ _ (named-at _) size (adds-so _) _ told-before),
+        left-by-entry _ _ _ _ _ counted-in (entered .0) (entered .1),
+        left-by-entry _ _ _ _ _ counted-in (entered .0) (entered .2),
       ),
     )
 
@@ -115,13 +137,13 @@ step-parsed-spec =
     (λ c κs. search needs)
     (λ c κs. search needs)
     (λ c. search needs)
-    grow-requires
+    enter-requires
     (λ c. search needs)
     (λ c. search needs)
     returns
     (λ c. search needs)
     (λ c κs. search needs)
-    narrow-requires
+    enter-requires-2
     (λ c. search needs)
     (λ c. search needs)
     returns-2)
