@@ -31,7 +31,7 @@ use Rattle.text.specs.Word.{wordOf}
 use Rattle.text.specs.declared.Word.{Word}
 use Rattle.text.specs.declared.Word.the-variants.{Field, In, Span, Sum, Relu, Which, Max, Root}
 use Rattle.rules.specs.Told.{lineWith}
-use Rattle.reader.specs.Size.{counted, Adds, FewCounts}
+use Rattle.reader.specs.Size.{counted, Adds, FewCounts, DigitSize}
 use Rattle.reader.specs.declared.state.Counts.{Counts}
 
 -- ---- rows
@@ -119,50 +119,25 @@ module _ (s : Known) (ns : List ℤ) (k : ℕ) where
   unfolding gadget kindOf sumLine counted
   adds-sum = record { values-are = refl; inputs-are = refl; cells-are = refl; rows-are = refl }
 
-  adds-span : sizeAt ns 2 ≡ k → Adds s (lineWith span ns) (counted 0 0 k (k + 1))
+  adds-span : sizeAt ns 2 ≡ k → Adds s (lineWith span ns) (counted 0 0 (1 * k + 0) (1 * k + 1))
   unfolding gadget kindOf spanLine counted
-  adds-span e = record {
-    values-are = refl;
-    inputs-are = refl;
-    cells-are = e;
-    rows-are = length-groupRows _ _ _ _ (sizeAt ns 2) ∙ ap (λ (i : ℕ). i + 1) e;
-  }
+  adds-span e = record { values-are = refl; inputs-are = refl; cells-are = omega (arith, e); rows-are = length-groupRows _ _ _ _ (sizeAt ns 2) ∙ omega (arith, e) }
 
-  adds-relu : sizeAt ns 2 ≡ k → Adds s (lineWith relu ns) (counted 1 0 (k + 3) (k + 5))
+  adds-relu : sizeAt ns 2 ≡ k → Adds s (lineWith relu ns) (counted 1 0 (1 * k + 3) (1 * k + 5))
   unfolding gadget kindOf reluLine counted
-  adds-relu e = record {
-    values-are = refl;
-    inputs-are = refl;
-    cells-are = ap (λ (i : ℕ). i + 3) e;
-    rows-are = length-signRows _ _ _ (sizeAt ns 2) _ ∙ ap (λ (i : ℕ). i + 5) e;
-  }
+  adds-relu e = record { values-are = refl; inputs-are = refl; cells-are = omega (arith, e); rows-are = length-signRows _ _ _ (sizeAt ns 2) _ ∙ omega (arith, e) }
 
-  adds-which : sizeAt ns 3 ≡ k → Adds s (lineWith which ns) (counted 1 0 (k + 3) (k + 5))
+  adds-which : sizeAt ns 3 ≡ k → Adds s (lineWith which ns) (counted 1 0 (1 * k + 3) (1 * k + 5))
   unfolding gadget kindOf whichLine counted
-  adds-which e = record {
-    values-are = refl;
-    inputs-are = refl;
-    cells-are = ap (λ (i : ℕ). i + 3) e;
-    rows-are = length-signRows _ _ _ (sizeAt ns 3) _ ∙ ap (λ (i : ℕ). i + 5) e;
-  }
+  adds-which e = record { values-are = refl; inputs-are = refl; cells-are = omega (arith, e); rows-are = length-signRows _ _ _ (sizeAt ns 3) _ ∙ omega (arith, e) }
 
   adds-max : sizeAt ns 3 ≡ k → Adds s (lineWith max ns) (counted 1 0 (2 * k + 1) (2 * k + 3))
   unfolding gadget kindOf maxLine counted
-  adds-max e = record {
-    values-are = refl;
-    inputs-are = refl;
-    cells-are = omega (arith, e);
-    rows-are = two-groups _ _ (pos 0) _ _ (sizeAt ns 2) (sizeAt ns 3) ∙ ap (λ (i : ℕ). 2 * i + 3) e;
-  }
+  adds-max e = record { values-are = refl; inputs-are = refl; cells-are = omega (arith, e); rows-are = two-groups _ _ (pos 0) _ _ (sizeAt ns 2) (sizeAt ns 3) ∙ omega (arith, e) }
 
   adds-root : sizeAt ns 2 ≡ k → Adds s (lineWith root ns) (counted 1 0 (4 * k + 2) (4 * k + 5))
   unfolding gadget kindOf rootLine counted
-  adds-root e = record {
-    values-are = refl;
-    inputs-are = refl;
-    cells-are = omega (arith, e);
-    rows-are = four-groups _ _ _ _ (pos 0) _ _ _ _ (sizeAt ns 1) (sizeAt ns 2) ∙ ap (λ (i : ℕ). 4 * i + 5) e;
-  }
+  adds-root e = record { values-are = refl; inputs-are = refl; cells-are = omega (arith, e); rows-are = four-groups _ _ _ _ (pos 0) _ _ _ _ (sizeAt ns 1) (sizeAt ns 2) ∙ omega (arith, e) }
 
 -- ---- as the code counts them, from a word and numbers of which the line has the first
 
@@ -173,7 +148,7 @@ take-length (suc m) [] = refl
 take-length (suc m) (n ∷ ns) = ap (λ (ms : List ℤ). n ∷ ms) (take-length m ns)
 
 -- a word that is followed by n numbers and no other count
-abbrev HasCount : Word → (n : ℕ) → Type 0
+abbrev pub HasCount : Word → (n : ℕ) → Type 0
 HasCount w n = (ns : List ℤ) → kindOf (wordOf w) .isCounted ns ≡ eqb (length ns) n
 
 module _ {v w : Word} (numbers : List ℤ) (n m : ℕ) (q : v ≡ w) (only : HasCount w n) (e : kindOf (wordOf v) .isCounted (take m numbers) ≡ true) where
@@ -214,43 +189,36 @@ module _ {v : Word} {c : Counts} (numbers : List ℤ) where
   unfolding wordOf
   sum-sizes q e = (λ n count s h k. rw (q, e) (adds-sum s (take count numbers) 0), few 1 0 1 1 e (omega arith) (omega arith) (omega arith) (omega arith))
 
--- k is the code's digit count, from the number at this place
-abbrev pub Counted : List ℤ → (at k : ℕ) → Type 0
-Counted numbers at k = (k ≤ 31) × (pos 1 ≤ℤ getD numbers at (pos 0) → getD numbers at (pos 0) ≤ℤ pos 31 → k ≡ natAbs (getD numbers at (pos 0)))
-
-module _ {v : Word} {c : Counts} (numbers : List ℤ) (k : ℕ) where
-  digit-sizes : (w : Word) (m i values cells rows : ℕ) → v ≡ w → c ≡ counted values 0 cells rows → suc i < m → HasCount w m
-      → (kindOf (wordOf w) .digits (take m numbers) ≡ digitsAt (take m numbers) i) → Counted numbers (suc i) k → values ≤ 1 → cells ≤ 126 → rows ≤ 129
-      → ((s : Known) → sizeAt (take m numbers) (suc i) ≡ k → Adds s (lineWith (wordOf w) (take m numbers)) (counted values 0 cells rows)) → Sizes v numbers c
-  digit-sizes w m i values cells rows q e inside only is counts few-values few-cells few-rows adds = (
+module _ {v : Word} {c : Counts} (numbers : List ℤ) where
+  digit-sizes : (w : Word) (m i : ℕ) {values each cells rows : ℕ} → v ≡ w → (sized : DigitSize numbers (suc i) values each cells rows c) → suc i < m
+      → HasCount w m → (kindOf (wordOf w) .digits (take m numbers) ≡ digitsAt (take m numbers) i)
+      → values ≤ 1 → each * sized .count + cells ≤ 126 → each * sized .count + rows ≤ 129
+      → ((s : Known) → sizeAt (take m numbers) (suc i) ≡ sized .count → Adds s (lineWith (wordOf w) (take m numbers)) (counted values 0 (each * sized .count + cells) (each * sized .count + rows)))
+      → Sizes v numbers c
+  digit-sizes w m i q sized inside only is few-values few-cells few-rows adds = (
     λ n count s h kept.
         let first-m : take count numbers ≡ take m numbers = numbers-are numbers m count q only h in
         let here : Keeps n s (lineWith (wordOf w) (take m numbers)) = rw (q, first-m) at kept in
-        rw (q, e, first-m) (adds s (digits-counted s (wordOf w) numbers m i k inside is (counts .1) here)),
-    few values 0 cells rows e few-values (omega arith) few-cells few-rows,
+        rw (q, sized .counts-are, first-m) (adds s (digits-counted s (wordOf w) numbers m i (sized .count) inside is (sized .is-count .1) here)),
+    few _ 0 _ _ (sized .counts-are) few-values (omega arith) few-cells few-rows,
   )
 
-  pub span-sizes : v ≡ Span → c ≡ counted 0 0 k (k + 1) → Counted numbers 2 k → Sizes v numbers c
+  pub span-sizes : v ≡ Span → DigitSize numbers 2 0 1 0 1 c → Sizes v numbers c
   unfolding wordOf kindOf
-  span-sizes q e h = digit-sizes Span 4 1 0 k (k + 1) q e (omega arith) (λ j. refl) refl h (omega arith) (omega (arith, h .0)) (omega (arith, h .0))
-      (λ s. adds-span s (take 4 numbers) k)
+  span-sizes q z = let few-digits = z .is-count .0 in digit-sizes Span 4 1 q z (omega arith) (λ j. refl) refl (omega arith) (omega arith) (omega arith) (λ s. adds-span s (take 4 numbers) (z .count))
 
-  pub relu-sizes : v ≡ Relu → c ≡ counted 1 0 (k + 3) (k + 5) → Counted numbers 2 k → Sizes v numbers c
+  pub relu-sizes : v ≡ Relu → DigitSize numbers 2 1 1 3 5 c → Sizes v numbers c
   unfolding wordOf kindOf
-  relu-sizes q e h = digit-sizes Relu 3 1 1 (k + 3) (k + 5) q e (omega arith) (λ j. refl) refl h (omega arith) (omega (arith, h .0)) (omega (arith, h .0))
-      (λ s. adds-relu s (take 3 numbers) k)
+  relu-sizes q z = let few-digits = z .is-count .0 in digit-sizes Relu 3 1 q z (omega arith) (λ j. refl) refl (omega arith) (omega arith) (omega arith) (λ s. adds-relu s (take 3 numbers) (z .count))
 
-  pub which-sizes : v ≡ Which → c ≡ counted 1 0 (k + 3) (k + 5) → Counted numbers 3 k → Sizes v numbers c
+  pub which-sizes : v ≡ Which → DigitSize numbers 3 1 1 3 5 c → Sizes v numbers c
   unfolding wordOf kindOf
-  which-sizes q e h = digit-sizes Which 4 2 1 (k + 3) (k + 5) q e (omega arith) (λ j. refl) refl h (omega arith) (omega (arith, h .0)) (omega (arith, h .0))
-      (λ s. adds-which s (take 4 numbers) k)
+  which-sizes q z = let few-digits = z .is-count .0 in digit-sizes Which 4 2 q z (omega arith) (λ j. refl) refl (omega arith) (omega arith) (omega arith) (λ s. adds-which s (take 4 numbers) (z .count))
 
-  pub max-sizes : v ≡ Max → c ≡ counted 1 0 (2 * k + 1) (2 * k + 3) → Counted numbers 3 k → Sizes v numbers c
+  pub max-sizes : v ≡ Max → DigitSize numbers 3 1 2 1 3 c → Sizes v numbers c
   unfolding wordOf kindOf
-  max-sizes q e h = digit-sizes Max 4 2 1 (2 * k + 1) (2 * k + 3) q e (omega arith) (λ j. refl) refl h (omega arith) (omega (arith, h .0)) (omega (arith, h .0))
-      (λ s. adds-max s (take 4 numbers) k)
+  max-sizes q z = let few-digits = z .is-count .0 in digit-sizes Max 4 2 q z (omega arith) (λ j. refl) refl (omega arith) (omega arith) (omega arith) (λ s. adds-max s (take 4 numbers) (z .count))
 
-  pub root-sizes : v ≡ Root → c ≡ counted 1 0 (4 * k + 2) (4 * k + 5) → Counted numbers 2 k → Sizes v numbers c
+  pub root-sizes : v ≡ Root → DigitSize numbers 2 1 4 2 5 c → Sizes v numbers c
   unfolding wordOf kindOf
-  root-sizes q e h = digit-sizes Root 3 1 1 (4 * k + 2) (4 * k + 5) q e (omega arith) (λ j. refl) refl h (omega arith) (omega (arith, h .0)) (omega (arith, h .0))
-      (λ s. adds-root s (take 3 numbers) k)
+  root-sizes q z = let few-digits = z .is-count .0 in digit-sizes Root 3 1 q z (omega arith) (λ j. refl) refl (omega arith) (omega arith) (omega arith) (λ s. adds-root s (take 3 numbers) (z .count))

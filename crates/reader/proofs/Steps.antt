@@ -46,7 +46,7 @@ use Rattle.reader.specs.Size.{Adds}
 use Rattle.reader.specs.Step.{ParsedLine, toldBy, lineTold, Step, stops, stepOf, stepOption}
 use Rattle.reader.specs.declared.state.Counts.{Counts}
 use Rattle.reader.proofs.Growth.{Held, Grows}
-use Rattle.reader.proofs.Sizes.{length-groupRows, length-signRows, two-groups, four-groups}
+use Rattle.reader.proofs.Sizes.{HasCount, count-is, length-groupRows, length-signRows, two-groups, four-groups}
 
 -- ---- the arguments of a line's reader
 
@@ -58,13 +58,18 @@ seen-state held = record {
   cells-are = ap (λ (q : Known). q .cells) (held .is);
 }
 
-pub fewer : {n m : ℕ} (zs : List ℤ) → m ≡ n → Small m zs → Small n zs
-fewer zs e h = λ i l. h i (omega (arith, e))
+-- a line with a word that is followed by n numbers and no other count
+module _ {v w : Word} {m : ℕ} {numbers : List ℤ} (n : ℕ) (parsed : ParsedLine v m numbers) (q : v ≡ w) (only : HasCount w n) where
+  counted-so : m ≡ n
+  counted-so = count-is numbers n m q only (parsed .counted) (omega (arith, parsed .most, parsed .numbers-long))
 
--- the line that was read is the line with this word and this count
-pub at-word : {v w : Word} {n m : ℕ} (s : Known) (numbers : List ℤ) (x : Told) → v ≡ w → m ≡ n
-    → x ≡ lineTold s (lineWith (wordOf w) (take n numbers)) → x ≡ lineTold s (lineWith (wordOf v) (take m numbers))
-at-word s numbers x q e h = h ∙ ap₂ (λ (u : Word) (i : ℕ). lineTold s (lineWith (wordOf u) (take i numbers))) (sym q) (sym e)
+  -- its reader asks for what is lent, and for its numbers
+  pub with-count : {Lent : Type 0} → Lent → Lent × (n ≤ length numbers) × Small n numbers
+  with-count lent = (lent, omega (arith, counted-so, parsed .most, parsed .numbers-long), λ i l. parsed .small i (omega (arith, counted-so)))
+
+  -- what is told of it is what is told of the line that was read
+  pub at-count : (s : Known) (x : Told) → x ≡ lineTold s (lineWith (wordOf w) (take n numbers)) → x ≡ lineTold s (lineWith (wordOf v) (take m numbers))
+  at-count s x h = h ∙ ap₂ (λ (u : Word) (i : ℕ). lineTold s (lineWith (wordOf u) (take i numbers))) (sym q) (sym counted-so)
 
 -- ---- a field line that comes later
 

@@ -1,7 +1,10 @@
 -- How much a line adds to the counts of a list.
 use mathlib.Core.Path.{_≡_}
-use Prim.Native.Nat.{ℕ, _+_, _≤_}
-use lib.ListN.{length}
+use mathlib.Core.List.{List}
+use Prim.Native.Nat.{ℕ, _+_, _*_, _≤_}
+use lib.ListN.{length, getD}
+use lib.IntN.{ℤ, pos, natAbs}
+use lib.Signed.{_≤ℤ_}
 use Rattle.meaning.specs.Line.{Line}
 use Rattle.meaning.specs.Known.{Known}
 use Rattle.meaning.specs.Meaning.{gadget}
@@ -24,3 +27,13 @@ pub record Adds (s : Known) (l : Line) (c : Counts) : Type 0 where
 -- no line adds more
 abbrev pub FewCounts : Counts → Type 0
 FewCounts c = (c .values ≤ 1) × (c .inputs ≤ 1) × (c .cells ≤ 126) × (c .rows ≤ 129)
+
+-- a number that a line may have as its digit count is k, and k is at most 31 whatever the number is
+abbrev pub DigitCount : ℤ → ℕ → Type 0
+DigitCount z k = (k ≤ 31) × (pos 1 ≤ℤ z → z ≤ℤ pos 31 → k ≡ natAbs z)
+
+-- the counts of a line whose digit count stands at a place: `each` cells and as many rows for each digit, with so many cells and rows more
+pub record DigitSize (numbers : List ℤ) (at values each cells rows : ℕ) (c : Counts) : Type 0 where
+  pub count : ℕ
+  pub is-count : DigitCount (getD numbers at (pos 0)) count
+  pub counts-are : c ≡ counted values 0 (each * count + cells) (each * count + rows)

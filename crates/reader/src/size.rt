@@ -4,7 +4,7 @@ use super::state::Counts;
 use text::Word;
 ghost use mathlib.Core.Path.{_≡_};
 ghost use mathlib.Core.Bool.{true};
-ghost use Prim.Native.Nat.{ℕ, _≤_};
+ghost use Prim.Native.Nat.{ℕ, _≤_, _<_};
 ghost use lib.ListN.{length, take};
 ghost use lib.IntN.{pos, natAbs};
 ghost use lib.Signed.{_≤ℤ_};
@@ -13,7 +13,7 @@ ghost use Rattle.meaning.specs.Known.{Known};
 ghost use Rattle.meaning.specs.Kept.{Keeps};
 ghost use Rattle.text.specs.Word.{wordOf};
 ghost use Rattle.rules.specs.Told.{lineWith};
-ghost use Rattle.reader.specs.Size.{counted, Adds};
+ghost use Rattle.reader.specs.Size.{counted, Adds, FewCounts, DigitCount, DigitSize};
 
 // A number that is not negative, as a count: 0 where it is negative.
 pub fn natural(z: i64) -> usize
@@ -27,7 +27,7 @@ pub fn natural(z: i64) -> usize
 
 // A digit count that a line may have, and 31 in the place of a larger one.
 fn digit_count(k: i64) -> usize
-    ensures { λ r. ⌜ (r ≤ 31) × (pos 1 ≤ℤ k → k ≤ℤ pos 31 → r ≡ natAbs k) ⌝ }
+    ensures { λ r. ⌜ DigitCount k r ⌝ }
 {
     let count = natural(k);
     if 31 < count { 31 } else { count }
@@ -44,36 +44,38 @@ fn counts_of(values: usize, inputs: usize, cells: usize, rows: usize) -> Counts
     }
 }
 
+// The counts of a line whose digit count stands at a place: it makes so many values, has no input, and for each digit it has `each` cells and
+// as many rows, with so many cells and rows more.
+fn digit_size(
+    numbers: &[i64],
+    at: usize,
+    values: usize,
+    each: usize,
+    cells: usize,
+    rows: usize,
+) -> Counts
+    requires { ⌜ (at < length (now numbers)) × (each ≤ 4) × (cells ≤ 3) × (rows ≤ 5) ⌝ }
+    ensures { λ r. ⌜ DigitSize (now (numbers .entry)) at values each cells rows r ⌝ }
+{
+    let digits = each * digit_count(numbers[at]);
+    counts_of(values, 0, digits + cells, digits + rows)
+}
+
 // How much a line adds to the counts of a list: its values, inputs, cells and rows. The walks over a list that was read go by it.
 pub fn line_size(word: Word, numbers: &[i64]) -> Counts
     requires { ⌜ length (now numbers) ≡ mostNumbers ⌝ }
     ensures told { λ r. ⌜ ((n count : ℕ) (s : Known) → kindOf (wordOf word) .isCounted (take count (now (numbers .entry))) ≡ true
         → Keeps n s (lineWith (wordOf word) (take count (now (numbers .entry)))) → Adds s (lineWith (wordOf word) (take count (now (numbers .entry)))) r) ⌝ }
-    ensures small { λ r. ⌜ (r .values ≤ 1) × (r .inputs ≤ 1) × (r .cells ≤ 126) × (r .rows ≤ 129) ⌝ }
+    ensures small { λ r. ⌜ FewCounts r ⌝ }
 {
     match word {
         Word::Field => counts_of(0, 0, 0, 0),
         Word::In => counts_of(1, 1, 1, 0),
-        Word::Span => {
-            let k = digit_count(numbers[2]);
-            counts_of(0, 0, k, k + 1)
-        }
+        Word::Span => digit_size(numbers, 2, 0, 1, 0, 1),
         Word::Sum => counts_of(1, 0, 1, 1),
-        Word::Relu => {
-            let k = digit_count(numbers[2]);
-            counts_of(1, 0, k + 3, k + 5)
-        }
-        Word::Which => {
-            let k = digit_count(numbers[3]);
-            counts_of(1, 0, k + 3, k + 5)
-        }
-        Word::Max => {
-            let k = digit_count(numbers[3]);
-            counts_of(1, 0, 2 * k + 1, 2 * k + 3)
-        }
-        Word::Root => {
-            let k = digit_count(numbers[2]);
-            counts_of(1, 0, 4 * k + 2, 4 * k + 5)
-        }
+        Word::Relu => digit_size(numbers, 2, 1, 1, 3, 5),
+        Word::Which => digit_size(numbers, 3, 1, 1, 3, 5),
+        Word::Max => digit_size(numbers, 3, 1, 2, 1, 3),
+        Word::Root => digit_size(numbers, 2, 1, 4, 2, 5),
     }
 }

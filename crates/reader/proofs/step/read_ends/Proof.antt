@@ -1,56 +1,40 @@
 -- `reader::step::read_ends`: for each word, the reader of that kind.
 use mathlib.Core.Path.{refl}
 use native.Mathlib.Omega.{arith}
-use denote.Ref.{now}
 use Rattle.meaning.specs.Word.{kindOf}
 use Rattle.text.specs.Word.{wordOf}
 use Rattle.rules.specs.Told.{madeSeen}
 use Rattle.reader.specs.Step.{toldBy, lineTold}
-use Rattle.reader.proofs.Sizes.{count-is}
-use Rattle.reader.proofs.Steps.{sum-count, fewer, at-word, field-later}
+use Rattle.reader.proofs.Steps.{sum-count, with-count, at-count, field-later}
 use borrow.Author.Needs.{needs}
 use Rattle.reader.proofs.step.read_ends.Statement.{statement}
 use Rattle.reader.proofs.step.read_ends.Tie as tie
 
 read-span-requires : tie.Need-read-span-requires
 unfolding kindOf wordOf
-read-span-requires c κs =
-    let S = c .before .before in
-    let counted = count-is (now (S .args .numbers)) 4 (S .args .count) (c .enum-told3 .given .1) (λ ns. refl) (S .pre .1 .counted) (omega (arith, S .pre .1 .numbers-long, S .pre .1 .most)) in
-    (S .pre .0, omega (arith, S .pre .1 .numbers-long), fewer (now (S .args .numbers)) counted (S .pre .1 .small))
+read-span-requires c κs = let S = c .before .before in with-count 4 (S .pre .1) (c .enum-told3 .given .1) (λ ns. refl) (S .pre .0)
+
+read-relu-requires : tie.Need-read-relu-requires
+unfolding kindOf wordOf
+read-relu-requires c κs = let S = c .before .before in with-count 3 (S .pre .1) (c .enum-told5 .given .1) (λ ns. refl) (S .pre .0)
+
+read-which-requires : tie.Need-read-which-requires
+unfolding kindOf wordOf
+read-which-requires c κs = let S = c .before .before in with-count 4 (S .pre .1) (c .enum-told6 .given .1) (λ ns. refl) (S .pre .0)
+
+read-max-requires : tie.Need-read-max-requires
+unfolding kindOf wordOf
+read-max-requires c κs = let S = c .before .before in with-count 4 (S .pre .1) (c .enum-told7 .given .1) (λ ns. refl) (S .pre .0)
+
+read-root-requires : tie.Need-read-root-requires
+unfolding kindOf wordOf
+read-root-requires c κs = let S = c .before .before in with-count 3 (S .pre .1) (c .enum-told8 .given .1) (λ ns. refl) (S .pre .0)
 
 read-sum-requires : tie.Need-read-sum-requires
 read-sum-requires c κs =
     let S = c .before .before in
-    (S .pre .0, omega (arith, S .pre .1 .numbers-long, S .pre .1 .most), S .pre .1 .most, sum-count (c .enum-told4 .given .1) (now (S .args .numbers)) (S .args .count) (omega (arith, S .pre .1 .numbers-long, S .pre .1 .most)) (S .pre .1 .counted), S .pre .1 .small)
-
-read-relu-requires : tie.Need-read-relu-requires
-unfolding kindOf wordOf
-read-relu-requires c κs =
-    let S = c .before .before in
-    let counted = count-is (now (S .args .numbers)) 3 (S .args .count) (c .enum-told5 .given .1) (λ ns. refl) (S .pre .1 .counted) (omega (arith, S .pre .1 .numbers-long, S .pre .1 .most)) in
-    (S .pre .0, omega (arith, S .pre .1 .numbers-long), fewer (now (S .args .numbers)) counted (S .pre .1 .small))
-
-read-which-requires : tie.Need-read-which-requires
-unfolding kindOf wordOf
-read-which-requires c κs =
-    let S = c .before .before in
-    let counted = count-is (now (S .args .numbers)) 4 (S .args .count) (c .enum-told6 .given .1) (λ ns. refl) (S .pre .1 .counted) (omega (arith, S .pre .1 .numbers-long, S .pre .1 .most)) in
-    (S .pre .0, omega (arith, S .pre .1 .numbers-long), fewer (now (S .args .numbers)) counted (S .pre .1 .small))
-
-read-max-requires : tie.Need-read-max-requires
-unfolding kindOf wordOf
-read-max-requires c κs =
-    let S = c .before .before in
-    let counted = count-is (now (S .args .numbers)) 4 (S .args .count) (c .enum-told7 .given .1) (λ ns. refl) (S .pre .1 .counted) (omega (arith, S .pre .1 .numbers-long, S .pre .1 .most)) in
-    (S .pre .0, omega (arith, S .pre .1 .numbers-long), fewer (now (S .args .numbers)) counted (S .pre .1 .small))
-
-read-root-requires : tie.Need-read-root-requires
-unfolding kindOf wordOf
-read-root-requires c κs =
-    let S = c .before .before in
-    let counted = count-is (now (S .args .numbers)) 3 (S .args .count) (c .enum-told8 .given .1) (λ ns. refl) (S .pre .1 .counted) (omega (arith, S .pre .1 .numbers-long, S .pre .1 .most)) in
-    (S .pre .0, omega (arith, S .pre .1 .numbers-long), fewer (now (S .args .numbers)) counted (S .pre .1 .small))
+    let line = S .pre .1 in
+    (S .pre .0, omega (arith, line .numbers-long, line .most), line .most, sum-count (c .enum-told4 .given .1) _ (S .args .count) (omega (arith, line .numbers-long, line .most)) (line .counted), line .small)
 
 returns : tie.Need-returns
 unfolding madeSeen
@@ -58,45 +42,31 @@ returns c = λ s seen. field-later s _ (c .enum-told .given .1)
 
 returns-2 : tie.Need-returns-2
 unfolding kindOf wordOf lineTold toldBy
-returns-2 c =
-    let S = c .before .before .before in
-    λ s seen. at-word s (now (S .args .numbers)) _ (c .before .enum-told2 .given .1) (count-is (now (S .args .numbers)) 0 (S .args .count) (c .before .enum-told2 .given .1) (λ ns. refl) (S .pre .1 .counted) (omega (arith, S .pre .1 .numbers-long, S .pre .1 .most))) (c .read-input .ensures s seen)
+returns-2 c = λ s seen. at-count 0 (c .before .before .before .pre .1) (c .before .enum-told2 .given .1) (λ ns. refl) s _ (c .read-input .ensures s seen)
 
 returns-3 : tie.Need-returns-3
 unfolding kindOf wordOf lineTold toldBy
-returns-3 c =
-    let S = c .before .before .before in
-    λ s seen. at-word s (now (S .args .numbers)) _ (c .before .enum-told3 .given .1) (count-is (now (S .args .numbers)) 4 (S .args .count) (c .before .enum-told3 .given .1) (λ ns. refl) (S .pre .1 .counted) (omega (arith, S .pre .1 .numbers-long, S .pre .1 .most))) (c .read-span .ensures s seen)
+returns-3 c = λ s seen. at-count 4 (c .before .before .before .pre .1) (c .before .enum-told3 .given .1) (λ ns. refl) s _ (c .read-span .ensures s seen)
 
 returns-4 : tie.Need-returns-4
 unfolding wordOf lineTold toldBy
-returns-4 c =
-    let S = c .before .before .before in
-    λ s seen. at-word {n = S .args .count} s (now (S .args .numbers)) _ (c .before .enum-told4 .given .1) refl (c .read-sum .ensures s seen)
+returns-4 c = λ s seen. rw (c .before .enum-told4 .given .1) (c .read-sum .ensures s seen)
 
 returns-5 : tie.Need-returns-5
 unfolding kindOf wordOf lineTold toldBy
-returns-5 c =
-    let S = c .before .before .before in
-    λ s seen. at-word s (now (S .args .numbers)) _ (c .before .enum-told5 .given .1) (count-is (now (S .args .numbers)) 3 (S .args .count) (c .before .enum-told5 .given .1) (λ ns. refl) (S .pre .1 .counted) (omega (arith, S .pre .1 .numbers-long, S .pre .1 .most))) (c .read-relu .ensures s seen)
+returns-5 c = λ s seen. at-count 3 (c .before .before .before .pre .1) (c .before .enum-told5 .given .1) (λ ns. refl) s _ (c .read-relu .ensures s seen)
 
 returns-6 : tie.Need-returns-6
 unfolding kindOf wordOf lineTold toldBy
-returns-6 c =
-    let S = c .before .before .before in
-    λ s seen. at-word s (now (S .args .numbers)) _ (c .before .enum-told6 .given .1) (count-is (now (S .args .numbers)) 4 (S .args .count) (c .before .enum-told6 .given .1) (λ ns. refl) (S .pre .1 .counted) (omega (arith, S .pre .1 .numbers-long, S .pre .1 .most))) (c .read-which .ensures s seen)
+returns-6 c = λ s seen. at-count 4 (c .before .before .before .pre .1) (c .before .enum-told6 .given .1) (λ ns. refl) s _ (c .read-which .ensures s seen)
 
 returns-7 : tie.Need-returns-7
 unfolding kindOf wordOf lineTold toldBy
-returns-7 c =
-    let S = c .before .before .before in
-    λ s seen. at-word s (now (S .args .numbers)) _ (c .before .enum-told7 .given .1) (count-is (now (S .args .numbers)) 4 (S .args .count) (c .before .enum-told7 .given .1) (λ ns. refl) (S .pre .1 .counted) (omega (arith, S .pre .1 .numbers-long, S .pre .1 .most))) (c .read-max .ensures s seen)
+returns-7 c = λ s seen. at-count 4 (c .before .before .before .pre .1) (c .before .enum-told7 .given .1) (λ ns. refl) s _ (c .read-max .ensures s seen)
 
 returns-8 : tie.Need-returns-8
 unfolding kindOf wordOf lineTold toldBy
-returns-8 c =
-    let S = c .before .before .before in
-    λ s seen. at-word s (now (S .args .numbers)) _ (c .before .enum-told8 .given .1) (count-is (now (S .args .numbers)) 3 (S .args .count) (c .before .enum-told8 .given .1) (λ ns. refl) (S .pre .1 .counted) (omega (arith, S .pre .1 .numbers-long, S .pre .1 .most))) (c .read-root .ensures s seen)
+returns-8 c = λ s seen. at-count 3 (c .before .before .before .pre .1) (c .before .enum-told8 .given .1) (λ ns. refl) s _ (c .read-root .ensures s seen)
 
 pub read-ends-spec : {M : Type 1} → statement M
 read-ends-spec =
