@@ -28,28 +28,20 @@ first : (t : tie.After-take-line Inv-loop μ-loop) → t .before .before .before
 first t =
     let w = t .before .before .before .loop .inv in
     let inside = t .before .before .loop-test .taken in
-    first-inside w inside (t .take-line .ensures (at-line w inside))
+    first-inside w inside (t .take-line .ensures .0 (at-line w inside))
 
 line-cells-requires : tie.Need-line-cells-requires Inv-loop μ-loop
 line-cells-requires c κs =
     let w = c .before .before .before .before .before .before .loop .inv in
     let inside = c .before .before .before .before .before .loop-test .taken in
-    let took = c .before .before .before .take-line .ensures (at-line w inside) in
+    let took = c .before .before .before .take-line .ensures .0 (at-line w inside) in
     cells-asked w inside took
-
-loop-less : tie.Need-loop-less Inv-loop μ-loop
-loop-less c =
-    let w = c .before .before .before .before .before .before .before .before .before .before .loop .inv in
-    let inside = c .before .before .before .before .before .before .before .before .before .loop-test .taken in
-    let took = c .before .before .before .before .before .before .before .take-line .ensures (at-line w inside) in
-    let further = took .further in
-    search (needs, further)
 
 loop-again : tie.Need-loop-again Inv-loop μ-loop
 loop-again c =
     let w = c .before .before .before .before .before .before .before .before .before .before .loop .inv in
     let inside = c .before .before .before .before .before .before .before .before .before .loop-test .taken in
-    let took = c .before .before .before .before .before .before .before .take-line .ensures (at-line w inside) in
+    let took = c .before .before .before .before .before .before .before .take-line .ensures .0 (at-line w inside) in
     let written = c .before .before .before .line-cells .ensures (cells-asked w inside took) (next w _ _ (took .left-is) (took .kept)) (made-stand w _ _ (took .left-is) (took .kept)) in
     writing-next w _ _ (took .left-is) (took .kept) _ _ written (took .next) (took .long)
 
@@ -77,7 +69,7 @@ write-lines-spec =
     (λ c. search (needs, first (c .before .before)))
     (λ c. search needs)
     line-cells-requires
-    loop-less
+    (λ c. search needs)
     loop-again
     same-length
     returns)
