@@ -7,11 +7,12 @@ use mathlib.Core.Option.{none}
 use Prim.Native.Nat.{ℕ, zero, suc, _+_, _-_, _≤_, _<_}
 use native.Mathlib.Nat.{sub-zero}
 use native.Mathlib.Omega.{arith}
-use lib.Dec.{T, eqb, leb→le}
+use lib.Dec.{T, eqb}
 use lib.IntN.{ℤ}
 use lib.ListN.{length, getD, take, drop, length-drop, List·getD-eq-default}
 use lib.Seq.{getD-take, getD-drop, length-take-le}
 use borrow.Author.Tests.{eqb-true}
+use Rattle.program.proofs.Limits.{read-most}
 use Rattle.meaning.specs.Word.{Word, field, input, span, sum, relu, which, max, root, kindOf}
 use Rattle.meaning.specs.Line.{Line}
 use Rattle.meaning.specs.Known.{Known, fresh}
@@ -106,13 +107,7 @@ shown-at list t line = by (reading list) refl
             }
         by-length false q = empty-at _ _ _ (λ u long. rw (e, long, q) refl) (rw (e, q) refl)
 
--- ---- no list has more cells than 4,096
-
-cells-within : (ls : List Line) (n : ℕ) (s last : Known) → Kept n s ls last → s .cells ≤ cellLimit → last .cells ≤ cellLimit
-unfolding after
-cells-within [] n s last k h = omega (arith, ap (λ (q : Known). q .cells) k)
-cells-within (l ∷ ls) n s last k h =
-    cells-within ls (suc n) (after s l) last (k .1) (leb→le (s .cells + gadget s l .width) cellLimit (keeps-all n s l (k .0) .cells-fit))
+-- ---- no list has so many cells
 
 shown-too-long : (list t : List ℕ) (line : ℕ) → cellLimit < length t → shown list t line ≡ []
 unfolding shown onReading fresh
@@ -125,7 +120,7 @@ shown-too-long list t line long = by (reading list) refl
         by-length : (b : Bool) → eqb (length t) (s .cells) ≡ b → shown list t line ≡ []
         by-length true q =
             let same = eqb-true (length t) (s .cells) q in
-            let most = cells-within ls 0 fresh s (read-kept list ls s e) (omega arith) in
+            let most = read-most list ls s e .cells-most in
             absurd (omega arith)
         by-length false q = rw (e, q) refl
 

@@ -1,11 +1,11 @@
 -- The most that a list which is read has, and how many lines its text can have: what no sum overflows by.
-use mathlib.Core.Path.{subst}
+use mathlib.Core.Path.{_≡_, subst}
 use mathlib.Core.List.{List, [], _∷_}
 use Prim.Native.Nat.{ℕ, suc, _+_, _-_, _≤_}
 use native.Mathlib.Omega.{arith}
 use lib.Dec.{leb→le}
 use lib.ListN.{length, length-append}
-use Rattle.meaning.specs.Refusal.{valueLimit, cellLimit}
+use Rattle.meaning.specs.Refusal.{valueLimit, cellLimit, read, reading}
 use Rattle.meaning.specs.Line.{Line}
 use Rattle.meaning.specs.Known.{Known, fresh}
 use Rattle.meaning.specs.Meaning.{gadget, after}
@@ -40,11 +40,13 @@ most-kept : (ls : List Line) (n : ℕ) (s last : Known) → Kept n s ls last →
 most-kept [] n s last k m = subst Most k m
 most-kept (l ∷ ls) n s last k m = most-kept ls (suc n) (after s l) last (k .1) (most-after n s l (keeps-all n s l (k .0)) m)
 
-pub list-most : {list : List ℕ} (l : ListRead list) → Most (l .last)
+pub read-most : (list : List ℕ) (ls : List Line) (s : Known) → reading list ≡ read ls s → Most s
 unfolding fresh
-list-most {list} l =
-    most-kept (l .lines) 0 fresh (l .last) (read-kept list (l .lines) (l .last) (l .is-read))
-    (record { values-most = omega arith; inputs-most = omega arith; cells-most = omega arith })
+read-most list ls s e =
+    most-kept ls 0 fresh s (read-kept list ls s e) (record { values-most = omega arith; inputs-most = omega arith; cells-most = omega arith })
+
+pub list-most : {list : List ℕ} (l : ListRead list) → Most (l .last)
+list-most {list} l = read-most list (l .lines) (l .last) (l .is-read)
 
 -- ---- joined lines have no fewer bytes than there are lines
 

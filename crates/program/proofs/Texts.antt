@@ -94,20 +94,3 @@ module _ {table before part : List ℕ} {at i : ℕ} (l : Listing table before p
 
       pub listing-turn : Listing table before (putMid at (length part - at) part last) (at + m) (i + 1)
       listing-turn = record { within = omega arith; written = written-whole line-halves (l .written) v }
-
--- ---- texts that are written in two parts
-
-module _ (before : List ℕ) where
-  pub pair-halves : (first second : ℕ) → length (pairText first second) ≤ length before
-      → Halves (pairText first second) (fieldText first 9) (fieldText second 10) before
-  pair-halves first second h = record { parts = pair-parts first second; room = h }
-
-  pub refusal-halves : (number place : ℕ) → length (refusalText (reply number place)) ≤ length before
-      → Halves (refusalText (reply number place)) (bytes "refused\t") (pairText number place) before
-  refusal-halves number place h = record { parts = refusal-parts number place; room = h }
-
-  pub heading-halves : (count : ℕ) → length (headingText count) ≤ length before → Halves (headingText count) (bytes "table\t") (fieldText count 10) before
-  heading-halves count h = record { parts = heading-parts count; room = h }
-
-  pub table-halves : (t : List ℕ) → length (tableText t) ≤ length before → Halves (tableText t) (headingText (length t)) (cellsText 0 t) before
-  table-halves t h = record { parts = table-parts t; room = h }

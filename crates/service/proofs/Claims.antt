@@ -1,5 +1,5 @@
 -- The claims about the code's own replies, each from its claim over the definitions (crates/meaning/proofs) and the promise of the call.
-use Prim.Native.Nat.{ℕ, zero, suc, _<_}
+use Prim.Native.Nat.{ℕ, _<_}
 use native.Mathlib.Omega.{arith}
 use mathlib.Core.Path.{_≡_, refl, sym, ap, _∙_}
 use mathlib.Core.Bool.{Bool, true, false, cond}
@@ -13,7 +13,7 @@ use Rattle.algebra.proofs.Test.{≡-test}
 use Rattle.meaning.specs.Number.{inRange}
 use Rattle.meaning.specs.Line.{Line}
 use Rattle.meaning.specs.Known.{Known, fresh}
-use Rattle.meaning.specs.Refusal.{testOrder, placeAmong, rank, plain, onSome, Reading, refused, read, onReading, reading}
+use Rattle.meaning.specs.Refusal.{onSome, Reading, refused, read, onReading, reading}
 use Rattle.meaning.specs.Work.{Worked, false-at, true-table, work}
 use Rattle.meaning.specs.Reply.{reply, firstFail, Making, making, filled, made, makeReply, checkReply}
 use Rattle.meaning.specs.Reply.{Reply as Meant}

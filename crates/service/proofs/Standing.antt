@@ -2,7 +2,7 @@
 use mathlib.Core.Path.{_≡_, refl, sym, ap, _∙_, subst}
 use mathlib.Core.Bool.{true, false}
 use mathlib.Core.List.{List, [], _∷_, map}
-use mathlib.Core.Option.{Option, none, some, Option·some-injective, Option·none-ne-some}
+use mathlib.Core.Option.{Option, some, Option·some-injective, Option·none-ne-some}
 use Prim.Native.Nat.{ℕ, zero, suc, _+_, _-_, _≤_, _<_}
 use native.Mathlib.Omega.{arith}
 use native.Mathlib.Numerals.{add-one}
@@ -40,9 +40,6 @@ use Rattle.table.specs.Line.{KeptLine}
 use Rattle.service.specs.Walk.{Counted, Few, Stands, AtLine, Took, taken}
 use Rattle.service.specs.declared.walk.Taken.{Taken}
 use Rattle.service.proofs.Listed.{read-ended}
-
-none-some : {l : Line} → _≡_ {A = Option Line} none (some l) → ⊥
-none-some e = Option·none-ne-some _ e
 
 -- ---- the lines that are left
 
@@ -123,7 +120,7 @@ module _ {list : List ℕ} {last s : Known} {left : List Line} {c : Counts} {at 
 
     -- the bytes spell a line, as the list was read
     line-there : r ≡ NoLine → ⊥
-    line-there is = none-some (sym (no-line-seen parsed is) ∙ next .3)
+    line-there is = Option·none-ne-some _ (sym (no-line-seen parsed is) ∙ next .3)
 
     module _ {word : Word} {count place : ℕ} (is : r ≡ Spelt word count place) where
       abbrev line : Line

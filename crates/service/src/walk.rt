@@ -7,7 +7,7 @@ use text::Word;
 use text::line_of;
 ghost use mathlib.Core.Path.{_≡_};
 ghost use mathlib.Core.Bool.{true};
-ghost use Prim.Native.Nat.{ℕ, _+_, _≤_};
+ghost use Prim.Native.Nat.{ℕ, _+_, _≤_, _<_};
 ghost use lib.ListN.{length, take};
 ghost use Rattle.meaning.specs.Word.{kindOf, mostNumbers};
 ghost use Rattle.meaning.specs.Known.{Known};
@@ -29,7 +29,8 @@ pub struct Taken {
 // Takes the line at a place, whose numbers are written.
 pub fn take_line(list: &[u8], at: usize, counts: Counts, numbers: &mut [i64]) -> Taken
     requires { ⌜ AtLine (now list) counts at × (length (now numbers) ≡ mostNumbers) ⌝ }
-    ensures { λ r. ⌜ ((a : AtLine (now (list .entry)) counts at) → Took a (now (numbers .exit)) r) ⌝ }
+    ensures told { λ r. ⌜ ((a : AtLine (now (list .entry)) counts at) → Took a (now (numbers .exit)) r) ⌝ }
+    ensures further { λ r. ⌜ at < r .next ⌝ }
 {
     let mut word = Word::Field;
     let mut count: usize = 0;

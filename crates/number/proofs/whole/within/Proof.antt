@@ -17,13 +17,10 @@ returns c =
     let h : SFits w64 (a .high .0) = search needs in
     rw (back g, back h, test-≤ f g true (c .before .before .before .before .if1 .taken))
 
-returns-2 : tie.Need-returns-2
-unfolding between
-returns-2 c =
-    let a = c .before .before .before .before .before .args in
-    let f : SFits w64 (a .low .0) = search needs in
-    let g : SFits w64 (a .x .0) = search needs in
-    rw (test-≤ f g false (c .if1 .left))
-
 pub within-spec : {M : Type 1} → statement M
-within-spec = tie.close (tie.spec returns returns-2)
+unfolding between
+within-spec =
+    tie.close
+    (tie.spec
+    returns
+    (λ c. let a = c .before .before .before .before .before .args in rw (test-≤ {a = a .low .0} {b = a .x .0} (search needs) (search needs) false (c .if1 .left))))

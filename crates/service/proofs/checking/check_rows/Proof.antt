@@ -32,14 +32,14 @@ line-rows-requires : tie.Need-line-rows-requires Inv-loop μ-loop
 line-rows-requires c κs =
     let w = c .before .before .before .before .before .before .loop .inv in
     let inside = c .before .before .before .before .before .loop-test .taken in
-    let took = c .before .before .before .take-line .ensures (at-line w inside) in
+    let took = c .before .before .before .take-line .ensures .0 (at-line w inside) in
     rows-asked w inside took
 
 add-t23 : tie.Need-add-t23 Inv-loop μ-loop
 add-t23 c =
     let w = c .before .before .before .before .before .before .before .before .before .before .before .loop .inv in
     let inside = c .before .before .before .before .before .before .before .before .before .before .loop-test .taken in
-    let took = c .before .before .before .before .before .before .before .before .take-line .ensures (at-line w inside) in
+    let took = c .before .before .before .before .before .before .before .before .take-line .ensures .0 (at-line w inside) in
     let told = c .before .before .before .before .line-rows .ensures (rows-asked w inside took) in
     let row = row-inside w _ _ (took .left-is) _ told _ (c .before .before .rows .given .1) in
     let small : c .before .before .before .before .before .before .before .before .before .before .before .loop .counts .rows + c .before .before .rows .given .0 .0 < pastU64 = row-fits w _ (keeps-rules took) row in
@@ -50,7 +50,7 @@ unfolding replySeen
 returns c =
     let w = c .before .before .before .before .before .before .before .before .before .before .before .loop .inv in
     let inside = c .before .before .before .before .before .before .before .before .before .before .loop-test .taken in
-    let took = c .before .before .before .before .before .before .before .before .take-line .ensures (at-line w inside) in
+    let took = c .before .before .before .before .before .before .before .before .take-line .ensures .0 (at-line w inside) in
     let told = c .before .before .before .before .line-rows .ensures (rows-asked w inside took) in
     checking-fails w _ _ (took .left-is) _ told _ (c .before .before .rows .given .1)
 
@@ -58,22 +58,14 @@ take-place-requires : tie.Need-take-place-requires Inv-loop μ-loop
 take-place-requires c κs =
     let w = c .before .before .before .before .before .before .before .before .before .before .before .loop .inv in
     let inside = c .before .before .before .before .before .before .before .before .before .before .loop-test .taken in
-    let took = c .before .before .before .before .before .before .before .before .take-line .ensures (at-line w inside) in
+    let took = c .before .before .before .before .before .before .before .before .take-line .ensures .0 (at-line w inside) in
     (w .placed .long, w .stands .few, took .next .few .values-most)
-
-loop-less : tie.Need-loop-less Inv-loop μ-loop
-loop-less c =
-    let w = c .before .before .before .before .before .before .before .before .before .before .before .before .before .loop .inv in
-    let inside = c .before .before .before .before .before .before .before .before .before .before .before .before .loop-test .taken in
-    let took = c .before .before .before .before .before .before .before .before .before .before .take-line .ensures (at-line w inside) in
-    let further = took .further in
-    search (needs, further)
 
 loop-again : tie.Need-loop-again Inv-loop μ-loop
 loop-again c =
     let w = c .before .before .before .before .before .before .before .before .before .before .before .before .before .loop .inv in
     let inside = c .before .before .before .before .before .before .before .before .before .before .before .before .loop-test .taken in
-    let took = c .before .before .before .before .before .before .before .before .before .before .take-line .ensures (at-line w inside) in
+    let took = c .before .before .before .before .before .before .before .before .before .before .take-line .ensures .0 (at-line w inside) in
     let told = c .before .before .before .before .before .before .line-rows .ensures (rows-asked w inside took) in
     let placed = placed-next _ _ _ _ _ _ (w .stands .sound) (keeps-rules took) (w .placed) (w .stands .counted) (took .next .counted) (took .one-more)
     (took .next .few .values-most) in
@@ -101,6 +93,6 @@ check-rows-spec =
     (λ c. search needs)
     (λ c. search needs)
     take-place-requires
-    loop-less
+    (λ c. search needs)
     loop-again
     returns-2)

@@ -31,30 +31,6 @@ inside c =
     let s = c .stretch-of .ensures (l .listed) in
     (s .ordered, omega (arith, s .inside, l .counts-are .cells-are, c .before .if1 .left))
 
-mul-result : tie.Need-mul-result
-mul-result c =
-    let ordered = inside c .0 in
-    let within = inside c .1 in
-    search (needs, ordered, within)
-
-sub-result-3 : tie.Need-sub-result-3
-sub-result-3 c =
-    let ordered = inside c .0 in
-    let within = inside c .1 in
-    search (needs, ordered, within)
-
-part-result-start-3 : tie.Need-part-result-start-3
-part-result-start-3 c =
-    let ordered = inside c .0 in
-    let within = inside c .1 in
-    search (needs, ordered, within)
-
-part-result-end-3 : tie.Need-part-result-end-3
-part-result-end-3 c =
-    let ordered = inside c .0 in
-    let within = inside c .1 in
-    search (needs, ordered, within)
-
 returns-2 : tie.Need-returns-2
 returns-2 c =
     let S = c .before .before .before .before .before .before in
@@ -87,9 +63,9 @@ show-spec =
     (λ c. search needs)
     returns
     stretch-of-requires
-    mul-result
-    sub-result-3
-    part-result-start-3
-    part-result-end-3
+    (λ c. search (needs, inside c .0, inside c .1))
+    (λ c. search (needs, inside c .0, inside c .1))
+    (λ c. search (needs, inside c .0, inside c .1))
+    (λ c. search (needs, inside c .0, inside c .1))
     returns-2
     returns-3)

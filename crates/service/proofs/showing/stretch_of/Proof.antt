@@ -27,18 +27,13 @@ take-line-requires c κs =
 returns : tie.Need-returns Inv-loop μ-loop
 returns c =
     let w = c .before .before .before .before .before .before .loop .inv in
-    let took = c .before .before .before .take-line .ensures (at-line w (c .before .before .before .before .before .loop-test .taken)) in
+    let took = c .before .before .before .take-line .ensures .0 (at-line w (c .before .before .before .before .before .loop-test .taken)) in
     showing-line w _ _ (took .left-is) (took .next) (c .if1 .taken)
-
-loop-less : tie.Need-loop-less Inv-loop μ-loop
-loop-less c =
-    let further = c .before .before .before .take-line .ensures (at-line (c .before .before .before .before .before .before .loop .inv) (c .before .before .before .before .before .loop-test .taken)) .further in
-    search (needs, further)
 
 loop-again : tie.Need-loop-again Inv-loop μ-loop
 loop-again c =
     let w = c .before .before .before .before .before .before .loop .inv in
-    let took = c .before .before .before .take-line .ensures (at-line w (c .before .before .before .before .before .loop-test .taken)) in
+    let took = c .before .before .before .take-line .ensures .0 (at-line w (c .before .before .before .before .before .loop-test .taken)) in
     showing-next w _ _ (took .left-is) (took .next) _ (took .long) (c .if1 .left)
 
 returns-2 : tie.Need-returns-2 Inv-loop μ-loop
@@ -55,6 +50,6 @@ stretch-of-spec =
     take-line-requires
     returns
     (λ c. search needs)
-    loop-less
+    (λ c. search needs)
     loop-again
     returns-2)

@@ -35,7 +35,7 @@ line-works-requires : tie.Need-line-works-requires Inv-loop μ-loop
 line-works-requires c κs =
     let w = c .before .before .before .before .before .before .before .loop .inv in
     let inside = c .before .before .before .before .before .before .loop-test .taken in
-    let took = c .before .before .before .before .take-line .ensures (at-line w inside) in
+    let took = c .before .before .before .before .take-line .ensures .0 (at-line w inside) in
     values-asked w inside took
 
 take-value-requires : tie.Need-take-value-requires Inv-loop μ-loop
@@ -43,7 +43,7 @@ unfolding isTrue
 take-value-requires c κs z value =
     let w = c .before .before .before .before .before .before .before .before .before .loop .inv in
     let inside = c .before .before .before .before .before .before .before .before .loop-test .taken in
-    let took = c .before .before .before .before .before .before .take-line .ensures (at-line w inside) in
+    let took = c .before .before .before .before .before .before .take-line .ensures .0 (at-line w inside) in
     let fits : SFits w64 (c .before .before .before .before .input-at .result) = search needs in
     let told = rw (back fits, c .before .before .before .before .input-at .ensures) at (c .before .line-works .ensures (values-asked w inside took)) in
     value-inside w _ _ (took .left-is) _ told (ap isTrue value) (took .kept) z value
@@ -52,7 +52,7 @@ returns : tie.Need-returns Inv-loop μ-loop
 returns c =
     let w = c .before .before .before .before .before .before .before .before .before .before .before .before .loop .inv in
     let inside = c .before .before .before .before .before .before .before .before .before .before .before .loop-test .taken in
-    let took = c .before .before .before .before .before .before .before .before .before .take-line .ensures (at-line w inside) in
+    let took = c .before .before .before .before .before .before .before .before .before .take-line .ensures .0 (at-line w inside) in
     let fits : SFits w64 (c .before .before .before .before .before .before .before .input-at .result) = search needs in
     let told = rw (back fits, c .before .before .before .before .before .before .before .input-at .ensures) at (c .before .before .before .before .line-works .ensures (values-asked w inside took)) in
     let answer = sym (c .before .before .take-value .ensures .0) ∙ not-true _ (c .if1 .taken) in
@@ -67,19 +67,11 @@ add-n c =
     let short : length list ≤ textLimit = read-short _ _ _ (w .asked .listed .is-read) in
     search (needs, numbered, inside, short)
 
-loop-less : tie.Need-loop-less Inv-loop μ-loop
-loop-less c =
-    let w = c .before .before .before .before .before .before .before .before .before .before .before .before .before .loop .inv in
-    let inside = c .before .before .before .before .before .before .before .before .before .before .before .before .loop-test .taken in
-    let took = c .before .before .before .before .before .before .before .before .before .before .take-line .ensures (at-line w inside) in
-    let further = took .further in
-    search (needs, further)
-
 loop-again : tie.Need-loop-again Inv-loop μ-loop
 loop-again c =
     let w = c .before .before .before .before .before .before .before .before .before .before .before .before .before .loop .inv in
     let inside = c .before .before .before .before .before .before .before .before .before .before .before .before .loop-test .taken in
-    let took = c .before .before .before .before .before .before .before .before .before .before .take-line .ensures (at-line w inside) in
+    let took = c .before .before .before .before .before .before .before .before .before .before .take-line .ensures .0 (at-line w inside) in
     let fits : SFits w64 (c .before .before .before .before .before .before .before .before .input-at .result) = search needs in
     let told = rw (back fits, c .before .before .before .before .before .before .before .before .input-at .ensures) at (c .before .before .before .before .before .line-works .ensures (values-asked w inside took)) in
     let answer = sym (c .before .before .before .take-value .ensures .0) ∙ not-false _ (c .before .if1 .left) in
@@ -104,7 +96,7 @@ work-lines-spec =
     (λ c. search needs)
     returns
     add-n
-    loop-less
+    (λ c. search needs)
     loop-again
     (λ c. search needs)
     returns-2)

@@ -1,6 +1,6 @@
 -- `service::writing::write_lines`: the walk that writes each line's cells, with what holds before each line as the invariant.
 use mathlib.Core.Path.{refl, sym, _∙_}
-use Prim.Native.Nat.{_-_}
+use Prim.Native.Nat.{_-_, _≤_}
 use lib.ListN.{length}
 use denote.Ref.{now}
 use borrow.Author.Needs.{needs}
@@ -24,50 +24,24 @@ take-line-requires c κs =
     let w = c .before .before .loop .inv in
     (at-line w (c .before .loop-test .taken), w .numbers-long)
 
-mul-line-cells : tie.Need-mul-line-cells Inv-loop μ-loop
-mul-line-cells c =
-    let w = c .before .before .before .before .before .loop .inv in
-    let inside = c .before .before .before .before .loop-test .taken in
-    let took = c .before .before .take-line .ensures (at-line w inside) in
-    let first = first-inside w inside took in
-    search (needs, first)
-
-sub-line-cells : tie.Need-sub-line-cells Inv-loop μ-loop
-sub-line-cells c =
-    let w = c .before .before .before .before .before .loop .inv in
-    let inside = c .before .before .before .before .loop-test .taken in
-    let took = c .before .before .take-line .ensures (at-line w inside) in
-    let first = first-inside w inside took in
-    search (needs, first)
-
-part-line-cells-start : tie.Need-part-line-cells-start Inv-loop μ-loop
-part-line-cells-start c =
-    let w = c .before .before .before .before .before .loop .inv in
-    let inside = c .before .before .before .before .loop-test .taken in
-    let took = c .before .before .take-line .ensures (at-line w inside) in
-    let first = first-inside w inside took in
-    search (needs, first)
+first : (t : tie.After-take-line Inv-loop μ-loop) → t .before .before .before .loop .counts .cells ≤ length (t .before .before .before .loop .table)
+first t =
+    let w = t .before .before .before .loop .inv in
+    let inside = t .before .before .loop-test .taken in
+    first-inside w inside (t .take-line .ensures .0 (at-line w inside))
 
 line-cells-requires : tie.Need-line-cells-requires Inv-loop μ-loop
 line-cells-requires c κs =
     let w = c .before .before .before .before .before .before .loop .inv in
     let inside = c .before .before .before .before .before .loop-test .taken in
-    let took = c .before .before .before .take-line .ensures (at-line w inside) in
+    let took = c .before .before .before .take-line .ensures .0 (at-line w inside) in
     cells-asked w inside took
-
-loop-less : tie.Need-loop-less Inv-loop μ-loop
-loop-less c =
-    let w = c .before .before .before .before .before .before .before .before .before .before .loop .inv in
-    let inside = c .before .before .before .before .before .before .before .before .before .loop-test .taken in
-    let took = c .before .before .before .before .before .before .before .take-line .ensures (at-line w inside) in
-    let further = took .further in
-    search (needs, further)
 
 loop-again : tie.Need-loop-again Inv-loop μ-loop
 loop-again c =
     let w = c .before .before .before .before .before .before .before .before .before .before .loop .inv in
     let inside = c .before .before .before .before .before .before .before .before .before .loop-test .taken in
-    let took = c .before .before .before .before .before .before .before .take-line .ensures (at-line w inside) in
+    let took = c .before .before .before .before .before .before .before .take-line .ensures .0 (at-line w inside) in
     let written = c .before .before .before .line-cells .ensures (cells-asked w inside took) (next w _ _ (took .left-is) (took .kept)) (made-stand w _ _ (took .left-is) (took .kept)) in
     writing-next w _ _ (took .left-is) (took .kept) _ _ written (took .next) (took .long)
 
@@ -90,12 +64,12 @@ write-lines-spec =
     (λ c. search needs)
     take-line-requires
     (λ c. search needs)
-    mul-line-cells
-    sub-line-cells
-    part-line-cells-start
+    (λ c. search (needs, first (c .before .before)))
+    (λ c. search (needs, first (c .before .before)))
+    (λ c. search (needs, first (c .before .before)))
     (λ c. search needs)
     line-cells-requires
-    loop-less
+    (λ c. search needs)
     loop-again
     same-length
     returns)
