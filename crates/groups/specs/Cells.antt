@@ -7,7 +7,7 @@ use Prim.Native.Nat.{ℕ, _^_, _≤_}
 use lib.Dec.{eqb}
 use lib.IntN.{ℤ}
 use Rattle.algebra.specs.Congruence.{inverse}
-use Rattle.meaning.specs.Refusal.{Result, value, refusedBy}
+use Rattle.meaning.specs.Refusal.{Result, value, refusedBy, mostDigits}
 use Rattle.groups.specs.declared.value.Worked.{Worked}
 use Rattle.groups.specs.declared.value.Worked.the-variants.{Value, NoValue, False}
 
@@ -31,7 +31,7 @@ workedSeen False = refusedBy 18
 pub record GroupOf (b k c : ℕ) : Type 0 where
   pub base : 2 ≤ b
   pub some-digit : 1 ≤ k
-  pub few : k ≤ 31
+  pub few : k ≤ mostDigits
   pub power : c ≡ b ^ k
   pub small : c ≤ powerBound
 

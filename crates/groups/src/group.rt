@@ -12,6 +12,8 @@ ghost use mathlib.Core.List.{_++_};
 ghost use Prim.Native.Nat.{_+_, _/_, _%_, _^_, _≤_, _<_, ℕ};
 ghost use lib.IntN.{pos, natAbs, _-ℤ_, ℤ};
 ghost use lib.ListN.{length, drop};
+ghost use Rattle.meaning.specs.Refusal.{mostDigits};
+ghost use Rattle.meaning.specs.Machine.{pastU64};
 ghost use Rattle.algebra.specs.Digits.{digits};
 ghost use Rattle.meaning.specs.Number.{remainder};
 ghost use Rattle.meaning.specs.Row.{Form, eval, holds, group};
@@ -22,7 +24,7 @@ ghost use Rattle.groups.specs.Cells.{GroupOf, formBound, powerBound};
 
 // c = b ^ k.
 pub fn power_of(b: u32, k: usize) -> u64
-    requires { ⌜ (k ≤ 31) × (b ^ k ≤ powerBound) ⌝ }
+    requires { ⌜ (k ≤ mostDigits) × (b ^ k ≤ powerBound) ⌝ }
     ensures { λ r. ⌜ r ≡ b ^ k ⌝ }
 {
     match capped_power(b as u64, k as u32, 2147483648) {
@@ -102,7 +104,7 @@ pub fn two_groups(out: &mut [u32], first: i64, second: i64, b: u32, k: usize)
 // reduced. In each turn it is the value of the digits before, and part is the power of b below which it is. Each power waits for the one
 // before it, and that is most of the time, so that a turn takes two digits to one step of the power. A last digit may be left over.
 pub fn group_rows(table: &[u32], number: Residue, first: usize, at: Cell, b: u32, k: usize) -> Rows
-    requires { ⌜ GroupOf b k (b ^ k) × (at .0 + k ≤ length (now table)) × (first + k < 2 ^ 64) ⌝ }
+    requires { ⌜ GroupOf b k (b ^ k) × (at .0 + k ≤ length (now table)) × (first + k < pastU64) ⌝ }
     ensures { λ r. ⌜ ((p : ℕ) (f : Form) (L : ℤ) → b ^ k ≤ p → remainder p (eval (now (table .entry)) f -ℤ L) ≡ number .0
         → rowsSeen r ≡ firstRefusal (holds p (now (table .entry))) first (group f L (at .0) b k)) ⌝ }
 {

@@ -24,6 +24,7 @@ ghost use mathlib.Core.List.{_++_, List, [], _∷_};
 ghost use Prim.Native.Nat.{ℕ, _+_, _-_, _^_, _≤_, _<_};
 ghost use lib.IntN.{pos, _-ℤ_};
 ghost use lib.ListN.{length, drop};
+ghost use Rattle.meaning.specs.Machine.{pastU64};
 ghost use Rattle.algebra.specs.Digits.{Below};
 ghost use Rattle.meaning.specs.Number.{remainder, OddPrime};
 ghost use Rattle.meaning.specs.Known.{topPart};
@@ -124,7 +125,7 @@ pub fn sign_rows(
 // The rows t·w ≡ 1-f, t·f ≡ 0 and w·f ≡ 0, the first of them of the number `row` in its line, and then the last. The answer is the same in
 // every table in which the forms T, F and W leave these remainders.
 fn flag_rows(p: u32, top: Residue, flag: Residue, witness: Residue, last: bool, row: usize) -> Rows
-    requires { ⌜ (1 < p) × (flag .0 < p) × (row + 3 < 2 ^ 64) ⌝ }
+    requires { ⌜ (1 < p) × (flag .0 < p) × (row + 3 < pastU64) ⌝ }
     ensures { λ r. ⌜ ((t : List ℕ) (T F W : Form) (x : Row) → Leaves p t (top .0) T → Leaves p t (flag .0) F → Leaves p t (witness .0) W
         → last ≡ holds p t x → rowsSeen r ≡ firstRefusal (holds p t) row (T ⊗ W ≅ constant (pos 1) ⊖ F ∷ T ⊗ F ≅ constant (pos 0)
         ∷ W ⊗ F ≅ constant (pos 0) ∷ x ∷ [])) ⌝ }

@@ -10,6 +10,7 @@ use lib.Dec.{ltb}
 use lib.ListN.{length, length-append}
 use lib.IntN.{ℤ, pos, negsuc}
 use lib.Signed.{mag}
+use Rattle.meaning.specs.Machine.{pastU32, pastU64}
 use Rattle.algebra.proofs.Integer.Order.{negativePart}
 use Rattle.meaning.specs.Text.{decimalBefore, decimalOf, numberText}
 
@@ -89,10 +90,10 @@ decimal-most zero n h = omega (arith, length-short n (omega arith))
 decimal-most (suc k) n h = most-at (suc k) n (ltb n 10) refl (λ l. decimal-most k (n / 10) (omega arith))
 
 -- a number of 64 bits, and one of 32
-pub decimal-of-64 : (n : ℕ) → n < 18446744073709551616 → length (decimalOf n) ≤ 20
+pub decimal-of-64 : (n : ℕ) → n < pastU64 → length (decimalOf n) ≤ 20
 decimal-of-64 n h = decimal-most 19 n (omega arith)
 
-pub decimal-of-32 : (n : ℕ) → n < 4294967296 → length (decimalOf n) ≤ 10
+pub decimal-of-32 : (n : ℕ) → n < pastU32 → length (decimalOf n) ≤ 10
 decimal-of-32 n h = decimal-most 9 n (omega arith)
 
 -- ---- a signed number

@@ -1,6 +1,6 @@
 -- The desk counts its calls (demand 2): up to the full count each call raises heard and one of accepted and refused by one,
 -- and is answered by its check; at the full count nothing moves.
-use Prim.Native.Nat.{ℕ, suc, _+_, _<_, _^_}
+use Prim.Native.Nat.{ℕ, suc, _+_, _<_}
 use native.Mathlib.Omega.{arith}
 use mathlib.Core.Path.{_≡_, refl, ap}
 use mathlib.Core.Bool.{Bool, true, false, cond, not}
@@ -8,6 +8,7 @@ use mathlib.Core.Logic.{_≢_}
 use mathlib.Core.List.{List, [], _∷_, map}
 use lib.Dec.{eqb}
 use lib.ListN.{length, length-map}
+use Rattle.meaning.specs.Machine.{pastU64}
 use Rattle.algebra.proofs.Test.{test-≡, eqb-iff, false-eqb}
 use Rattle.meaning.specs.Reply.{Reply, reply}
 use Rattle.meaning.specs.Desk.{
@@ -73,7 +74,7 @@ record Counted (d : Desk) (checked : List Reply) : Type 0 where
   refused : deskOver d checked .refused ≡ d .refused + howMany (λ r. not (isAccepted r)) checked
   replies : answersOver d checked ≡ checked
 
-room-left : (n k : ℕ) → n + suc k < 2 ^ 64 → n ≢ fullCount
+room-left : (n k : ℕ) → n + suc k < pastU64 → n ≢ fullCount
 unfolding fullCount
 room-left n k h = omega arith
 
@@ -97,7 +98,7 @@ module _ (d e : Desk) (r : Reply) (rs : List Reply) (q : deskAnswer d r ≡ call
   }
 
 -- by induction over the calls, from any desk whose counts agree and that has room for them all
-counts-from : (d : Desk) (checked : List Reply) → Agrees d → d .heard + length checked < 2 ^ 64 → Counted d checked
+counts-from : (d : Desk) (checked : List Reply) → Agrees d → d .heard + length checked < pastU64 → Counted d checked
 unfolding deskOver answersOver howMany
 counts-from d [] h k = record {
   agrees = h;

@@ -27,6 +27,10 @@ valueLimit = 256
 abbrev pub cellLimit : ℕ
 cellLimit = 4096
 
+-- the most digits that a line may ask for
+abbrev pub mostDigits : ℕ
+mostDigits = 31
+
 -- ---- what the rules ask
 
 unfoldable pub all : {A : Type 0} → (A → Bool) → List A → Bool
@@ -57,7 +61,7 @@ isOverPrime w ns = cond (kindOf w .isField) (nonNeg (numberAt ns 0) && oddPrime 
 
 -- "2 ≤ b; 1 ≤ k ≤ 31"
 unfoldable pub isDigits : Digits → Bool
-isDigits d = leZ (pos 2) (d .b) && leZ (pos 1) (d .k) && leZ (d .k) (pos 31)
+isDigits d = leZ (pos 2) (d .b) && leZ (pos 1) (d .k) && leZ (d .k) (pos mostDigits)
 
 -- "L, c0 and each coefficient lie in -M..M"
 unfoldable pub isRanged : ℕ → Word → List ℤ → Bool

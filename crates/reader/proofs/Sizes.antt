@@ -25,13 +25,13 @@ use Rattle.meaning.specs.Gadget.Which.{whichLine}
 use Rattle.meaning.specs.Gadget.Max.{maxLine}
 use Rattle.meaning.specs.Gadget.Root.{rootLine}
 use Rattle.meaning.specs.Meaning.{gadget}
-use Rattle.meaning.specs.Refusal.{all, isDigits, isRanged}
+use Rattle.meaning.specs.Refusal.{all, isDigits, isRanged, mostDigits}
 use Rattle.meaning.specs.Kept.{Keeps}
 use Rattle.text.specs.Word.{wordOf}
 use Rattle.text.specs.declared.Word.{Word}
 use Rattle.text.specs.declared.Word.the-variants.{Field, In, Span, Sum, Relu, Which, Max, Root}
 use Rattle.rules.specs.Told.{lineWith}
-use Rattle.reader.specs.Size.{counted, Adds, FewCounts, DigitSize}
+use Rattle.reader.specs.Size.{counted, Adds, FewCounts, DigitSize, mostWidth, mostRows}
 use Rattle.reader.specs.declared.state.Counts.{Counts}
 
 -- ---- rows
@@ -85,14 +85,14 @@ module _ (p i : ℕ) (w : Meant) (ns : List ℤ) (is : kindOf w .digits ns ≡ d
   unfolding all digitsAt isDigits
   count-low = let g = digits-given in record { le = search (left, right, g) }
 
-  count-high : numberAt ns (suc i) ≤ℤ pos 31
+  count-high : numberAt ns (suc i) ≤ℤ pos mostDigits
   unfolding all digitsAt isDigits
   count-high = let g = digits-given in record { le = search (left, right, g) }
 
 -- and the code's digit count is the line's
 module _ (s : Known) (w : Meant) (numbers : List ℤ) (n i k : ℕ) (inside : suc i < n)
     (is : kindOf w .digits (take n numbers) ≡ digitsAt (take n numbers) i)
-    (counts : pos 1 ≤ℤ getD numbers (suc i) (pos 0) → getD numbers (suc i) (pos 0) ≤ℤ pos 31 → k ≡ natAbs (getD numbers (suc i) (pos 0))) where
+    (counts : pos 1 ≤ℤ getD numbers (suc i) (pos 0) → getD numbers (suc i) (pos 0) ≤ℤ pos mostDigits → k ≡ natAbs (getD numbers (suc i) (pos 0))) where
   number-is : numberAt (take n numbers) (suc i) ≡ getD numbers (suc i) (pos 0)
   unfolding numberAt
   number-is = getD-take n numbers (suc i) (pos 0) inside
@@ -171,7 +171,7 @@ Sizes v numbers c = (
     → Adds s (lineWith (wordOf v) (take count numbers)) c
     ) × FewCounts c
 
-few : {c : Counts} (values inputs cells rows : ℕ) → c ≡ counted values inputs cells rows → values ≤ 1 → inputs ≤ 1 → cells ≤ 126 → rows ≤ 129
+few : {c : Counts} (values inputs cells rows : ℕ) → c ≡ counted values inputs cells rows → values ≤ 1 → inputs ≤ 1 → cells ≤ mostWidth → rows ≤ mostRows
     → FewCounts c
 unfolding counted
 few values inputs cells rows e v i k r = rw e (v, i, k, r)
@@ -192,7 +192,7 @@ module _ {v : Word} {c : Counts} (numbers : List ℤ) where
 module _ {v : Word} {c : Counts} (numbers : List ℤ) where
   digit-sizes : (w : Word) (m i : ℕ) {values each cells rows : ℕ} → v ≡ w → (sized : DigitSize numbers (suc i) values each cells rows c) → suc i < m
       → HasCount w m → (kindOf (wordOf w) .digits (take m numbers) ≡ digitsAt (take m numbers) i)
-      → values ≤ 1 → each * sized .count + cells ≤ 126 → each * sized .count + rows ≤ 129
+      → values ≤ 1 → each * sized .count + cells ≤ mostWidth → each * sized .count + rows ≤ mostRows
       → ((s : Known) → sizeAt (take m numbers) (suc i) ≡ sized .count → Adds s (lineWith (wordOf w) (take m numbers)) (counted values 0 (each * sized .count + cells) (each * sized .count + rows)))
       → Sizes v numbers c
   digit-sizes w m i q sized inside only is few-values few-cells few-rows adds = (

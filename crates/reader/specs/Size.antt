@@ -5,6 +5,7 @@ use Prim.Native.Nat.{ℕ, _+_, _*_, _≤_}
 use lib.ListN.{length, getD}
 use lib.IntN.{ℤ, pos, natAbs}
 use lib.Signed.{_≤ℤ_}
+use Rattle.meaning.specs.Refusal.{mostDigits}
 use Rattle.meaning.specs.Line.{Line}
 use Rattle.meaning.specs.Known.{Known}
 use Rattle.meaning.specs.Meaning.{gadget}
@@ -24,13 +25,20 @@ pub record Adds (s : Known) (l : Line) (c : Counts) : Type 0 where
   pub cells-are : gadget s l .width ≡ c .cells
   pub rows-are : length (gadget s l .rows) ≡ c .rows
 
+-- the most cells of a line, and its most rows: a root has four groups of digits
+abbrev pub mostWidth : ℕ
+mostWidth = 4 * mostDigits + 2
+
+abbrev pub mostRows : ℕ
+mostRows = 4 * mostDigits + 5
+
 -- no line adds more
 abbrev pub FewCounts : Counts → Type 0
-FewCounts c = (c .values ≤ 1) × (c .inputs ≤ 1) × (c .cells ≤ 126) × (c .rows ≤ 129)
+FewCounts c = (c .values ≤ 1) × (c .inputs ≤ 1) × (c .cells ≤ mostWidth) × (c .rows ≤ mostRows)
 
 -- a number that a line may have as its digit count is k, and k is at most 31 whatever the number is
 abbrev pub DigitCount : ℤ → ℕ → Type 0
-DigitCount z k = (k ≤ 31) × (pos 1 ≤ℤ z → z ≤ℤ pos 31 → k ≡ natAbs z)
+DigitCount z k = (k ≤ mostDigits) × (pos 1 ≤ℤ z → z ≤ℤ pos mostDigits → k ≡ natAbs z)
 
 -- the counts of a line whose digit count stands at a place: `each` cells and as many rows for each digit, with so many cells and rows more
 pub record DigitSize (numbers : List ℤ) (at values each cells rows : ℕ) (c : Counts) : Type 0 where

@@ -2,7 +2,7 @@
 -- to rule 9 follows from it alone.
 use mathlib.Core.Path.{_≡_, refl, sym, _∙_, ap}
 use mathlib.Core.Logic.{_⊎_, inl, inr}
-use mathlib.Core.Bool.{Bool, true, false, cond, _&&_}
+use mathlib.Core.Bool.{Bool, true, false, cond, _&&_, and-true}
 use mathlib.Core.List.{List, [], _∷_}
 use Prim.Native.Nat.{ℕ, zero, suc, _+_, _*_, _≤_, _<_}
 use native.Mathlib.Omega.{arith}
@@ -25,7 +25,6 @@ use Rattle.rules.specs.declared.rule.Begun.the-variants.{Digits, Stops}
 use Rattle.rules.specs.Ready.{Ready, Seen}
 use Rattle.rules.specs.Told.{refuses, toldOf, spanTold, lineWith}
 use Rattle.rules.specs.Rule.{begun, begunUnless, earlyBroken}
-use Rattle.rules.proofs.Tests.{and-true}
 use Rattle.rules.proofs.Digits.{digits-allowed}
 use Rattle.rules.proofs.Values.{known-count}
 use Rattle.rules.proofs.Rules.{late, toldWith, areNamed, told-6, told-early, told-late, early-named}

@@ -2,7 +2,7 @@
 -- the code takes from b^(k-1).
 use mathlib.Core.Path.{_≡_, refl, sym, ap, _∙_}
 use mathlib.Core.Logic.{_⊎_, inl, inr, ⊎-elim}
-use mathlib.Core.Bool.{Bool, true, false, cond, _&&_}
+use mathlib.Core.Bool.{Bool, true, false, cond, _&&_, and-false}
 use mathlib.Core.List.{[], _∷_}
 use Prim.Native.Nat.{ℕ, zero, suc, _+_, _-_, _*_, _^_, _≤_, _<_}
 use native.Mathlib.Omega.{arith}
@@ -13,11 +13,12 @@ use lib.Signed.{nonNeg}
 use mir.Syntax.{w64}
 use mir.Val.{Fits}
 use borrow.Author.Tests.{le-leb, lt-leb}
+use Rattle.meaning.specs.Machine.{pastU32}
 use Rattle.algebra.proofs.Test.{≡-test, left, right}
 use Rattle.meaning.specs.Number.{half}
 use Rattle.meaning.specs.Word.{Digits as Meant}
 use Rattle.meaning.specs.Known.{Ends, ends, digitRule, topPart}
-use Rattle.meaning.specs.Refusal.{value, refusedBy, isDigits}
+use Rattle.meaning.specs.Refusal.{value, refusedBy, isDigits, mostDigits}
 use Rattle.number.specs.Power.{cappedPower}
 use Rattle.number.specs.declared.power.Power.{Power as PowerRead}
 use Rattle.number.specs.declared.power.Power.the-variants.{Of as PowerOf, AboveCap}
@@ -27,7 +28,6 @@ use Rattle.rules.specs.declared.rule.Digits.{Digits as DigitsRead}
 use Rattle.rules.specs.declared.rule.Digits.the-variants.{Of, NoDigits}
 use Rattle.rules.specs.Told.{refuses, makes}
 use Rattle.rules.specs.Rule.{digitsAllowed, digitsSeen, narrow, rootTold}
-use Rattle.rules.proofs.Tests.{and-false}
 
 -- ---- what rule 6 says
 
@@ -36,18 +36,18 @@ pub record Allowed (b k : ℤ) : Type 0 where
   pub base : 2 ≤ natAbs b
   pub count-counts : T (nonNeg k)
   pub one : 1 ≤ natAbs k
-  pub most : natAbs k ≤ 31
+  pub most : natAbs k ≤ mostDigits
 
 allowed : (b k : ℤ) → T (isDigits (record { b = b; k = k })) → Allowed b k
 unfolding isDigits
 allowed (pos b) (pos k) t =
-    let first : T (leb 2 b && leb 1 k) = left (leb 2 b && leb 1 k) (leb k 31) t in
+    let first : T (leb 2 b && leb 1 k) = left (leb 2 b && leb 1 k) (leb k mostDigits) t in
     record {
       base-counts = tt;
       base = leb→le 2 b (left (leb 2 b) (leb 1 k) first);
       count-counts = tt;
       one = leb→le 1 k (right (leb 2 b) (leb 1 k) first);
-      most = leb→le k 31 (right (leb 2 b && leb 1 k) (leb k 31) t);
+      most = leb→le k mostDigits (right (leb 2 b && leb 1 k) (leb k mostDigits) t);
     }
 allowed (pos b) (negsuc k) t = absurd (right (leb 2 b) false (left (leb 2 b && false) true t))
 allowed (negsuc b) k t = absurd t
@@ -71,7 +71,7 @@ pub record Read (x y : ℤ) (b k : ℕ) : Type 0 where
   pub count-is : k ≡ natAbs y
   pub base-two : 2 ≤ b
   pub count-one : 1 ≤ k
-  pub count-most : k ≤ 31
+  pub count-most : k ≤ mostDigits
 
 pub digits-read : (x y : ℤ) {r : DigitsRead} {b k : ℕ} → r ≡ Of b k → digitsSeen r ≡ digitsAllowed x y → Read x y b k
 unfolding digitsSeen digitsAllowed
@@ -148,7 +148,7 @@ module _ {p b k part : ℕ} (base : 1 ≤ b) (one : 1 ≤ k) (r : Power p b (k -
   unfolding topPart
   top-part = rw (r .power) (less-one b (b ^ (k - 1)) base)
 
-  pub part-fits : p < 2 ^ 32 → Fits w64 b → Fits w64 (part * b)
+  pub part-fits : p < pastU32 → Fits w64 b → Fits w64 (part * b)
   part-fits h f =
       ⊎-elim
       (λ e. let unit : part ≡ 1 = r .power ∙ e in rw (unit, one-mul b) f)

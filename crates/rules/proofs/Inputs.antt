@@ -2,12 +2,13 @@
 use mathlib.Core.Path.{_≡_, refl, _∙_}
 use mathlib.Core.Bool.{true, false}
 use mathlib.Core.List.{List, [], _∷_}
-use Prim.Native.Nat.{ℕ, _-_, _/_, _^_, _<_}
+use Prim.Native.Nat.{ℕ, _-_, _/_, _<_}
 use lib.ListN.{length}
 use lib.IntN.{ℤ, pos, negℤ, _-ℤ_}
 use mir.Syntax.{w64}
 use mir.Val.{SFits}
 use native.Mathlib.Omega.{arith}
+use Rattle.meaning.specs.Machine.{pastI64}
 use Rattle.algebra.proofs.Integer.Order.{minus, integer}
 use Rattle.number.proofs.Word.{parts-fit}
 use Rattle.meaning.specs.Number.{half, lowest, highest}
@@ -47,7 +48,7 @@ module _ {p values cells : ℕ} {lows highs : List ℤ} (ready : Ready p values 
 -- ---- M in a machine word
 
 module _ {p values cells : ℕ} {lows highs : List ℤ} (r : Ready p values cells lows highs) where
-  pub half-small : (p - 1) / 2 < 2 ^ 63
+  pub half-small : (p - 1) / 2 < pastI64
   half-small = omega (arith, r .p-high)
 
   pub half-fits : SFits w64 (pos 0 -ℤ pos ((p - 1) / 2))

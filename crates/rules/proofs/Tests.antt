@@ -2,25 +2,18 @@
 -- of a value, which is a number that is not negative.
 use mathlib.Core.Path.{_≡_, refl}
 use mathlib.Core.Bool.{Bool, true, false, _&&_}
-use Prim.Native.Nat.{ℕ, _^_, _<_}
+use Prim.Native.Nat.{ℕ, _<_}
 use native.Mathlib.Omega.{arith}
 use lib.Dec.{T, ltb, ltb→lt}
 use lib.IntN.{ℤ, pos, negsuc, natAbs}
 use lib.Signed.{leZ, ltZ, nonNeg, ltZ-no}
 use mir.Syntax.{w64}
 use mir.Val.{SFits}
+use Rattle.meaning.specs.Machine.{pastI64}
 use Rattle.algebra.proofs.Test.{≡-test, test-≡, false-test, false-leZ}
 use Rattle.meaning.specs.Refusal.{isMade}
 
 -- ---- two tests
-
-pub and-true : (t : Bool) → (t && true) ≡ t
-and-true true = refl
-and-true false = refl
-
-pub and-false : (t : Bool) → (t && false) ≡ false
-and-false true = refl
-and-false false = refl
 
 pub both-true : (a b : Bool) → (a && b) ≡ true → (a ≡ true) × (b ≡ true)
 both-true true b e = (refl, e)
@@ -57,6 +50,6 @@ made-name n (negsuc m) e = let q : _≡_ {A = ℕ} 0 1 = cc in absurd (omega ari
 
 -- ---- casts
 
-pub counts-below : (z : ℤ) → SFits w64 z → T (nonNeg z) → natAbs z < 2 ^ 63
+pub counts-below : (z : ℤ) → SFits w64 z → T (nonNeg z) → natAbs z < pastI64
 counts-below (pos n) f t = f .sfits
 counts-below (negsuc n) f t = absurd t

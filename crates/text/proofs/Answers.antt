@@ -2,7 +2,7 @@
 use mathlib.Core.Path.{_≡_, refl, sym, _∙_}
 use mathlib.Core.Bool.{Bool, true, false, cond}
 use mathlib.Core.List.{List, [], _∷_}
-use mathlib.Core.Option.{Option, none, some}
+use mathlib.Core.Option.{Option, none, some, Option·none-ne-some}
 use Prim.Native.Nat.{ℕ, zero, suc, _+_, _≤_, _<_}
 use native.Mathlib.Omega.{arith}
 use lib.IntN.{ℤ, pos, natAbs}
@@ -20,7 +20,6 @@ use Rattle.text.specs.declared.Parsed.the-variants.{Line, NoLine}
 use Rattle.text.specs.Word.{wordOf}
 use Rattle.text.specs.Parsed.{parsedSeen, countSeen, LineRead, NextAfter}
 use Rattle.text.specs.Place.{endOf}
-use Rattle.text.proofs.Bytes.{none-some}
 use Rattle.text.proofs.Numbers.{number-small}
 
 -- ---- every line that the definition reads is good
@@ -35,8 +34,8 @@ pub record GoodLine (l : MeantLine) : Type 0 where
 cons-small : (first : Option ℤ) (rest : Option (List ℤ)) (ns : List ℤ) → ((z : ℤ) → first ≡ some z → natAbs z ≤ largest)
     → ((ms : List ℤ) → rest ≡ some ms → Small ms) → consNumber first rest ≡ some ns → Small ns
 unfolding consNumber
-cons-small none rest ns small later q i = absurd (none-some q)
-cons-small (some n) none ns small later q i = absurd (none-some q)
+cons-small none rest ns small later q i = absurd (Option·none-ne-some _ q)
+cons-small (some n) none ns small later q i = absurd (Option·none-ne-some _ q)
 cons-small (some n) (some ms) ns small later q zero = let e : n ∷ ms ≡ ns = cc in rw (← e) (small n refl)
 cons-small (some n) (some ms) ns small later q (suc i) = let e : n ∷ ms ≡ ns = cc in rw (← e) (later ms refl i)
 
@@ -47,17 +46,17 @@ numbers-small (f ∷ fs) ns q i = cons-small (number f) (numbersOf fs) ns (λ z.
 
 good-at : (t : Bool) (l m : MeantLine) → kindOf (l .word) .isCounted (l .numbers) ≡ t → Small (l .numbers) → cond t (some l) none ≡ some m → GoodLine m
 good-at true l m p small q = let e : l ≡ m = cc in rw (← e) (record { counted = p; small = small })
-good-at false l m p small q = absurd (none-some q)
+good-at false l m p small q = absurd (Option·none-ne-some _ q)
 
 good-assembled : (w : Option MeantWord) (ns : Option (List ℤ)) (l : MeantLine) → ((ms : List ℤ) → ns ≡ some ms → Small ms) → assemble w ns ≡ some l → GoodLine l
 unfolding assemble
-good-assembled none ns l small q = absurd (none-some q)
-good-assembled (some w) none l small q = absurd (none-some q)
+good-assembled none ns l small q = absurd (Option·none-ne-some _ q)
+good-assembled (some w) none l small q = absurd (Option·none-ne-some _ q)
 good-assembled (some w) (some ns) l small q = good-at _ (record { word = w; numbers = ns }) l refl (small ns refl) q
 
 good-fields : (fields : List (List ℕ)) (l : MeantLine) → lineOfFields fields ≡ some l → GoodLine l
 unfolding lineOfFields
-good-fields [] l q = absurd (none-some q)
+good-fields [] l q = absurd (Option·none-ne-some _ q)
 good-fields (f ∷ fs) l q = good-assembled (wordAmong words f) (numbersOf fs) l (numbers-small fs) q
 
 pub good-line : (line : List ℕ) {l : MeantLine} → lineOf line ≡ some l → GoodLine l

@@ -1,9 +1,7 @@
--- Laws of byte strings: the bytes from a place on, taken apart at the first, and the comparison of two. Before them two small facts
--- on tests and options that the other laws share.
+-- Laws of byte strings: the bytes from a place on, taken apart at the first, and the comparison of two.
 use mathlib.Core.Path.{_≡_, refl, ap}
-use mathlib.Core.Bool.{Bool, true, false, _&&_}
+use mathlib.Core.Bool.{Bool, true, false, _&&_, and-false}
 use mathlib.Core.List.{List, [], _∷_}
-use mathlib.Core.Option.{none, some}
 use Prim.Native.Nat.{ℕ, zero, suc, _+_, _≤_, _<_}
 use native.Mathlib.Decide.{ℕ-discrete}
 use native.Mathlib.Numerals.{add-one}
@@ -13,13 +11,6 @@ use lib.Dec.{eqb}
 use lib.ListN.{length, getD, take, drop, drop-of-length-le}
 use lib.Seq.{drop-cons, take-nil}
 use Rattle.meaning.specs.Text.{sameBytes}
-
-pub and-false : (t : Bool) → t && false ≡ false
-and-false true = refl
-and-false false = refl
-
-pub none-some : {A : Type 0} {x : A} → none ≡ some x → ⊥
-none-some q = let e : _≡_ {A = ℕ} 0 1 = cc in omega arith
 
 pub drop-more : (xs : List ℕ) (i : ℕ) → i < length xs → drop i xs ≡ getD xs i 0 ∷ drop (i + 1) xs
 drop-more xs i h = rw (add-one, ← drop-cons xs i 0 h)

@@ -1,8 +1,8 @@
 -- Laws of the line reader: the numbers of fields, one more and each way out; the word before them; and a line that is one number.
 use mathlib.Core.Path.{_≡_, refl, sym, _∙_, ap}
-use mathlib.Core.Bool.{Bool, true, false, cond}
+use mathlib.Core.Bool.{Bool, true, false, cond, and-false}
 use mathlib.Core.List.{List, [], _∷_, _++_, append-nil, append-assoc}
-use mathlib.Core.Option.{Option, none, some}
+use mathlib.Core.Option.{Option, none, some, Option·none-ne-some}
 use Prim.Native.Nat.{ℕ, suc, _+_, _-_, _%_, _≤_, _<_}
 use native.Mathlib.Numerals.{add-one}
 use native.Mathlib.Omega.{arith}
@@ -17,7 +17,6 @@ use Rattle.meaning.specs.Line.{wordAmong, consNumber, numbersOf, assemble, line
 use Rattle.meaning.specs.Word.{Word as MeantWord}
 use Rattle.text.specs.Place.{indexOf, fieldAt}
 use Rattle.text.specs.Parsed.{ifSome, leadingNumbers, afterWord, leading, Stored}
-use Rattle.text.proofs.Bytes.{and-false, none-some}
 use Rattle.text.proofs.Numbers.{tab-number}
 use Rattle.text.proofs.Words.{same-spelled}
 use Rattle.text.proofs.Places.{fields-two, fields-one}
@@ -173,7 +172,7 @@ pub none-alone : (ns : Option (List ℤ)) → assemble (some sum) ns ≡ none �
 unfolding onlyOne assemble kindOf
 none-alone none q = refl
 none-alone (some []) q = refl
-none-alone (some (z ∷ [])) q = absurd (none-some (sym q))
+none-alone (some (z ∷ [])) q = absurd (Option·none-ne-some _ (sym q))
 none-alone (some (z ∷ (y ∷ zs))) q = refl
 
 pub many-alone : (ns : List ℤ) → (length ns ≡ 1 → ⊥) → onlyOne (some ns) ≡ none
@@ -204,7 +203,7 @@ spelled-at false v w f later s rest q = rest q
 
 word-spelled : (ws : List MeantWord) (f : List ℕ) (w : MeantWord) → wordAmong ws f ≡ some w → f ≡ kindOf w .spelling
 unfolding wordAmong
-word-spelled [] f w q = absurd (none-some q)
+word-spelled [] f w q = absurd (Option·none-ne-some _ q)
 word-spelled (v ∷ ws) f w q = spelled-at (sameBytes (kindOf v .spelling) f) v w f (wordAmong ws f) refl (word-spelled ws f w) q
 
 pub word-no-number : (line : List ℕ) {f : List ℕ} {fs : List (List ℕ)} {w : MeantWord} → fieldsOf line ≡ f ∷ fs → wordAmong words f ≡ some w → number line ≡ none

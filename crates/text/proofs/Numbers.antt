@@ -1,9 +1,9 @@
 -- Laws of the number reader: one byte of its digits, its early refusals against the definition's one test at the end, the sign, and
 -- bytes that are read as one field though a tab may be among them.
 use mathlib.Core.Path.{_≡_, refl, _∙_, ap}
-use mathlib.Core.Bool.{Bool, true, false, cond, _&&_}
+use mathlib.Core.Bool.{Bool, true, false, cond, _&&_, and-false}
 use mathlib.Core.List.{List, [], _∷_}
-use mathlib.Core.Option.{Option, none, some}
+use mathlib.Core.Option.{Option, none, some, Option·none-ne-some}
 use Prim.Native.Nat.{ℕ, zero, suc, _+_, _*_, _-_, _≤_, _<_}
 use native.Mathlib.Decide.{decLt}
 use native.Mathlib.Omega.{arith}
@@ -22,7 +22,6 @@ use Rattle.text.specs.declared.Size.{Size}
 use Rattle.text.specs.declared.Size.the-variants.{Small, NoSize}
 use Rattle.text.specs.Number.{plainSize, SizeRead, NumberSpelled, NumberRead}
 use Rattle.text.specs.Place.{indexOf, Found, fieldAt}
-use Rattle.text.proofs.Bytes.{and-false, none-some}
 use Rattle.text.proofs.Places.{index-past, index-end, found-next, field-empty, field-byte, field-more}
 
 -- ---- a digit
@@ -105,8 +104,8 @@ module _ (line : List ℕ) (at : ℕ) where
 
 small-at : (plain small : Bool) (m n : ℕ) → leb m largest ≡ small → cond (plain && small) (some m) none ≡ some n → n ≤ largest
 small-at true true m n p q = let e : m ≡ n = cc in omega (arith, leb-true m largest p)
-small-at true false m n p q = absurd (none-some q)
-small-at false small m n p q = absurd (none-some q)
+small-at true false m n p q = absurd (Option·none-ne-some _ q)
+small-at false small m n p q = absurd (Option·none-ne-some _ q)
 
 plain-small : (xs : List ℕ) (n : ℕ) → plainSize xs ≡ some n → n ≤ largest
 unfolding plainSize
@@ -290,8 +289,8 @@ tab-number (x ∷ xs) h = tab-number-at _ _ x xs refl refl h
 sized-small-at : (plain small : Bool) (m : ℕ) (sign : ℕ → ℤ) (z : ℤ) → natAbs (sign m) ≡ m → leb m largest ≡ small
     → cond (plain && small) (some (sign m)) none ≡ some z → natAbs z ≤ largest
 sized-small-at true true m sign z size p q = let e : sign m ≡ z = cc in rw (← e) (omega (arith, leb-true m largest p))
-sized-small-at true false m sign z size p q = absurd (none-some q)
-sized-small-at false small m sign z size p q = absurd (none-some q)
+sized-small-at true false m sign z size p q = absurd (Option·none-ne-some _ q)
+sized-small-at false small m sign z size p q = absurd (Option·none-ne-some _ q)
 
 sized-small : (xs : List ℕ) (sign : ℕ → ℤ) (z : ℤ) → ((n : ℕ) → natAbs (sign n) ≡ n) → sized xs sign ≡ some z → natAbs z ≤ largest
 unfolding sized
@@ -309,7 +308,7 @@ signed-small false false minus plain z m p q = p q
 
 pub number-small : (field : List ℕ) {z : ℤ} → number field ≡ some z → natAbs z ≤ largest
 unfolding number
-number-small [] q = absurd (none-some q)
+number-small [] q = absurd (Option·none-ne-some _ q)
 number-small (x ∷ xs) {z} q =
     let minus : ℕ → ℤ = λ n. negℤ (pos n) in
     signed-small (sameBytes (x ∷ xs) (48 ∷ [])) (eqb x 45) (sized xs minus) (sized (x ∷ xs) pos) z

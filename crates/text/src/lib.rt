@@ -4,9 +4,10 @@
 // contract says that it is the definition's. Nothing is read past a slice's end and no sum overflows, however long the bytes are.
 ghost use mathlib.Core.Path.{_≡_};
 ghost use mathlib.Core.Bool.{true, _||_};
-ghost use Prim.Native.Nat.{_+_, _^_, _≤_, _<_};
+ghost use Prim.Native.Nat.{_+_, _≤_, _<_};
 ghost use lib.Dec.{eqb};
 ghost use lib.ListN.{length};
+ghost use Rattle.meaning.specs.Machine.{pastU64};
 ghost use Rattle.meaning.specs.Text.{sameBytes, isEnded, isDigit};
 ghost use Rattle.meaning.specs.Word.{kindOf, mostNumbers};
 ghost use Rattle.text.specs.Number.{SizeRead, NumberRead, WholeRead};
@@ -352,7 +353,7 @@ fn numbers_from(text: &[u8], from: usize, numbers: &mut [i64]) -> Counted
 
 // A word with so many numbers, where as many belong to it, in a line that ends at `end`.
 fn worded(word: Word, count: usize, end: usize) -> Fields
-    requires { ⌜ end + 1 < 2 ^ 64 ⌝ }
+    requires { ⌜ end + 1 < pastU64 ⌝ }
     ensures { λ r. ⌜ WordedAs word count (end + 1) r ⌝ }
 {
     let next = end + 1;

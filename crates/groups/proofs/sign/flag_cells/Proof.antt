@@ -1,9 +1,10 @@
 -- `groups::sign::flag_cells`: t is the remainder of the digit less b - 1, and the two ways out are the definition's.
 use mathlib.Core.Path.{_≡_, sym, ap, _∙_}
-use Prim.Native.Nat.{_-_, _^_, _<_}
+use Prim.Native.Nat.{_-_, _<_}
 use native.Mathlib.Omega.{arith}
 use native.Mathlib.Nat.{pos-of-ne-zero}
 use lib.IntN.{pos, _-ℤ_}
+use Rattle.meaning.specs.Machine.{pastU32}
 use Rattle.algebra.specs.Congruence.{remainder, inverse}
 use Rattle.algebra.proofs.Congruence.{remainder-below}
 use Rattle.meaning.proofs.Number.{positive}
@@ -20,7 +21,7 @@ sub-t10 c =
     let a = c .before .args in
     rw (small (a .digit) (omega arith), small (a .b - 1) (omega arith))
     (difference-fits (pos (a .digit)) (pos (a .b - 1))
-    (pos-bounded (a .digit) (2 ^ 32) (omega arith)) (pos-bounded (a .b - 1) (2 ^ 32) (omega arith)) tt)
+    (pos-bounded (a .digit) pastU32 (omega arith)) (pos-bounded (a .b - 1) pastU32 (omega arith)) tt)
 
 top : (c : tie.After-remainder-of)
     → let a = c .before .before .args in c .remainder-of .result .0 ≡ remainder (a .p) (pos (a .digit) -ℤ pos (a .b - 1))

@@ -7,6 +7,7 @@ use native.Mathlib.Nat.{div-le-self, mod-lt}
 use lib.Dec.{lit≤}
 use lib.IntN.{pos, natAbs, _-ℤ_}
 use lib.ListN.{drop, getD, List·getD-append}
+use Rattle.meaning.specs.Machine.{pastU32}
 use Rattle.algebra.specs.Congruence.{remainder}
 use Rattle.algebra.specs.Digits.{digits}
 use Rattle.algebra.proofs.Digits.{length-digits, digit-at}
@@ -26,7 +27,7 @@ use Rattle.groups.proofs.sign.sign_cells.Tie as tie
 base : (s : tie.Start) → 0 < s .args .b
 base s = omega (arith, s .pre .1 .base)
 
-rest-small : (c : tie.After-divided) → c .before .before .args .c - c .divided .result ≤ 4294967296
+rest-small : (c : tie.After-divided) → c .before .before .args .c - c .divided .result ≤ pastU32
 rest-small c = omega (arith, c .before .before .pre .1 .small)
 
 divided-requires : tie.Need-divided-requires

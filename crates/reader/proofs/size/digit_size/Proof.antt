@@ -7,12 +7,13 @@ use lib.ListN.{getD}
 use lib.IntN.{pos}
 use mir.Syntax.{w64}
 use mir.Val.{SFits}
+use Rattle.meaning.specs.Refusal.{mostDigits}
 use Rattle.number.proofs.Word.{back}
 use borrow.Author.Needs.{needs}
 use Rattle.reader.proofs.size.digit_size.Statement.{statement}
 use Rattle.reader.proofs.size.digit_size.Tie as tie
 
-digits-most : (c : tie.After-digit-count) → c .before .before .args .each * c .digit-count .result ≤ 4 * 31
+digits-most : (c : tie.After-digit-count) → c .before .before .args .each * c .digit-count .result ≤ 4 * mostDigits
 digits-most c = mul-le-mul (c .before .before .pre .1) (c .digit-count .ensures .0)
 
 returns : tie.Need-returns

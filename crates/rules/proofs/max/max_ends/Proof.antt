@@ -4,10 +4,10 @@ use mathlib.Core.List.{[], _∷_}
 use native.Mathlib.Omega.{arith}
 use lib.IntN.{pos}
 use borrow.Author.Tests.{not-true, not-false}
+use mathlib.Core.Bool.{and-false}
 use Rattle.meaning.specs.Known.{Ends, digitRule, above}
 use Rattle.rules.specs.Told.{makes, madeSeen}
 use Rattle.rules.specs.Rule.{endsSeen}
-use Rattle.rules.proofs.Tests.{and-false}
 use Rattle.rules.proofs.Digits.{Power, power-above, power-within, rule-above, rule-within}
 use borrow.Author.Needs.{needs}
 use Rattle.rules.proofs.max.max_ends.Statement.{statement}

@@ -6,8 +6,9 @@ use native.Mathlib.Nat.{mul-le-mul}
 use lib.IntN.{pos}
 use lib.ListN.{getD}
 use borrow.Author.Tests.{not-true, not-false}
+use mathlib.Core.Bool.{and-false}
+use Rattle.meaning.specs.Refusal.{mostDigits}
 use Rattle.rules.specs.Rule.{begun, begunUnless}
-use Rattle.rules.proofs.Tests.{and-false}
 use Rattle.rules.proofs.Digits.{Read, digits-read, digits-none}
 use Rattle.rules.proofs.Rules.{begun-stops}
 use borrow.Author.Needs.{needs}
@@ -21,7 +22,7 @@ read : (c : tie.After-known-told)
 read c = digits-read _ _ (c .before .b .given .1) (c .before .before .before .digits-at .ensures)
 
 -- the count of cells is small
-small : (c : tie.After-known-told) → let a = c .before .before .before .before .args in a .each * c .before .b .given .0 .1 .0 ≤ 4 * 31
+small : (c : tie.After-known-told) → let a = c .before .before .before .before .args in a .each * c .before .b .given .0 .1 .0 ≤ 4 * mostDigits
 small c = mul-le-mul (c .before .before .before .before .pre .4) (read c .count-most)
 
 returns : tie.Need-returns

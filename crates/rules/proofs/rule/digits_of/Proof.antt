@@ -5,7 +5,7 @@ use mathlib.Core.Bool.{true}
 use native.Mathlib.Omega.{arith}
 use lib.IntN.{pos}
 use lib.Signed.{leZ, pos-natAbs}
-use Rattle.meaning.specs.Refusal.{isDigits}
+use Rattle.meaning.specs.Refusal.{isDigits, mostDigits}
 use Rattle.number.proofs.Word.{back}
 use Rattle.rules.specs.Rule.{digitsAllowed, digitsSeen}
 use Rattle.rules.proofs.Tests.{less, not-less, counts-below}
@@ -27,7 +27,7 @@ all-passed c =
     rw (
       base-two (c .before .before),
       count-one (c .before),
-      not-less (pos 31) (start .args .k)
+      not-less (pos mostDigits) (start .args .k)
           (rw (back (start .fits .k)) at (c .if3 .left)),
     )
 
@@ -45,7 +45,7 @@ returns-3 : tie.Need-returns-3
 unfolding digitsAllowed digitsSeen isDigits
 returns-3 c =
     let start = c .before .before .before in
-    rw (base-two (c .before .before), count-one (c .before), less (pos 31) (start .args .k) (rw (back (start .fits .k)) at (c .if3 .taken)))
+    rw (base-two (c .before .before), count-one (c .before), less (pos mostDigits) (start .args .k) (rw (back (start .fits .k)) at (c .if3 .taken)))
 
 cast-t4 : tie.Need-cast-t4
 cast-t4 c =
