@@ -1,31 +1,23 @@
 -- The byte is written after the digits.
+use Prim.Native.Nat.{_<_}
 use native.Mathlib.Omega.{arith}
+use lib.ListN.{length}
 use Rattle.meaning.specs.Text.{decimalOf}
 use Rattle.output.proofs.Writing.{byte-room, byte-inside, written-byte}
 use borrow.Author.Needs.{needs}
 use Rattle.output.proofs.write_field.Statement.{statement}
 use Rattle.output.proofs.write_field.Tie as tie
 
-write-decimal-requires : tie.Need-write-decimal-requires
-write-decimal-requires c κs =
-    let s = c .before .before in
-    omega (arith, byte-room (decimalOf (s .args .n)) (s .args .end) (s .args .part .now) (s .pre))
-
-slice-write-part : tie.Need-slice-write-part
-slice-write-part c =
-    let s = c .before .before .before .before .before in
-    byte-inside (s .args .end) (c .before .before .write-decimal .ensures) (byte-room (decimalOf (s .args .n)) (s .args .end) (s .args .part .now) (s .pre))
-
-add-result : tie.Need-add-result
-add-result c =
-    let s = c .before .before .before .before .before in
-    omega (arith, byte-inside (s .args .end) (c .before .before .write-decimal .ensures) (byte-room (decimalOf (s .args .n)) (s .args .end) (s .args .part .now) (s .pre)))
-
-returns : tie.Need-returns
-returns c =
-    let s = c .before .before .before .before .before in
-    written-byte (s .args .end) (c .before .before .write-decimal .ensures) (byte-room (decimalOf (s .args .n)) (s .args .end) (s .args .part .now) (s .pre))
+-- there is room for the byte after the digits
+room : (s : tie.Start) → length (decimalOf (s .args .n)) < length (s .args .part .now)
+room s = byte-room (decimalOf (s .args .n)) (s .args .end) (s .args .part .now) (s .pre)
 
 pub write-field-spec : {M : Type 1} → statement M
 write-field-spec =
-    tie.close (tie.spec write-decimal-requires slice-write-part add-result (λ c. search needs) returns)
+    tie.close
+    (tie.spec
+    (λ c κs. omega (arith, room (c .before .before)))
+    (λ c. byte-inside (c .before .before .before .before .before .args .end) (c .before .before .write-decimal .ensures) (room (c .before .before .before .before .before)))
+    (λ c. omega (arith, byte-inside (c .before .before .before .before .before .args .end) (c .before .before .write-decimal .ensures) (room (c .before .before .before .before .before))))
+    (λ c. search needs)
+    (λ c. written-byte (c .before .before .before .before .before .args .end) (c .before .before .write-decimal .ensures) (room (c .before .before .before .before .before))))

@@ -20,39 +20,10 @@ halves c =
 plain : (c : tie.Else1) → decimalOf (c .before .magnitude .result) ≡ numberText (c .before .before .before .args .z)
 plain c = sym (plain-text (c .before .before .before .fits .z) (c .before .magnitude .ensures) (c .if1 .left))
 
-write-bytes-requires : tie.Need-write-bytes-requires
-write-bytes-requires c κs = first-room (halves (c .before .before))
-
-sub-write-decimal : tie.Need-sub-write-decimal
-sub-write-decimal c = rest-starts (halves (c .before .before .before .before .before)) (c .before .before .write-bytes .ensures)
-
-part-write-decimal-start : tie.Need-part-write-decimal-start
-part-write-decimal-start c = rest-starts (halves (c .before .before .before .before .before)) (c .before .before .write-bytes .ensures)
-
 add-write-decimal : tie.Need-add-write-decimal
 add-write-decimal c =
     let measured = c .before .before .before .before .before .before .before in
     record { fits = omega (arith, size-most (measured .before .before .fits .z) (measured .magnitude .ensures)) }
-
-write-decimal-requires : tie.Need-write-decimal-requires
-write-decimal-requires c κs =
-    rest-room (halves (c .before .before .before .before .before .before)) (c .before .before .before .write-bytes .ensures)
-
-add-result : tie.Need-add-result
-add-result c =
-    let below = c .before .before .before .before .before .before .before .before .before in
-    omega (arith, whole-room (halves below) (c .before .before .before .before .before .before .write-bytes .ensures) (c .before .before .write-decimal .ensures))
-
-returns : tie.Need-returns
-returns c =
-    let below = c .before .before .before .before .before .before .before .before .before in
-    written-whole (halves below) (c .before .before .before .before .before .before .write-bytes .ensures) (c .before .before .write-decimal .ensures)
-
-write-decimal-requires-2 : tie.Need-write-decimal-requires-2
-write-decimal-requires-2 c κs = rw (plain (c .before)) (c .before .before .before .before .pre)
-
-returns-2 : tie.Need-returns-2
-returns-2 c = rw (plain (c .before .before .before .before)) at (c .before .before .write-decimal2 .ensures)
 
 pub write-number-spec : {M : Type 1} → statement M
 write-number-spec =
@@ -60,15 +31,15 @@ write-number-spec =
     (tie.spec
     (λ c κs. search needs)
     (λ c. search needs)
-    write-bytes-requires
-    sub-write-decimal
-    part-write-decimal-start
+    (λ c κs. first-room (halves (c .before .before)))
+    (λ c. rest-starts (halves (c .before .before .before .before .before)) (c .before .before .write-bytes .ensures))
+    (λ c. rest-starts (halves (c .before .before .before .before .before)) (c .before .before .write-bytes .ensures))
     (λ c. search needs)
     add-write-decimal
-    write-decimal-requires
-    add-result
+    (λ c κs. rest-room (halves (c .before .before .before .before .before .before)) (c .before .before .before .write-bytes .ensures))
+    (λ c. omega (arith, whole-room (halves (c .before .before .before .before .before .before .before .before .before)) (c .before .before .before .before .before .before .write-bytes .ensures) (c .before .before .write-decimal .ensures)))
     (λ c. search needs)
-    returns
-    write-decimal-requires-2
+    (λ c. written-whole (halves (c .before .before .before .before .before .before .before .before .before)) (c .before .before .before .before .before .before .write-bytes .ensures) (c .before .before .write-decimal .ensures))
+    (λ c κs. rw (plain (c .before)) (c .before .before .before .before .pre))
     (λ c. search needs)
-    returns-2)
+    (λ c. rw (plain (c .before .before .before .before)) at (c .before .before .write-decimal2 .ensures)))

@@ -24,81 +24,6 @@ euclid-at t = and 0 euclid-kinds.ps (is 0 euclid-kinds.ps μ-euclid t) euclid.Pr
 abbrev euclid-below : ℕ → In 0 euclid-kinds.ps
 euclid-below t = and 0 euclid-kinds.ps (falls 0 euclid-kinds.ps _<_ μ-euclid t) euclid.Pre
 
-euclid-div-euclid : (t : ℕ) → euclid-lts.Need-div-euclid (
-  product-reads.Asked,
-  product-reads.Learnt,
-  difference-reads.Asked,
-  difference-reads.Learnt,
-  euclid-below t,
-  euclid.Post,
-) (euclid-at t) euclid.Post
-euclid-div-euclid t c = pos-of-ne-zero (c .if1 .left)
-
-euclid-product-requires : (t : ℕ) → euclid-lts.Need-product-requires (
-  product-reads.Asked,
-  product-reads.Learnt,
-  difference-reads.Asked,
-  difference-reads.Learnt,
-  euclid-below t,
-  euclid.Post,
-) (euclid-at t) euclid.Post
-euclid-product-requires t c κs = let S = c .before .pre .1 in omega (arith, S .below)
-
-euclid-difference-requires : (t : ℕ) → euclid-lts.Need-difference-requires (
-  product-reads.Asked,
-  product-reads.Learnt,
-  difference-reads.Asked,
-  difference-reads.Learnt,
-  euclid-below t,
-  euclid.Post,
-) (euclid-at t) euclid.Post
-euclid-difference-requires t c κs = search needs
-
-euclid-rem-euclid : (t : ℕ) → euclid-lts.Need-rem-euclid (
-  product-reads.Asked,
-  product-reads.Learnt,
-  difference-reads.Asked,
-  difference-reads.Learnt,
-  euclid-below t,
-  euclid.Post,
-) (euclid-at t) euclid.Post
-euclid-rem-euclid t c = pos-of-ne-zero (c .before .before .if1 .left)
-
-euclid-euclid-requires : (t : ℕ) → euclid-lts.Need-euclid-requires (
-  product-reads.Asked,
-  product-reads.Learnt,
-  difference-reads.Asked,
-  difference-reads.Learnt,
-  euclid-below t,
-  euclid.Post,
-) (euclid-at t) euclid.Post
-euclid-euclid-requires t c κs =
-    let s = c .before .before .before in
-    let m : s .args .r0 % s .args .r1 < s .args .r1 = mod-lt (s .args .r0) (pos-of-ne-zero (c .before .before .if1 .left)) in
-    let e : s .args .r1 ≡ t = s .pre .0 in
-    let d = c .difference .ensures in
-    (omega arith, euclid-step (s .pre .1) (c .before .product .ensures .1) (d .0) (d .1))
-
-euclid-returns : (t : ℕ) → euclid-lts.Need-returns (
-  product-reads.Asked,
-  product-reads.Learnt,
-  difference-reads.Asked,
-  difference-reads.Learnt,
-  euclid-below t,
-  euclid.Post,
-) (euclid-at t) euclid.Post
-euclid-returns t c = let S = c .before .pre .1 in euclid-end (rw (c .if1 .taken) at S)
-
-euclid-returns-2 : (t : ℕ) → euclid-lts.Need-returns-2 (
-  product-reads.Asked,
-  product-reads.Learnt,
-  difference-reads.Asked,
-  difference-reads.Learnt,
-  euclid-below t,
-  euclid.Post,
-) (euclid-at t) euclid.Post
-euclid-returns-2 t c = c .euclid .ensures
-
 pub +euclid-spec : {M : Type 1} → statement M
 +euclid-spec = close μ-euclid λ t. euclid-lts.spec (
   product-reads.Asked,
@@ -110,10 +35,15 @@ pub +euclid-spec : {M : Type 1} → statement M
 )
     (euclid-at t)
     euclid.Post
-    (euclid-div-euclid t)
-    (euclid-product-requires t)
-    (euclid-difference-requires t)
-    (euclid-rem-euclid t)
-    (euclid-euclid-requires t)
-    (euclid-returns t)
-    (euclid-returns-2 t)
+    (λ c. pos-of-ne-zero (c .if1 .left))
+    (λ c κs. let S = c .before .pre .1 in omega (arith, S .below))
+    (λ c κs. search needs)
+    (λ c. pos-of-ne-zero (c .before .before .if1 .left))
+    (λ c κs.
+    let s = c .before .before .before in
+    let m : s .args .r0 % s .args .r1 < s .args .r1 = mod-lt (s .args .r0) (pos-of-ne-zero (c .before .before .if1 .left)) in
+    let e : s .args .r1 ≡ t = s .pre .0 in
+    let d = c .difference .ensures in
+    (omega arith, euclid-step (s .pre .1) (c .before .product .ensures .1) (d .0) (d .1)))
+    (λ c. let S = c .before .pre .1 in euclid-end (rw (c .if1 .taken) at S))
+    (λ c. c .euclid .ensures)

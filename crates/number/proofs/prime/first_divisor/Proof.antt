@@ -14,9 +14,6 @@ Inv-loop n d table i₀ i = (i ≤ length table) × ((k : ℕ) → k < i → n %
 abbrev μ-loop : tie.MeasureT-loop
 μ-loop n d table i₀ i = length table - i
 
-loop-holds : tie.Need-loop-holds Inv-loop μ-loop
-loop-holds c = (search needs, λ k h. absurd (omega arith))
-
 -- what the table's entries are asked to be
 add-if1 : tie.Need-add-if1 Inv-loop μ-loop
 add-if1 c = let at-test = c .before in omega (arith, at-test .before .before .pre (at-test .before .loop .i) (at-test .loop-test .taken) .1)
@@ -29,9 +26,6 @@ returns c =
     let s = c .before .before .before .loop in
     record { within = s .inv .0; earlier = s .inv .1; divides = λ _. c .if1 .taken }
 
-loop-again : tie.Need-loop-again Inv-loop μ-loop
-loop-again c = (search needs, below-more _ _ (c .before .before .before .loop .inv .1) (c .if1 .left))
-
 returns-2 : tie.Need-returns-2 Inv-loop μ-loop
 returns-2 c =
     let s = c .before .loop in
@@ -43,7 +37,7 @@ first-divisor-spec =
     (tie.spec
     Inv-loop
     μ-loop
-    loop-holds
+    (λ c. (search needs, λ k h. absurd (omega arith)))
     (λ c. search needs)
     (λ c. search needs)
     add-if1
@@ -51,5 +45,5 @@ first-divisor-spec =
     returns
     (λ c. search needs)
     (λ c. search needs)
-    loop-again
+    (λ c. (search needs, below-more _ _ (c .before .before .before .loop .inv .1) (c .if1 .left)))
     returns-2)

@@ -16,16 +16,10 @@ Inv-loop n table i₀ i = (i ≤ length table) × ((k : ℕ) → k < i → getD 
 abbrev μ-loop : tie.MeasureT-loop
 μ-loop n table i₀ i = length table - i
 
-loop-holds : tie.Need-loop-holds Inv-loop μ-loop
-loop-holds c = (search needs, λ k h. absurd (omega arith))
-
 returns : tie.Need-returns Inv-loop μ-loop
 returns c =
     let at-test = c .before .before in
     record { found = λ _. (at-test .before .loop .i, at-test .loop-test .taken, c .if1 .taken); absent = λ e. absurd (false≢true (sym e)) }
-
-loop-again : tie.Need-loop-again Inv-loop μ-loop
-loop-again c = (search needs, below-more _ _ (c .before .before .before .loop .inv .1) (c .if1 .left))
 
 returns-2 : tie.Need-returns-2 Inv-loop μ-loop
 returns-2 c =
@@ -38,11 +32,11 @@ is-listed-spec =
     (tie.spec
     Inv-loop
     μ-loop
-    loop-holds
+    (λ c. (search needs, λ k h. absurd (omega arith)))
     (λ c. search needs)
     (λ c. search needs)
     returns
     (λ c. search needs)
     (λ c. search needs)
-    loop-again
+    (λ c. (search needs, below-more _ _ (c .before .before .before .loop .inv .1) (c .if1 .left)))
     returns-2)

@@ -35,9 +35,6 @@ short c = elim (decLt (c .square-root .result) pastU16) [
   | no h ↦ let m : pastU16 ≤ c .square-root .result = omega arith in absurd (omega (arith, mul-le-mul m m, square c))
 ]
 
-cast-root : tie.Need-cast-root Inv-loop μ-loop
-cast-root c = let h = short c in search needs
-
 -- ---- the loop
 
 loop-holds : tie.Need-loop-holds Inv-loop μ-loop
@@ -62,9 +59,6 @@ returns c =
     odd-prime-fails _ _ (omega (arith, now .inv .0))
     (below (now .d) _ (at-root .square-root .result) _ (now .inv .0) (at-test .loop-test .taken) (step .1) (square at-root))
     (found .ensures .divides (c .if1 .taken))
-
-add-d : tie.Need-add-d Inv-loop μ-loop
-add-d c = let h = short (c .before .before .before .before .before) in search needs
 
 loop-again : tie.Need-loop-again Inv-loop μ-loop
 loop-again c =
@@ -103,12 +97,12 @@ passes-odd-trial-spec =
     Inv-loop
     μ-loop
     (λ c κs. search needs)
-    cast-root
+    (λ c. search (needs, short c))
     loop-holds
     (λ c. search needs)
     first-divisor-requires
     returns
-    add-d
+    (λ c. search (needs, short (c .before .before .before .before .before)))
     (λ c. search needs)
     loop-again
     returns-2)

@@ -27,20 +27,6 @@ returns c =
     let at-loop = at-test .before in
     seeking-found (at-loop .loop .inv) (at-loop .before .before .pre) (at-test .loop-test .taken) (at-end .line-end .ensures) (c .before .is-same .ensures) (c .if1 .taken)
 
-add-at : tie.Need-add-at Inv-loop μ-loop
-add-at c =
-    let at-end = c .before .before .before .before in
-    let at-test = at-end .before in
-    let at-loop = at-test .before in
-    omega (arith, at-end .line-end .ensures .low)
-
-loop-less : tie.Need-loop-less Inv-loop μ-loop
-loop-less c =
-    let at-end = c .before .before .before .before in
-    let at-test = at-end .before in
-    let at-loop = at-test .before in
-    omega (arith, at-end .line-end .ensures .low)
-
 loop-again : tie.Need-loop-again Inv-loop μ-loop
 unfolding bytes
 loop-again c =
@@ -68,8 +54,8 @@ find-end-spec =
     (λ c. search needs)
     (λ c κs. search needs)
     returns
-    add-at
+    (λ c. omega (arith, c .before .before .before .before .line-end .ensures .low))
     (λ c. search needs)
-    loop-less
+    (λ c. omega (arith, c .before .before .before .before .line-end .ensures .low))
     loop-again
     returns-2)
