@@ -27,11 +27,9 @@ use Rattle.text.proofs.Places.{lines-none}
 use Rattle.text.proofs.Ends.{in-line, lines-at}
 use Rattle.rules.specs.Ready.{greatest, endsFrom, Ready}
 use Rattle.reader.specs.State.{stateOf}
-use Rattle.reader.specs.Step.{stepOption, stepSeen, placedAt, valuesIn, WithinLimits}
+use Rattle.reader.specs.Step.{stops, goes, stepOption, placedAt, WithinLimits}
 use Rattle.reader.specs.Read.{only, counted, refusedAt, surveyOf}
 use Rattle.reader.specs.declared.state.Counts.{Counts}
-use Rattle.reader.specs.declared.state.Stepped.{Stepped}
-use Rattle.reader.specs.declared.state.Stepped.the-variants.{Next, Refused}
 use Rattle.rules.proofs.Values.{known-long}
 use Rattle.reader.proofs.Ordered.{Ordered, ordered-after}
 use Rattle.reader.proofs.Steps.{few}
@@ -149,17 +147,13 @@ module _ {list : List ℕ} {start p : ℕ} {numbers lows highs : List ℤ} {plac
     unfolding readFrom
     survey-here = w .survey-left ∙ rw (lines-at list at ended h) refl
 
-    pub walk-stopped : (x : Stepped) (r : ℕ) (ls hs : List ℤ) (ps : List ℕ) → x ≡ Refused r
-        → stepSeen p x ls hs ps ≡ stepOption 1 (stateOf p c lows highs places) (lineOf line)
-        → refusedAt r n ≡ surveyOf (readFrom plain 1 (only p) (linesFrom list start))
-    unfolding stepSeen
-    walk-stopped x r ls hs ps is e =
-        let stopped : stepSeen p (Refused r) ls hs ps ≡ stepOption 1 (stateOf p c lows highs places) (lineOf line) = ap (λ (y : Stepped). stepSeen p y ls hs ps) (sym is) ∙ e in
-        sym (survey-here ∙ stopped-at n (stateOf p c lows highs places) rest (lineOf line) r (stopped ∙ step-later n (w .later) (stateOf p c lows highs places) (lineOf line)))
+    pub walk-stopped : (r : ℕ) → stops r ≡ stepOption 1 (stateOf p c lows highs places) (lineOf line) → refusedAt r n ≡ surveyOf (readFrom plain 1 (only p) (linesFrom list start))
+    walk-stopped r e =
+        sym (survey-here ∙ stopped-at n (stateOf p c lows highs places) rest (lineOf line) r (e ∙ step-later n (w .later) (stateOf p c lows highs places) (lineOf line)))
 
     -- the walk goes on with the next line
-    module _ (x : Stepped) (next : Counts) (numbers′ ls hs : List ℤ) (ps : List ℕ) (is : x ≡ Next next)
-        (e : stepSeen p x ls hs ps ≡ stepOption 1 (stateOf p c lows highs places) (lineOf line)) (few-in : valuesIn x ≤ valueLimit) (numbers-long : length numbers′ ≡ mostNumbers) (lows-long : length ls ≡ length lows)
+    module _ (next : Counts) (numbers′ ls hs : List ℤ) (ps : List ℕ) (e : goes (stateOf p next ls hs ps) ≡ stepOption 1 (stateOf p c lows highs places) (lineOf line))
+        (few-values : next .values ≤ valueLimit) (numbers-long : length numbers′ ≡ mostNumbers) (lows-long : length ls ≡ length lows)
         (highs-long : length hs ≡ length highs) (places-long : length ps ≡ length places) where
       abbrev s : Known
       s = stateOf p c lows highs places
@@ -167,13 +161,8 @@ module _ {list : List ℕ} {start p : ℕ} {numbers lows highs : List ℤ} {plac
       abbrev t : Known
       t = stateOf p next ls hs ps
 
-      few-values : next .values ≤ valueLimit
-      unfolding valuesIn
-      few-values = subst (λ (y : Stepped). valuesIn y ≤ valueLimit) is few-in
-
       gone : (l : Line) × (firstBroken rules n s l ≡ none) × (t ≡ after s l) × (surveyOf (readLine plain n s (lineOf line) rest) ≡ surveyOf (rest t))
-      unfolding stepSeen
-      gone = gone-at n s rest (lineOf line) t (ap (λ (y : Stepped). stepSeen p y ls hs ps) (sym is) ∙ e ∙ step-later n (w .later) s (lineOf line))
+      gone = gone-at n s rest (lineOf line) t (e ∙ step-later n (w .later) s (lineOf line))
 
       keeps : Keeps n s (gone .0)
       keeps = keeps-all n s (gone .0) (gone .1)

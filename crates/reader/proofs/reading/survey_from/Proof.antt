@@ -11,9 +11,7 @@ use Rattle.meaning.specs.Refusal.{valueLimit}
 use Rattle.text.specs.Place.{endOf}
 use Rattle.text.proofs.Answers.{no-line-seen, line-seen, line-next}
 use Rattle.reader.specs.Read.{surveySeen, PrimeFound}
-use Rattle.reader.specs.Step.{stepSeen, placedAt}
-use Rattle.reader.specs.State.{stateOf}
-use Rattle.reader.specs.declared.state.Stepped.the-variants.{Refused}
+use Rattle.reader.specs.Step.{stepSeen, placedAt, valuesIn}
 use Rattle.reader.proofs.Steps.{no-line-step, line-step, line-parsed}
 use Rattle.reader.proofs.Walk.{Walked, placed-long, walk-ready, walk-start, walk-end, walk-stopped, walk-next}
 use Rattle.reader.proofs.reading.survey_from.Statement.{statement}
@@ -41,81 +39,72 @@ same-length : tie.Need-same-length Inv-loop μ-loop
 same-length c = c .before .before .before .line-of .ensures .0 .left .kept ∙ c .before .before .before .before .before .before .loop .inv .1 .numbers-long ∙ sym (c .before .before .before .before .before .before .before .before .pre .5)
 
 returns : tie.Need-returns Inv-loop μ-loop
-unfolding surveySeen PrimeFound stepSeen
+unfolding surveySeen PrimeFound
 returns c =
     let at-line = c .before .before .before in
     let at-test = at-line .before .before in
-    let now-at = at-test .before .loop in
-    let places = now-at .inv .0 in
-    let S = at-test .before .before .before in
-    let s = stateOf (S .args .p) (now-at .counts) (now-at .lows) (now-at .highs) places in (
-      walk-stopped (now-at .inv .1) (S .pre .0) (at-test .loop-test .taken) (Refused 3) 3 (now-at .lows) (now-at .highs) places refl
-          (no-line-step 1 s (no-line-seen (at-line .line-of .ensures .0) (c .enum-told .given .1))),
-      tt,
-    )
+    (walk-stopped (at-test .before .loop .inv .1) (at-test .before .before .before .pre .0) (at-test .loop-test .taken) 3 (no-line-step 1 _ (no-line-seen (at-line .line-of .ensures .0) (c .enum-told .given .1))), tt)
+
+-- a line that was parsed
+module _ (c : tie.After-word Inv-loop μ-loop) where
+  abbrev at-line : tie.After-line-of Inv-loop μ-loop
+  at-line = c .before .before .before
+
+  abbrev at-test : tie.In-loop Inv-loop μ-loop
+  at-test = at-line .before .before
+
+  abbrev at-loop : tie.At-loop Inv-loop μ-loop
+  at-loop = at-test .before
+
+  abbrev start : tie.Start Inv-loop μ-loop
+  start = at-loop .before .before
+
+  next-at : c .word .given .0 .1 .1 .0 ≡ endOf (now (start .args .list)) (at-loop .loop .at) + 1
+  next-at = line-next (now (start .args .list)) (at-loop .loop .at) (at-line .line-of .ensures .1) (c .word .given .1)
 
 step-parsed-requires : tie.Need-step-parsed-requires Inv-loop μ-loop
 step-parsed-requires c κs =
     let at-word = c .before .before .before .before in
-    let at-line = at-word .before .before .before in
-    let at-loop = at-line .before .before .before in
-    let w = at-loop .loop .inv .1 in
-    let S = at-loop .before .before in
-    let read = at-line .line-of .ensures .0 in
-    let q = at-word .word .given .1 in (
-      walk-ready (S .args .p) _ _ _ _ (w .sized) _ (w .later) (S .pre .4) (w .sound) (w .ordered),
+    let w = at-loop at-word .loop .inv .1 in (
+      walk-ready (start at-word .args .p) _ _ _ _ (w .sized) _ (w .later) (start at-word .pre .4) (w .sound) (w .ordered),
       w .sized,
-      line-parsed read (w .numbers-long) q,
+      line-parsed (at-line at-word .line-of .ensures .0) (w .numbers-long) (at-word .word .given .1),
     )
 
 same-length-2 : tie.Need-same-length-2 Inv-loop μ-loop
-same-length-2 c = c .before .before .before .before .before .before .before .before .before .before .before .before .before .line-of .ensures .0 .left .kept ∙ c .before .before .before .before .before .before .before .before .before .before .before .before .before .before .before .before .loop .inv .1 .numbers-long ∙ sym (c .before .before .before .before .before .before .before .before .before .before .before .before .before .before .before .before .before .before .pre .5)
+same-length-2 c =
+    let at-word = c .before .before .before .before .before .before .before .before .before .before in
+    at-line at-word .line-of .ensures .0 .left .kept ∙ at-loop at-word .loop .inv .1 .numbers-long ∙ sym (start at-word .pre .5)
 
 returns-2 : tie.Need-returns-2 Inv-loop μ-loop
-unfolding surveySeen PrimeFound
+unfolding surveySeen PrimeFound stepSeen
 returns-2 c =
     let at-step = c .before .before .before .before .before in
     let at-word = at-step .before .before .before .before .before in
-    let at-line = at-word .before .before .before in
-    let at-test = at-line .before .before in
-    let now-at = at-test .before .loop in
-    let places = now-at .inv .0 in
-    let S = at-test .before .before .before in
-    let line = line-seen (at-line .line-of .ensures .0) (at-word .word .given .1) in (
-      walk-stopped (now-at .inv .1) (S .pre .0) (at-test .loop-test .taken) _ (c .before .stepped .given .0 .0) _ _ (placedAt (now-at .counts) places) (c .before .stepped .given .1)
-          (line-step 1 _ line (at-step .step-parsed .ensures .0 _ places (now-at .inv .1 .places-long) refl)),
-      tt,
-    )
-
--- where the next line starts
-next-at : (c : tie.After-known-told3 Inv-loop μ-loop) → let at-word = c .before .before .before .before .before .before .before .before .before .before in
-    let at-loop = at-word .before .before .before .before .before .before in
-    at-word .word .given .0 .1 .1 .0 ≡ endOf (now (at-loop .before .before .args .list)) (at-loop .loop .at) + 1
-next-at c =
-    let at-word = c .before .before .before .before .before .before .before .before .before .before in
-    let at-loop = at-word .before .before .before .before .before .before in
-    line-next (now (at-loop .before .before .args .list)) (at-loop .loop .at) (at-word .before .before .before .line-of .ensures .1) (at-word .word .given .1)
+    let w = at-loop at-word .loop .inv .1 in
+    let step = at-step .step-parsed .ensures .0 _ (at-loop at-word .loop .inv .0) (w .places-long) refl in
+    (walk-stopped w (start at-word .pre .0) (at-test at-word .loop-test .taken) _ (line-step 1 _ (line-seen (at-line at-word .line-of .ensures .0) (at-word .word .given .1)) (rw (c .before .stepped .given .1) at step)), tt)
 
 loop-less : tie.Need-loop-less Inv-loop μ-loop
-loop-less c = omega (arith, next-at c, c .before .before .before .before .before .before .before .before .before .before .before .before .before .before .before .loop-test .taken)
+loop-less c =
+    let at-word = c .before .before .before .before .before .before .before .before .before .before in
+    omega (arith, next-at at-word, at-test at-word .loop-test .taken)
 
 loop-again : tie.Need-loop-again Inv-loop μ-loop
+unfolding stepSeen valuesIn
 loop-again c =
     let at-step = c .before .before .before .before .before in
     let at-word = at-step .before .before .before .before .before in
-    let at-line = at-word .before .before .before in
-    let at-test = at-line .before .before in
-    let now-at = at-test .before .loop in
-    let places = now-at .inv .0 in
-    let S = at-test .before .before .before in
-    let read = at-line .line-of .ensures .0 in
-    let line = line-seen read (at-word .word .given .1) in
+    let read = at-line at-word .line-of .ensures .0 in
+    let loop = at-loop at-word .loop in
+    let w = loop .inv .1 in
     let stepped = at-step .step-parsed .ensures in
-    rw (next-at c) (
-      placedAt (now-at .counts) places,
-      walk-next (now-at .inv .1) (S .pre .0) (at-test .loop-test .taken) _ (c .before .stepped2 .given .0 .0) _ _ _ (placedAt (now-at .counts) places) (c .before .stepped2 .given .1)
-          (line-step 1 _ line (stepped .0 _ places (now-at .inv .1 .places-long) refl)) (stepped .1 .0) (read .left .kept ∙ now-at .inv .1 .numbers-long) (stepped .1 .1 .long)
-          (stepped .1 .2 .long) (placed-long (now-at .counts) places),
+    let is = c .before .stepped2 .given .1 in
+    rw (next-at at-word) (
+      placedAt (loop .counts) (loop .inv .0),
+      walk-next w (start at-word .pre .0) (at-test at-word .loop-test .taken) (c .before .stepped2 .given .0 .0) _ _ _ (placedAt (loop .counts) (loop .inv .0))
+          (line-step 1 _ (line-seen read (at-word .word .given .1)) (rw is at (stepped .0 _ (loop .inv .0) (w .places-long) refl)))
+          (rw is at (stepped .1 .0)) (read .left .kept ∙ w .numbers-long) (stepped .1 .1 .long) (stepped .1 .2 .long) (placed-long (loop .counts) (loop .inv .0)),
     )
 
 same-length-3 : tie.Need-same-length-3 Inv-loop μ-loop
