@@ -127,7 +127,7 @@ shown-too-long list t line long = by (reading list) refl
 -- ---- what the numbered table tells
 
 -- how many cells are shown, and from which on
-pub record Told (list t : List ℕ) (line first count : ℕ) : Type 0 where
+pub record ShownPart (list t : List ℕ) (line first count : ℕ) : Type 0 where
   pub part : take count (drop first t) ≡ shown list t line
   pub counted : count ≡ length (shown list t line)
   pub starts : first ≡ shownFrom list t line
@@ -140,7 +140,7 @@ module _ (list t : List ℕ) (line : ℕ) where
   so-many-shown : length (shown list t line) ≡ w .count
   so-many-shown = ap (λ (r : List ℕ). length r) (w .is t refl) ∙ length-stretch (w .first) (w .count) t (w .inside)
 
-  pub too-long-told : cellLimit < length t → Told list t line 0 0
+  pub too-long-told : cellLimit < length t → ShownPart list t line 0 0
   too-long-told long = record {
     part = sym (shown-too-long list t line long);
     counted = sym (ap (λ (r : List ℕ). length r) (shown-too-long list t line long));
@@ -170,7 +170,7 @@ module _ (list t : List ℕ) (line : ℕ) where
         ap (λ (r : List ℕ). getD r 0 0) is-part ∙ getD-take (w .count) (drop (w .first) numbered) 0 0 h ∙ getD-drop (w .first) numbered 0 0
         ∙ here ∙ omega arith
 
-    numbered-told : Told list t line (getD part 0 0) (length part)
+    numbered-told : ShownPart list t line (getD part 0 0) (length part)
     numbered-told =
         let first : getD part 0 0 ≡ w .first = starts-with (w .count) refl in
         record {
@@ -182,7 +182,7 @@ module _ (list t : List ℕ) (line : ℕ) where
 
   -- the part is that of a longer numbered table's first cells, and its first cell was read
   pub first-told : (numbered part : List ℕ) (n first : ℕ) → numbered ≡ upFrom 0 n → length t ≤ n
-      → part ≡ shown list (take (length t - 0) numbered) line → first ≡ getD part 0 0 → Told list t line first (length part)
+      → part ≡ shown list (take (length t - 0) numbered) line → first ≡ getD part 0 0 → ShownPart list t line first (length part)
   first-told numbered part n first is most shows reads = rw reads (numbered-told part (shows ∙ ap (λ (r : List ℕ). shown list r line) taken))
     where
       taken : take (length t - 0) numbered ≡ upFrom 0 (length t)

@@ -9,21 +9,21 @@ use lib.Seq.{take-suc-set, drop-set-lt, drop-drop}
 use Rattle.algebra.specs.Digits.{digits}
 
 -- i digits of n are written over the cells that were there before, and the rest of n is what the other digits are of
-pub record Filling (b k n : ℕ) (before cells : List ℕ) (i rest : ℕ) : Type 0 where
+pub record GroupFilling (b k n : ℕ) (before cells : List ℕ) (i rest : ℕ) : Type 0 where
   pub within : i ≤ k
   pub kept : length cells ≡ length before
   pub written : take i cells ++ digits b (k - i) rest ≡ digits b k n
   pub later : drop i cells ≡ drop i before
 
 module _ (b k n : ℕ) where
-  pub filling-start : (before : List ℕ) → Filling b k n before before 0 n
+  pub filling-start : (before : List ℕ) → GroupFilling b k n before before 0 n
   filling-start before = record { within = omega arith; kept = refl; written = ap (λ (m : ℕ). digits b m n) less; later = refl }
     where
       less : k - 0 ≡ k
       less = omega arith
 
-  module _ {before cells : List ℕ} {i rest : ℕ} (f : Filling b k n before cells i rest) where
-    pub filling-turn : i < k → k ≤ length before → Filling b k n before (set cells i (rest % b)) (i + 1) (rest / b)
+  module _ {before cells : List ℕ} {i rest : ℕ} (f : GroupFilling b k n before cells i rest) where
+    pub filling-turn : i < k → k ≤ length before → GroupFilling b k n before (set cells i (rest % b)) (i + 1) (rest / b)
     unfolding digits
     filling-turn h room =
         record {

@@ -67,7 +67,7 @@ raises d r h = by-test (isAccepted r) (omega arith) (omega arith)
 -- ---- a list of calls
 
 -- what calls whose checks reply so do to a desk: its counts after them, and their answers
-record Counted (d : Desk) (checked : List Reply) : Type 0 where
+record DeskCounted (d : Desk) (checked : List Reply) : Type 0 where
   agrees : Agrees (deskOver d checked)
   heard : deskOver d checked .heard ≡ d .heard + length checked
   accepted : deskOver d checked .accepted ≡ d .accepted + howMany isAccepted checked
@@ -87,7 +87,7 @@ module _ (d e : Desk) (r : Reply) (rs : List Reply) (q : deskAnswer d r ≡ call
   unfolding answersOver
   replies-to-call = ap {B = List Reply} (λ (k : Called). k .answer ∷ answersOver (k .desk) rs) q
 
-  count-call : Raised d e (isAccepted r) → Counted e rs → Counted d (r ∷ rs)
+  count-call : Raised d e (isAccepted r) → DeskCounted e rs → DeskCounted d (r ∷ rs)
   unfolding howMany
   count-call raise h = record {
     agrees = rw after-call (h .agrees);
@@ -98,7 +98,7 @@ module _ (d e : Desk) (r : Reply) (rs : List Reply) (q : deskAnswer d r ≡ call
   }
 
 -- by induction over the calls, from any desk whose counts agree and that has room for them all
-counts-from : (d : Desk) (checked : List Reply) → Agrees d → d .heard + length checked < pastU64 → Counted d checked
+counts-from : (d : Desk) (checked : List Reply) → Agrees d → d .heard + length checked < pastU64 → DeskCounted d checked
 unfolding deskOver answersOver howMany
 counts-from d [] h k = record {
   agrees = h;
@@ -121,7 +121,7 @@ pub counts : Counts
 unfolding freshDesk passes
 counts calls h =
     let long : length (map checkOf calls) ≡ length calls = length-map calls checkOf in
-    let c : Counted freshDesk (map checkOf calls) = counts-from freshDesk (map checkOf calls) refl (omega arith) in
+    let c : DeskCounted freshDesk (map checkOf calls) = counts-from freshDesk (map checkOf calls) refl (omega arith) in
     let passed = how-many-map isAccepted checkOf calls in
     let failed = how-many-map (λ r. not (isAccepted r)) checkOf calls in
     (c .agrees, omega arith, omega arith, omega arith, c .replies)

@@ -23,7 +23,7 @@ use Rattle.meaning.specs.Claims.{inputCellsFrom, signedAt}
 use Rattle.meaning.proofs.Number.{positive, signed-range}
 use Rattle.meaning.proofs.Cells.{cellsAt, head-equal, tail-equal}
 use Rattle.meaning.proofs.Hold.{Hold, hold-append}
-use Rattle.meaning.proofs.Law.{InCells, cells-append, below-any, Before, Law}
+use Rattle.meaning.proofs.Law.{InCells, cells-append, below-any, TableBefore, Law}
 use Rattle.meaning.specs.Kept.{Kept, Sound}
 use Rattle.meaning.proofs.Kept.{keeps-all}
 use Rattle.meaning.proofs.Lines.{line-law, sound-after, same-prime}
@@ -153,8 +153,8 @@ module _ (s′ : Known) (t : List ℕ) (long : length t ≡ s′ .cells) (below 
   inputs s ls = map (signedAt (s′ .p) t) (inputCellsFrom s ls)
 
   -- what the induction shows of the lines from line n on, the values at its end included
-  abbrev Told : ℕ → Known → List ℤ → List Line → Type 0
-  Told n s vs ls =
+  abbrev ExactFrom : ℕ → Known → List ℤ → List Line → Type 0
+  ExactFrom n s vs ls =
       (Hold (s′ .p) t (rowsFrom s ls) → (ws : List ℤ) × (workFrom n s vs (inputs s ls) ls ≡ true-table ws (drop (s .cells) t))
       × Within (s′ .known) ws × InCells (s′ .p) t (s′ .places) ws)
       × ((ws : List ℤ) → workFrom n s vs (inputs s ls) ls ≡ true-table ws (drop (s .cells) t) → Hold (s′ .p) t (rowsFrom s ls))
@@ -173,7 +173,7 @@ module _ (s′ : Known) (t : List ℕ) (long : length t ≡ s′ .cells) (below 
     odd : OddPrime (s′ .p)
     odd = subst OddPrime (prime-kept ls n (after s l) s′ (k .1)) (sound-after n s l h (keeps-all n s l (k .0)) .prime (omega arith))
 
-    before : Before (s′ .p) s g t vs
+    before : TableBefore (s′ .p) s g t vs
     unfolding after
     before = record { room = omega (arith, cells-grow ls (suc n) (after s l) s′ (k .1)); below = below; within = within; in-cells = in-cells }
 
@@ -218,8 +218,8 @@ module _ (s′ : Known) (t : List ℕ) (long : length t ≡ s′ .cells) (below 
         )
 
     -- the first line by its law, and the later lines by the induction
-    first-told : ((vs′ : List ℤ) → Within (after s l .known) vs′ → InCells (s′ .p) t (after s l .places) vs′ → Told (suc n) (after s l) vs′ ls)
-        → Told n s vs (l ∷ ls)
+    first-told : ((vs′ : List ℤ) → Within (after s l .known) vs′ → InCells (s′ .p) t (after s l .places) vs′ → ExactFrom (suc n) (after s l) vs′ ls)
+        → ExactFrom n s vs (l ∷ ls)
     unfolding rowsFrom
     first-told later = (
       λ r. let a = split .0 r in let q = rows .0 (a .0) in
@@ -233,12 +233,12 @@ module _ (s′ : Known) (t : List ℕ) (long : length t ≡ s′ .cells) (below 
         split : Hold (s′ .p) t (g .rows ++ rowsFrom (after s l) ls) ↔ (Hold (s′ .p) t (g .rows) × Hold (s′ .p) t (rowsFrom (after s l) ls))
         split = hold-append (s′ .p) t (g .rows) (rowsFrom (after s l) ls)
 
-        told : T (g .statement vs) → cellsAt t (s .cells) (g .width) ≡ g .cells vs next → Told (suc n) (after s l) values-after ls
+        told : T (g .statement vs) → cellsAt t (s .cells) (g .width) ≡ g .cells vs next → ExactFrom (suc n) (after s l) values-after ls
         told holds cells = later values-after (within-after (s′ .p) t s l law vs next within in-cells holds in-range)
             (cells-after (s′ .p) t s l law vs next within in-cells holds in-range cells)
 
   pub rows-iff : (ls : List Line) (n : ℕ) (s : Known) (vs : List ℤ) → Kept n s ls s′ → Sound n s → Within (s .known) vs
-      → InCells (s′ .p) t (s .places) vs → Told n s vs ls
+      → InCells (s′ .p) t (s .places) vs → ExactFrom n s vs ls
   unfolding rowsFrom workFrom
   rows-iff [] n s vs k h w c = (
     λ _. (

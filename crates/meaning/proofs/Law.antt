@@ -118,7 +118,7 @@ module _ (p : ℕ) (s : Known) (v : ℕ) (named : v < length (s .known)) (r : Ra
 -- ---- the law
 
 -- a table with room for the line's cells, all cells below p, in which the values before the line stand
-pub record Before (p : ℕ) (s : Known) (g : Gadget) (t : List ℕ) (vs : List ℤ) : Type 0 where
+pub record TableBefore (p : ℕ) (s : Known) (g : Gadget) (t : List ℕ) (vs : List ℤ) : Type 0 where
   pub room : s .cells + g .width ≤ length t
   pub below : Below p t
   pub within : Within (s .known) vs
@@ -137,5 +137,5 @@ pub record Law (p : ℕ) (s : Known) (g : Gadget) : Type 0 where
   pub values-first : (vs : List ℤ) (next : ℤ) → take (length (g .made)) (g .cells vs next) ≡ map (remainder p) (g .values vs next)
   pub input-first : (vs : List ℤ) (next : ℤ) → 1 ≤ g .inputs → take 1 (g .cells vs next) ≡ remainder p next ∷ []
   -- its rows
-  pub rows-hold : (t : List ℕ) (vs : List ℤ) (next : ℤ) → Before p s g t vs → (1 ≤ g .inputs → next ≡ signed p (getD t (s .cells) 0))
+  pub rows-hold : (t : List ℕ) (vs : List ℤ) (next : ℤ) → TableBefore p s g t vs → (1 ≤ g .inputs → next ≡ signed p (getD t (s .cells) 0))
       → Hold p t (g .rows) ↔ (T (g .statement vs) × (cellsAt t (s .cells) (g .width) ≡ g .cells vs next))

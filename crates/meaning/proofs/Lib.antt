@@ -20,5 +20,6 @@ pub mod Rows
 pub mod TrueTables
 pub mod Accepted
 pub mod Desk
+pub mod Compute
 pub mod NotEmpty
 pub mod WorkedTables

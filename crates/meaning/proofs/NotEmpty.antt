@@ -22,7 +22,7 @@ use Rattle.meaning.specs.Work.{true-table, work}
 use Rattle.meaning.specs.Reply.{reply, rowsFrom, rowsOf, checkReply}
 use Rattle.meaning.specs.Claims.{knownAfter}
 use Rattle.meaning.specs.Write.{listText}
-use Rattle.meaning.specs.Compute.{computing}
+use Rattle.meaning.proofs.Compute.{computing}
 use Rattle.meaning.specs.Kept.{Keeps}
 use Rattle.meaning.proofs.Kept.{keeps-all}
 use Rattle.meaning.proofs.Lines.{field-or-not}

@@ -1,5 +1,5 @@
 -- The worked tables of document 01, P1 to P11, by computation.
-use Rattle.meaning.specs.Compute.{computing}
+use Rattle.meaning.proofs.Compute.{computing}
 use Rattle.meaning.specs.Examples.{WorkedTables}
 
 pub worked-tables : WorkedTables

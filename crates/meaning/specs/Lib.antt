@@ -16,4 +16,3 @@ pub mod Desk
 pub mod Program
 pub mod Claims
 pub mod Examples
-pub mod Compute

@@ -13,10 +13,10 @@ use Rattle.algebra.proofs.Integer.Linear.{linear}
 use Rattle.algebra.proofs.Integer.Ring.{var, lit, _⊕_, _⊖_, _⊗_, ring}
 use Rattle.algebra.proofs.Congruence.{congruent-≡, combination2, combination3, congruent-remainder}
 use Rattle.algebra.proofs.Prime.{inverse-unique}
-use Rattle.number.specs.Euclid.{Step}
+use Rattle.number.specs.Euclid.{EuclidStep}
 
 -- p is 0 times t, and t is 1 times t; and what divides p and t, which is smaller, is 1
-pub euclid-start : (p t : ℕ) → Prime p → zero < t → t < p → Step p t p t 0 1
+pub euclid-start : (p t : ℕ) → Prime p → zero < t → t < p → EuclidStep p t p t 0 1
 euclid-start p t P h k = record {
   prime = P;
   below = k;
@@ -42,8 +42,8 @@ next-multiple p t q r1 r s0 s1 s2 a b c = combination3 (negsuc 0 *ℤ pos t) (po
     (lit (negsuc 0) ⊗ var 0 ⊗ (var 4 ⊖ var 1 ⊗ var 5 ⊖ var 6) ⊕ lit (pos 1) ⊗ (var 0 ⊗ var 4 ⊖ (var 1 ⊗ var 2 ⊕ var 3))
     ⊕ lit (negsuc 0) ⊗ var 1 ⊗ (var 0 ⊗ var 5 ⊖ var 2)) refl)
 
-pub euclid-step : {p t r0 r1 s0 s1 m s2 : ℕ} → Step p t r0 r1 s0 s1 → m ≡ remainder p (pos (r0 / r1) *ℤ pos s1)
-    → s2 < p → s2 ≡ remainder p (pos s0 -ℤ pos m) → Step p t r1 (r0 % r1) s1 s2
+pub euclid-step : {p t r0 r1 s0 s1 m s2 : ℕ} → EuclidStep p t r0 r1 s0 s1 → m ≡ remainder p (pos (r0 / r1) *ℤ pos s1)
+    → s2 < p → s2 ≡ remainder p (pos s0 -ℤ pos m) → EuclidStep p t r1 (r0 % r1) s1 s2
 euclid-step {p} {t} {r0} {r1} {s0} {s1} {m} {s2} S em l es = record {
   prime = S .prime;
   below = S .below;
@@ -70,7 +70,7 @@ euclid-step {p} {t} {r0} {r1} {s0} {s1} {m} {s2} S em l es = record {
         (lit (pos 1) ⊗ (var 0 ⊖ var 3 ⊖ var 4) ⊕ lit (negsuc 0) ⊗ (var 1 ⊗ var 2 ⊖ var 3)) refl)
 
 -- at the end r0 divides itself and 0, so it is 1, and s0 is the inverse
-pub euclid-end : {p t r0 s0 s1 : ℕ} → Step p t r0 0 s0 s1 → s0 ≡ inverse p t
+pub euclid-end : {p t r0 s0 s1 : ℕ} → EuclidStep p t r0 0 s0 s1 → s0 ≡ inverse p t
 euclid-end {p} {t} {r0} {s0} S =
     let e : r0 ≡ 1 = S .coprime r0 (dvd-refl r0) (dvd-zero r0) in
     inverse-unique p t s0 (S .prime) (S .below) (S .first .below) (rw e at (S .first .times))

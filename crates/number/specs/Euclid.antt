@@ -11,7 +11,7 @@ pub record Multiple (p t r s : ℕ) : Type 0 where
   pub below : s < p
   pub times : Congruent p (pos t *ℤ pos s) (pos r)
 
-pub record Step (p t r0 r1 s0 s1 : ℕ) : Type 0 where
+pub record EuclidStep (p t r0 r1 s0 s1 : ℕ) : Type 0 where
   pub prime : Prime p
   pub below : t < p
   pub first : Multiple p t r0 s0

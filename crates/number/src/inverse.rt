@@ -7,7 +7,7 @@ ghost use mathlib.Core.Path.{_≡_};
 ghost use Prim.Native.Nat.{_<_};
 ghost use Rattle.algebra.specs.Prime.{Prime};
 ghost use Rattle.algebra.specs.Congruence.{inverse};
-ghost use Rattle.number.specs.Euclid.{Step};
+ghost use Rattle.number.specs.Euclid.{EuclidStep};
 
 // The w below p with t · w = 1 modulo p.
 pub fn inverse_of(t: Residue, p: u32) -> Residue
@@ -24,7 +24,7 @@ pub fn inverse_of(t: Residue, p: u32) -> Residue
 // A step of Euclid, from r0 and r1 to r1 and the remainder of r0 by r1, until that is 0. Modulo p, r0 is t · s0 and r1 is
 // t · s1, so that at the end, where r0 is 1, s0 is the inverse.
 fn euclid(r0: u32, r1: u32, s0: Residue, s1: Residue, t: Residue, p: u32) -> Residue
-    requires { ⌜ Step p (t .0) r0 r1 (s0 .0) (s1 .0) ⌝ }
+    requires { ⌜ EuclidStep p (t .0) r0 r1 (s0 .0) (s1 .0) ⌝ }
     ensures { λ w. ⌜ w .0 ≡ inverse p (t .0) ⌝ }
 {
     if r1 == 0 {

@@ -26,7 +26,7 @@ use Rattle.text.proofs.Numbers.{number-is-none, number-is, number-ends}
 use Rattle.program.specs.Input.{NumbersRead}
 
 -- before the line that starts at `at`, each was a number
-pub record Reading (input : List ℕ) (start : ℕ) (stored : List ℤ) (at count : ℕ) : Type 0 where
+pub record ReadingInputs (input : List ℕ) (start : ℕ) (stored : List ℤ) (at count : ℕ) : Type 0 where
   pub numbers : List ℤ
   pub inside : at ≤ length input
   pub few : count ≤ at
@@ -36,7 +36,7 @@ pub record Reading (input : List ℕ) (start : ℕ) (stored : List ℤ) (at coun
   pub fails-left : firstFail (λ l. isSome (number l)) 0 (linesFrom input start) ≡ firstFail (λ l. isSome (number l)) count (linesFrom input at)
   pub numbers-left : numbersOf (linesFrom input start) ≡ afterNumbers numbers (numbersOf (linesFrom input at))
 
-pub reading-start : (input : List ℕ) (start : ℕ) (stored : List ℤ) → start ≤ length input → length stored ≡ valueLimit → Reading input start stored start 0
+pub reading-start : (input : List ℕ) (start : ℕ) (stored : List ℤ) → start ≤ length input → length stored ≡ valueLimit → ReadingInputs input start stored start 0
 reading-start input start stored h room = record {
   numbers = [];
   inside = h;
@@ -68,7 +68,7 @@ stored-more numbers stored n count e room stands = elim (decLt count valueLimit)
         take-append-le valueLimit numbers (n ∷ []) (omega arith) ∙ stands ∙ take-all count stored (omega arith)
         ∙ sym (ap (take (count + 1)) (set-out stored count n (omega arith)) ∙ take-all (count + 1) stored (omega arith))
 
-module _ {input : List ℕ} {start : ℕ} {stored : List ℤ} {at count : ℕ} (r : Reading input start stored at count) where
+module _ {input : List ℕ} {start : ℕ} {stored : List ℤ} {at count : ℕ} (r : ReadingInputs input start stored at count) where
   pub reading-end : length input ≤ at → NumbersRead (linesFrom input start) stored count
   unfolding firstFail numbersOf afterNumbers orNone
   reading-end h = record {
@@ -88,7 +88,7 @@ module _ {input : List ℕ} {start : ℕ} {stored : List ℤ} {at count : ℕ} (
     unfolding firstFail isSome refusalAt
     reading-stops q = ap (refusalAt 3) (r .fails-left) ∙ rw (lines-at input at ended h, number-is-none _ _ read q)
 
-    pub reading-turn : {n : ℤ} {end : ℕ} → x ≡ Of n end → Reading input start (set stored count n) (end + 1) (count + 1)
+    pub reading-turn : {n : ℤ} {end : ℕ} → x ≡ Of n end → ReadingInputs input start (set stored count n) (end + 1) (count + 1)
     unfolding firstFail isSome numbersOf
     reading-turn {n} {end} q =
         let is = number-is _ _ read q in

@@ -42,16 +42,16 @@ cell-length i c cs = ap length (cell-parts i c cs) ∙ length-append (pairText i
 -- ---- summing up the lines
 
 -- so many bytes stand before the line of cell i
-pub record Summing (table : List ℕ) (total i : ℕ) : Type 0 where
+pub record AddingLengths (table : List ℕ) (total i : ℕ) : Type 0 where
   pub within : i ≤ length table
   pub few : total ≤ 27 + longestPair * i
   pub sum : total + length (cellsText i (drop i table)) ≡ length (tableText table)
 
-pub summing-start : (table : List ℕ) (count : ℕ) → length table < pastU64 → count ≡ length (decimalOf (length table)) → Summing table (7 + count) 0
+pub summing-start : (table : List ℕ) (count : ℕ) → length table < pastU64 → count ≡ length (decimalOf (length table)) → AddingLengths table (7 + count) 0
 summing-start table count h e = record { within = omega arith; few = omega (arith, decimal-of-64 (length table) h); sum = omega (arith, table-length table) }
 
-module _ {table : List ℕ} {total i : ℕ} (s : Summing table total i) where
-  pub summing-turn : i < length table → (n : ℕ) → n ≡ length (pairText i (getD table i 0)) → n ≤ longestPair → Summing table (total + n) (i + 1)
+module _ {table : List ℕ} {total i : ℕ} (s : AddingLengths table total i) where
+  pub summing-turn : i < length table → (n : ℕ) → n ≡ length (pairText i (getD table i 0)) → n ≤ longestPair → AddingLengths table (total + n) (i + 1)
   summing-turn h n e short = record {
     within = omega arith;
     few = omega (arith, s .few);

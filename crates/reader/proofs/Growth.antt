@@ -24,7 +24,7 @@ use Rattle.rules.proofs.Rules.{toldWith}
 use Rattle.rules.proofs.Values.{known-long}
 use Rattle.reader.specs.State.{stateOf}
 use Rattle.reader.specs.Size.{counted, added, Adds}
-use Rattle.reader.specs.Step.{stops, goes, stepOf, stepSeen, placedAt, answered, entered, untouched, valuesIn, Left, WithinLimits}
+use Rattle.reader.specs.Step.{stops, goes, stepOf, stepSeen, placedAt, answered, entered, untouched, valueCount, Left, WithinLimits}
 use Rattle.reader.specs.declared.state.Counts.{Counts}
 use Rattle.reader.specs.declared.state.Stepped.{Stepped}
 
@@ -113,8 +113,8 @@ module _ {p : ℕ} {s : Known} {c : Counts} {lows highs : List ℤ} {places : Li
         (ap₂ (λ (x y : ℕ). x + y) (ap (λ (z : Known). z .rows) (sym (held .is))) (sym (adds .rows-are)))))
 
   -- no more than 256 values, by the line's own rules
-  pub few-values : (size : Counts) → (Keeps 1 s l → Adds s l size) → (es : List Ends) (made : Made) → madeSeen made ≡ toldWith s l es → valuesIn (answered made (added c size)) ≤ valueLimit
-  unfolding valuesIn answered counted added madeSeen
+  pub few-values : (size : Counts) → (Keeps 1 s l → Adds s l size) → (es : List Ends) (made : Made) → madeSeen made ≡ toldWith s l es → valueCount (answered made (added c size)) ≤ valueLimit
+  unfolding valueCount answered counted added madeSeen
   few-values size adds es (EndsOf low high) told =
       let kept = keeps-all 1 s l (kept-ends s l es told .0) in
       omega (arith, leb→le (length (s .known) + length (gadget s l .made)) valueLimit (kept .values-fit), values-are, adds kept .values-are)
@@ -170,6 +170,6 @@ module _ {p : ℕ} {s : Known} {c : Counts} {lows highs : List ℤ} {places : Li
     grown (EndsOf low high) told long = grown-with told size (grows (kept told)) long
     grown (Breaks n) told long = refused-step s l (gadget s l .made) n told
 
-    pub few-grown : (made : Made) → madeSeen made ≡ toldOf s l → valuesIn (answered made (added c size)) ≤ valueLimit
+    pub few-grown : (made : Made) → madeSeen made ≡ toldOf s l → valueCount (answered made (added c size)) ≤ valueLimit
     unfolding toldOf
     few-grown made told = few-values held l size (λ k. grows k .adds) (gadget s l .made) made told

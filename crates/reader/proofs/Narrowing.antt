@@ -20,7 +20,7 @@ use Rattle.rules.specs.Ready.{endsFrom}
 use Rattle.reader.specs.State.{stateOf}
 use Rattle.rules.specs.Told.{makes, spanTold, madeSeen, lineWith}
 use Rattle.reader.specs.Size.{added, Adds}
-use Rattle.reader.specs.Step.{goes, stepOf, stepSeen, placedAt, answered, entered, valuesIn}
+use Rattle.reader.specs.Step.{goes, stepOf, stepSeen, placedAt, answered, entered, valueCount}
 use Rattle.rules.specs.declared.rule.Made.{Made}
 use Rattle.rules.specs.declared.rule.Made.the-variants.{EndsOf, Breaks}
 use Rattle.reader.specs.declared.state.Counts.{Counts}
@@ -88,6 +88,6 @@ module _ {p : ℕ} {s : Known} {c : Counts} {lows highs : List ℤ} {places : Li
     pub named-counted : (made : Made) → madeSeen made ≡ spanTold s line → (low high : ℤ) → made ≡ EndsOf low high → at < c .values + size .values
     named-counted made told low high q = omega (arith, named made told low high q)
 
-    pub few-narrowed : (made : Made) → madeSeen made ≡ spanTold s line → valuesIn (answered made (added c size)) ≤ valueLimit
+    pub few-narrowed : (made : Made) → madeSeen made ≡ spanTold s line → valueCount (answered made (added c size)) ≤ valueLimit
     unfolding spanTold
     few-narrowed made told = few-values held line size adds (new ∷ []) made told

@@ -172,11 +172,11 @@ line-parsed read long q = record { numbers-long = read .left .kept ∙ long; cou
 at-most : {a b c : ℕ} → a ≡ b → b ≤ c → a ≤ c
 at-most e h = omega (arith, e)
 
-abbrev pub Few : Known → Gadget → Type 0
-Few s g = (g .inputs ≤ length (g .made)) × (length (g .rows) ≤ 2 * g .width) × (length (g .narrowed) ≡ length (s .known))
+abbrev pub GadgetCounts : Known → Gadget → Type 0
+GadgetCounts s g = (g .inputs ≤ length (g .made)) × (length (g .rows) ≤ 2 * g .width) × (length (g .narrowed) ≡ length (s .known))
 
 module _ (n : ℕ) (s : Known) where
-  few-by-word : (w : Meant) (ns : List ℤ) → Keeps n s (lineWith w ns) → Few s (kindOf w .gadget s ns)
+  few-by-word : (w : Meant) (ns : List ℤ) → Keeps n s (lineWith w ns) → GadgetCounts s (kindOf w .gadget s ns)
   unfolding kindOf fieldLine inputLine spanLine sumLine reluLine whichLine maxLine rootLine sizeAt
   few-by-word field ns k = (omega arith, omega arith, refl)
   few-by-word input ns k = (omega arith, omega arith, refl)
@@ -193,6 +193,6 @@ module _ (n : ℕ) (s : Known) where
       let h = digits-ranged (s .p) 1 root ns refl (k .ranged) .1 in
       (omega arith, at-most (four-groups _ _ _ _ (pos 0) _ _ _ _ _ (natAbs (numberAt ns 2))) (omega arith), refl)
 
-pub few : (n : ℕ) (s : Known) (l : Line) → Keeps n s l → Few s (gadget s l)
+pub few : (n : ℕ) (s : Known) (l : Line) → Keeps n s l → GadgetCounts s (gadget s l)
 unfolding gadget
 few n s l k = few-by-word n s (l .word) (l .numbers) k

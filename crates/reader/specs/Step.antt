@@ -85,9 +85,9 @@ pub record Left {A : Type 0} (r : Stepped) (before after : List A) : Type 0 wher
   pub long : length after ≡ length before
   pub same : untouched r after ≡ untouched r before
 
-unfoldable pub valuesIn : Stepped → ℕ
-valuesIn (Next c) = c .values
-valuesIn (Refused n) = 0
+unfoldable pub valueCount : Stepped → ℕ
+valueCount (Next c) = c .values
+valueCount (Refused n) = 0
 
 -- arrays of 256, and counts that no sum overflows
 pub record WithinLimits (c : Counts) (lows highs : ℕ) : Type 0 where
@@ -99,5 +99,5 @@ pub record WithinLimits (c : Counts) (lows highs : ℕ) : Type 0 where
   pub rows-most : c .rows ≤ 2 * c .cells
 
 -- where a line has ends, its place is one of the arrays'
-abbrev pub Placed : Made → ℕ → Type 0
-Placed made at = (low high : ℤ) → made ≡ EndsOf low high → at < valueLimit
+abbrev pub PlaceInside : Made → ℕ → Type 0
+PlaceInside made at = (low high : ℤ) → made ≡ EndsOf low high → at < valueLimit

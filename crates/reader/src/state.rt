@@ -4,7 +4,7 @@ use rules::Made;
 ghost use mathlib.Core.Path.{_≡_};
 ghost use lib.ListN.{length};
 ghost use Rattle.reader.specs.Size.{added, FewCounts};
-ghost use Rattle.reader.specs.Step.{Placed, WithinLimits, answered, entered};
+ghost use Rattle.reader.specs.Step.{PlaceInside, WithinLimits, answered, entered};
 
 pub struct Counts {
     pub values: usize,
@@ -28,7 +28,7 @@ pub fn enter(
     lows: &mut [i64],
     highs: &mut [i64],
 ) -> Stepped
-    requires { ⌜ WithinLimits counts (length (now lows)) (length (now highs)) × FewCounts size × Placed made at ⌝ }
+    requires { ⌜ WithinLimits counts (length (now lows)) (length (now highs)) × FewCounts size × PlaceInside made at ⌝ }
     ensures { λ r. ⌜ (r ≡ answered made (added counts size)) × (now (lows .exit) ≡ entered made at (λ low high. low) (now (lows .entry)))
         × (now (highs .exit) ≡ entered made at (λ low high. high) (now (highs .entry))) ⌝ }
 {

@@ -23,7 +23,7 @@ ghost use Rattle.text.specs.Word.{wordOf};
 ghost use Rattle.rules.specs.Ready.{Ready, Seen};
 ghost use Rattle.reader.specs.State.{stateOf};
 ghost use Rattle.rules.specs.Told.{madeSeen, lineWith};
-ghost use Rattle.reader.specs.Step.{ParsedLine, lineTold, WithinLimits, Left, placedAt, valuesIn, stepSeen, stepOf};
+ghost use Rattle.reader.specs.Step.{ParsedLine, lineTold, WithinLimits, Left, placedAt, valueCount, stepSeen, stepOf};
 ghost use Rattle.meaning.specs.Refusal.{valueLimit};
 
 // The ends of the value that a line makes, or narrows, or the number of the first rule that it breaks.
@@ -68,7 +68,7 @@ pub fn step_parsed(
         × ParsedLine word count (now numbers) ⌝ }
     ensures told { λ r. ⌜ ((s : Known) (places : List ℕ) → length places ≡ valueLimit → s ≡ stateOf p counts (now (lows .entry)) (now (highs .entry)) places
         → stepSeen p r (now (lows .exit)) (now (highs .exit)) (placedAt counts places) ≡ stepOf 1 s (lineWith (wordOf word) (take count (now (numbers .entry))))) ⌝ }
-    ensures held { λ r. ⌜ (valuesIn r ≤ valueLimit) × Left r (now (lows .entry)) (now (lows .exit)) × Left r (now (highs .entry)) (now (highs .exit)) ⌝ }
+    ensures held { λ r. ⌜ (valueCount r ≤ valueLimit) × Left r (now (lows .entry)) (now (lows .exit)) × Left r (now (highs .entry)) (now (highs .exit)) ⌝ }
 {
     let made = read_ends(
         word,

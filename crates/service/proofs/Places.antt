@@ -22,7 +22,7 @@ use Rattle.meaning.proofs.Law.{Law, below-at, below-append}
 use Rattle.meaning.proofs.Lines.{line-law}
 use Rattle.reader.specs.declared.state.Counts.{Counts}
 use Rattle.reader.proofs.Steps.{few}
-use Rattle.service.specs.Walk.{Counted, withPlace, Placed}
+use Rattle.service.specs.Walk.{CountsOf, withPlace, Placed}
 use Rattle.meaning.specs.Refusal.{valueLimit}
 
 pub placed-first : (places : List ℕ) → length places ≡ valueLimit → Placed fresh places
@@ -73,8 +73,8 @@ places-below cells zero (e ∷ es) h = absurd (omega arith)
 places-below cells (suc width) (e ∷ es) h =
     (omega arith, subst (λ (n : ℕ). Below n (placesFrom (suc cells) es)) (omega arith) (places-below (suc cells) width es (omega arith)))
 
-pub placed-next : (n : ℕ) (s : Known) (l : Line) (places : List ℕ) (c d : Counts) → Sound n s → Keeps n s l → Placed s places → Counted s c
-    → Counted (after s l) d → d .values ≤ c .values + 1 → d .values ≤ valueLimit → Placed (after s l) (withPlace places c d)
+pub placed-next : (n : ℕ) (s : Known) (l : Line) (places : List ℕ) (c d : Counts) → Sound n s → Keeps n s l → Placed s places → CountsOf s c
+    → CountsOf (after s l) d → d .values ≤ c .values + 1 → d .values ≤ valueLimit → Placed (after s l) (withPlace places c d)
 unfolding after
 placed-next n s l places c d sound keeps placed was now-counted one-more few-values =
     let g = gadget s l in

@@ -37,7 +37,7 @@ use Rattle.reader.specs.Size.{Adds}
 use Rattle.reader.specs.declared.state.Counts.{Counts}
 use Rattle.reader.proofs.Steps.{few}
 use Rattle.table.specs.Line.{KeptLine}
-use Rattle.service.specs.Walk.{Counted, Few, Stands, AtLine, Took, taken}
+use Rattle.service.specs.Walk.{CountsOf, Few, Stands, AtLine, Took, taken}
 use Rattle.service.specs.declared.walk.Taken.{Taken}
 use Rattle.service.proofs.Listed.{read-ended}
 
@@ -68,8 +68,8 @@ same-prime (suc n) s last left h k = prime-kept left n s last k
 
 -- ---- the counts after a line
 
-pub counted-after : (n : ℕ) (s : Known) (l : Line) (c d : Counts) → Keeps n s l → Counted s c → Adds s l d
-    → Counted (after s l) (record { values = c .values + d .values; inputs = c .inputs + d .inputs; cells = c .cells + d .cells; rows = c .rows + d .rows })
+pub counted-after : (n : ℕ) (s : Known) (l : Line) (c d : Counts) → Keeps n s l → CountsOf s c → Adds s l d
+    → CountsOf (after s l) (record { values = c .values + d .values; inputs = c .inputs + d .inputs; cells = c .cells + d .cells; rows = c .rows + d .rows })
 unfolding after
 counted-after n s l c d keeps was adds =
     let g = gadget s l in
@@ -142,7 +142,7 @@ module _ {list : List ℕ} {last s : Known} {left : List Line} {c : Counts} {at 
       numbers-small : Small count numbers
       numbers-small = line-small parsed is
 
-      few-after : (d : Counts) → Counted (after s line) d → Few d
+      few-after : (d : Counts) → CountsOf (after s line) d → Few d
       unfolding after
       few-after d now-counted =
           let g = gadget s line in
@@ -155,7 +155,7 @@ module _ {list : List ℕ} {last s : Known} {left : List Line} {c : Counts} {at 
             rows-most = omega (arith, now-counted .rows-are, now-counted .cells-are, f .1, was .rows-are, was .cells-are, stands .few .rows-most);
           }
 
-      stands-next : (d : Counts) → Counted (after s line) d → Stands list last (after s line) rest d (endOf list at + 1) (n + 1)
+      stands-next : (d : Counts) → CountsOf (after s line) d → Stands list last (after s line) rest d (endOf list at + 1) (n + 1)
       unfolding rest
       stands-next d now-counted = record {
         inside = omega (arith, in-line list ended at inside .inside);
@@ -179,8 +179,8 @@ module _ {list : List ℕ} {c : Counts} {at : ℕ} (a : AtLine list c at) {befor
   line-is-there is = line-there (a .stands) ended (a .inside) parsed long is
 
   pub took : {word : Word} {count place : ℕ} → r ≡ Spelt word count place → NextAfter list at r → (d : Counts)
-      → ((n k : ℕ) (s : Known) → kindOf (wordOf word) .isCounted (take k numbers) ≡ true → Keeps n s (lineWith (wordOf word) (take k numbers)) → Counted s c
-      → Counted (after s (lineWith (wordOf word) (take k numbers))) d)
+      → ((n k : ℕ) (s : Known) → kindOf (wordOf word) .isCounted (take k numbers) ≡ true → Keeps n s (lineWith (wordOf word) (take k numbers)) → CountsOf s c
+      → CountsOf (after s (lineWith (wordOf word) (take k numbers))) d)
       → d .values ≤ c .values + 1
       → Took a numbers (record { word = word; count = count; counts = d; next = place })
   took {count = count} is after-it d told more = let e = line-next list at after-it is in rw e (record {

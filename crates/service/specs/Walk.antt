@@ -23,7 +23,7 @@ use Rattle.reader.specs.declared.state.Counts.{Counts}
 use Rattle.service.specs.declared.walk.Taken.{Taken}
 
 -- the counts are those of what is known
-pub record Counted (s : Known) (c : Counts) : Type 0 where
+pub record CountsOf (s : Known) (c : Counts) : Type 0 where
   pub values-are : length (s .known) ≡ c .values
   pub inputs-are : s .inputs ≡ c .inputs
   pub cells-are : s .cells ≡ c .cells
@@ -48,7 +48,7 @@ pub record Listed (list : List ℕ) (p : ℕ) (c : Counts) : Type 0 where
   pub listed : ListRead list
   pub prime : listed .last .p ≡ p
   pub odd : OddPrime p
-  pub counts-are : Counted (listed .last) c
+  pub counts-are : CountsOf (listed .last) c
 
 -- before line n, which starts at `at`: s is known, the lines in left are still to come, and last is known at the end of the list
 pub record Stands (list : List ℕ) (last s : Known) (left : List Line) (c : Counts) (at n : ℕ) : Type 0 where
@@ -58,7 +58,7 @@ pub record Stands (list : List ℕ) (last s : Known) (left : List Line) (c : Cou
   pub kept : Kept n s left last
   pub sound : Sound n s
   pub p-most : last .p ≤ greatest
-  pub counted : Counted s c
+  pub counted : CountsOf s c
   pub few : Few c
 
 -- ---- a line

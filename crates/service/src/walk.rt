@@ -15,7 +15,7 @@ ghost use Rattle.meaning.specs.Meaning.{after};
 ghost use Rattle.meaning.specs.Kept.{Keeps};
 ghost use Rattle.text.specs.Word.{wordOf};
 ghost use Rattle.rules.specs.Told.{lineWith};
-ghost use Rattle.service.specs.Walk.{Counted, Few, AtLine, Took, withPlace};
+ghost use Rattle.service.specs.Walk.{CountsOf, Few, AtLine, Took, withPlace};
 ghost use Rattle.meaning.specs.Refusal.{valueLimit};
 
 // A line of the list: its word, how many numbers it has, the counts after it, and where the next line starts.
@@ -53,8 +53,8 @@ pub fn take_line(list: &[u8], at: usize, counts: Counts, numbers: &mut [i64]) ->
 fn counts_after(counts: Counts, word: Word, numbers: &[i64]) -> Counts
     requires { ⌜ Few counts × (length (now numbers) ≡ mostNumbers) ⌝ }
     ensures told { λ r. ⌜ ((n count : ℕ) (s : Known) → kindOf (wordOf word) .isCounted (take count (now (numbers .entry))) ≡ true
-        → Keeps n s (lineWith (wordOf word) (take count (now (numbers .entry)))) → Counted s counts
-        → Counted (after s (lineWith (wordOf word) (take count (now (numbers .entry))))) r) ⌝ }
+        → Keeps n s (lineWith (wordOf word) (take count (now (numbers .entry)))) → CountsOf s counts
+        → CountsOf (after s (lineWith (wordOf word) (take count (now (numbers .entry))))) r) ⌝ }
     ensures more { λ r. ⌜ (counts .values ≤ r .values) × (r .values ≤ counts .values + 1) ⌝ }
 {
     let size = line_size(word, numbers);

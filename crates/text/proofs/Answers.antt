@@ -24,31 +24,31 @@ use Rattle.text.proofs.Numbers.{number-small}
 
 -- ---- every line that the definition reads is good
 
-abbrev pub Small : List ℤ → Type 0
-Small ns = (i : ℕ) → natAbs (getD ns i (pos 0)) ≤ largest
+abbrev pub AtMostLargest : List ℤ → Type 0
+AtMostLargest ns = (i : ℕ) → natAbs (getD ns i (pos 0)) ≤ largest
 
 pub record GoodLine (l : MeantLine) : Type 0 where
   pub counted : kindOf (l .word) .isCounted (l .numbers) ≡ true
-  pub small : Small (l .numbers)
+  pub small : AtMostLargest (l .numbers)
 
 cons-small : (first : Option ℤ) (rest : Option (List ℤ)) (ns : List ℤ) → ((z : ℤ) → first ≡ some z → natAbs z ≤ largest)
-    → ((ms : List ℤ) → rest ≡ some ms → Small ms) → consNumber first rest ≡ some ns → Small ns
+    → ((ms : List ℤ) → rest ≡ some ms → AtMostLargest ms) → consNumber first rest ≡ some ns → AtMostLargest ns
 unfolding consNumber
 cons-small none rest ns small later q i = absurd (Option·none-ne-some _ q)
 cons-small (some n) none ns small later q i = absurd (Option·none-ne-some _ q)
 cons-small (some n) (some ms) ns small later q zero = let e : n ∷ ms ≡ ns = cc in rw (← e) (small n refl)
 cons-small (some n) (some ms) ns small later q (suc i) = let e : n ∷ ms ≡ ns = cc in rw (← e) (later ms refl i)
 
-numbers-small : (fields : List (List ℕ)) (ns : List ℤ) → numbersOf fields ≡ some ns → Small ns
+numbers-small : (fields : List (List ℕ)) (ns : List ℤ) → numbersOf fields ≡ some ns → AtMostLargest ns
 unfolding numbersOf
 numbers-small [] ns q i = let e : [] ≡ ns = cc in rw (← e) (omega arith)
 numbers-small (f ∷ fs) ns q i = cons-small (number f) (numbersOf fs) ns (λ z. number-small f) (numbers-small fs) q i
 
-good-at : (t : Bool) (l m : MeantLine) → kindOf (l .word) .isCounted (l .numbers) ≡ t → Small (l .numbers) → cond t (some l) none ≡ some m → GoodLine m
+good-at : (t : Bool) (l m : MeantLine) → kindOf (l .word) .isCounted (l .numbers) ≡ t → AtMostLargest (l .numbers) → cond t (some l) none ≡ some m → GoodLine m
 good-at true l m p small q = let e : l ≡ m = cc in rw (← e) (record { counted = p; small = small })
 good-at false l m p small q = absurd (Option·none-ne-some _ q)
 
-good-assembled : (w : Option MeantWord) (ns : Option (List ℤ)) (l : MeantLine) → ((ms : List ℤ) → ns ≡ some ms → Small ms) → assemble w ns ≡ some l → GoodLine l
+good-assembled : (w : Option MeantWord) (ns : Option (List ℤ)) (l : MeantLine) → ((ms : List ℤ) → ns ≡ some ms → AtMostLargest ms) → assemble w ns ≡ some l → GoodLine l
 unfolding assemble
 good-assembled none ns l small q = absurd (Option·none-ne-some _ q)
 good-assembled (some w) none l small q = absurd (Option·none-ne-some _ q)

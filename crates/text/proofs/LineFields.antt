@@ -21,8 +21,8 @@ use Rattle.meaning.proofs.Results.{none-refused, some-value, refused-none}
 use Rattle.text.specs.declared.Word.{Word}
 use Rattle.text.specs.declared.Spelled.{Spelled}
 use Rattle.text.specs.declared.Spelled.the-variants.{Known, NoWord}
-use Rattle.text.specs.declared.Counted.{Counted}
-use Rattle.text.specs.declared.Counted.the-variants.{Numbers, NoNumbers}
+use Rattle.text.specs.declared.NumberFields.{NumberFields}
+use Rattle.text.specs.declared.NumberFields.the-variants.{Numbers, NoNumbers}
 use Rattle.text.specs.declared.Fields.{Fields}
 use Rattle.text.specs.declared.Fields.the-variants.{Worded, Alone, NoFields}
 use Rattle.text.specs.declared.Parsed.the-variants.{Line, NoLine}
@@ -117,7 +117,7 @@ module _ {text : List ℕ} {at : ℕ} (l : InLine text at (endOf text at)) where
           → Stored (leading (lineAt text at)) before after
       word-stored s = rw (leading-word (lineAt text at) fields is-word, after-tab) s
 
-      module _ (after : List ℤ) {c : Counted} (told : NumbersTold (upTo text (end + 1)) (end + 1) after c) where
+      module _ (after : List ℤ) {c : NumberFields} (told : NumbersTold (upTo text (end + 1)) (end + 1) after c) where
         pub word-numbers : length after ≡ mostNumbers → {count place : ℕ} → c ≡ Numbers count place → (f : Fields)
             → WordedAs w count (place + 1) f → FieldsTold text at after f
         unfolding NumbersTold
@@ -151,7 +151,7 @@ module _ {text : List ℕ} {at : ℕ} (l : InLine text at (endOf text at)) where
     pub bare-stored : {before after : List ℤ} → Stored (leadingNumbers (fieldsFrom line at)) before after → Stored (leading (lineAt text at)) before after
     bare-stored s = rw (leading-no-word (lineAt text at) (first .1) no-word, all) s
 
-    module _ (after : List ℤ) {c : Counted} (told : NumbersTold line at after c) where
+    module _ (after : List ℤ) {c : NumberFields} (told : NumbersTold line at after c) where
       pub bare-numbers : length after ≡ mostNumbers → {count place : ℕ} → c ≡ Numbers count place → FieldsTold text at after (Alone count (place + 1))
       unfolding FieldsTold NumbersTold
       bare-numbers long {count} is =

@@ -60,17 +60,17 @@ after-full w ns (some n) (some ms) h = rw (count-over w (ns ++ n ∷ ms) (omega 
 -- ---- the numbers of fields
 
 -- of all fields those that are left are still to read: the numbers of the others stand, and what comes after them is as it was before
-pub record Reading (all left : List (List ℕ)) (before numbers : List ℤ) (count : ℕ) : Type 0 where
+pub record ReadingNumbers (all left : List (List ℕ)) (before numbers : List ℤ) (count : ℕ) : Type 0 where
   pub told : numbersOf all ≡ afterNumbers (take count numbers) (numbersOf left)
   pub stands : take mostNumbers (leadingNumbers all) ≡ take count numbers ++ take (mostNumbers - count) (leadingNumbers left)
   pub rest : drop count numbers ≡ drop count before
   pub long : length numbers ≡ mostNumbers
   pub kept : length numbers ≡ length before
 
-pub reading-start : (all : List (List ℕ)) (numbers : List ℤ) → length numbers ≡ mostNumbers → Reading all all numbers numbers 0
+pub reading-start : (all : List (List ℕ)) (numbers : List ℤ) → length numbers ≡ mostNumbers → ReadingNumbers all all numbers numbers 0
 reading-start all numbers long = record { told = before-all (numbersOf all); stands = refl; rest = refl; long = long; kept = refl }
 
-module _ {all left : List (List ℕ)} {before numbers : List ℤ} {count : ℕ} (r : Reading all left before numbers count) (most : count ≤ mostNumbers) where
+module _ {all left : List (List ℕ)} {before numbers : List ℤ} {count : ℕ} (r : ReadingNumbers all left before numbers count) (most : count ≤ mostNumbers) where
   -- where none of the leading numbers is to come
   stored : take (mostNumbers - count) (leadingNumbers left) ≡ [] → Stored (leadingNumbers all) before numbers
   stored nothing =
@@ -96,7 +96,7 @@ module _ {all left : List (List ℕ)} {before numbers : List ℤ} {count : ℕ} 
           stored (rw places),
         )
 
-    pub reading-turn : {n : ℤ} → number f ≡ some n → count < mostNumbers → Reading all fs before (set numbers count n) (count + 1)
+    pub reading-turn : {n : ℤ} → number f ≡ some n → count < mostNumbers → ReadingNumbers all fs before (set numbers count n) (count + 1)
     unfolding numbersOf leadingNumbers ifSome
     reading-turn {n} is room =
         let places : mostNumbers - count ≡ suc (mostNumbers - (count + 1)) = omega arith in

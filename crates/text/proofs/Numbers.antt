@@ -19,7 +19,7 @@ use Rattle.meaning.proofs.Results.{none-refused, refused-none}
 use Rattle.text.specs.declared.Number.{Number}
 use Rattle.text.specs.declared.Number.the-variants.{Of, NoNumber}
 use Rattle.text.specs.declared.Size.{Size}
-use Rattle.text.specs.declared.Size.the-variants.{Small, NoSize}
+use Rattle.text.specs.declared.Size.the-variants.{Plain, NoSize}
 use Rattle.text.specs.Number.{plainSize, SizeRead, NumberSpelled, NumberRead}
 use Rattle.text.specs.Place.{indexOf, Found, fieldAt}
 use Rattle.text.proofs.Places.{index-past, index-end, found-next, field-empty, field-byte, field-more}
@@ -142,7 +142,7 @@ module _ (line : List ℕ) (at : ℕ) {r : Size} (read : SizeRead line at r) whe
   sized-none sign q =
       let xs = fieldAt line at in sized-none-at (isPlain xs && leb (decimal 0 xs) largest) (decimal 0 xs) sign (size-is-none q)
 
-  module _ {n place : ℕ} (q : r ≡ Small n place) where
+  module _ {n place : ℕ} (q : r ≡ Plain n place) where
     size-is : plainSize (fieldAt line at) ≡ some n
     unfolding SizeRead
     size-is = (rw q at read) .0
@@ -210,7 +210,7 @@ module _ (line : List ℕ) (at : ℕ) where
         unfolding NumberSpelled
         minus-none q = none-refused 3 (minus-sized ∙ sized-none line (at + 1) read _ q)
 
-        pub minus-number : {n place : ℕ} → r ≡ Small n place → NumberRead line at (Of (toZ w64 (ofZ w64 (pos 0 -ℤ toZ w64 n))) place)
+        pub minus-number : {n place : ℕ} → r ≡ Plain n place → NumberRead line at (Of (toZ w64 (ofZ w64 (pos 0 -ℤ toZ w64 n))) place)
         unfolding NumberSpelled
         minus-number {n} q =
             let small = size-small line (at + 1) read q in (
@@ -232,7 +232,7 @@ module _ (line : List ℕ) (at : ℕ) where
       unfolding NumberSpelled
       plain-none q = none-refused 3 (plain-sized ∙ sized-none line at read _ q)
 
-      pub plain-number : {n place : ℕ} → r ≡ Small n place → NumberRead line at (Of (toZ w64 (ofZ w64 (pos n))) place)
+      pub plain-number : {n place : ℕ} → r ≡ Plain n place → NumberRead line at (Of (toZ w64 (ofZ w64 (pos n))) place)
       unfolding NumberSpelled
       plain-number {n} q =
           (rw (toZ-ofZ w64 (pos n) (size-fits line at read q)) (plain-sized ∙ sized-is line at read q _), size-ends line at read q)

@@ -10,7 +10,7 @@ use mir.Syntax.{w64}
 use mir.Val.{toZ, ofZ}
 use Rattle.text.specs.declared.Number.the-variants.{Of, NoNumber}
 use Rattle.text.specs.declared.Size.{Size}
-use Rattle.text.specs.declared.Size.the-variants.{Small, NoSize}
+use Rattle.text.specs.declared.Size.the-variants.{Plain, NoSize}
 use Rattle.text.specs.Number.{SizeRead, NumberRead}
 use Rattle.text.specs.Place.{endOf, upTo}
 use Rattle.text.proofs.Places.{field-more}
@@ -54,7 +54,7 @@ module _ {text : List ℕ} {at end : ℕ} (l : InLine text at end) where
       pub reads-minus-none : r ≡ NoSize → NumberRead (take end text) at NoNumber
       reads-minus-none = minus-none (take end text) at (at-inside no-stop) (at-byte no-stop ∙ minus) (rw same-end at read)
 
-      pub reads-minus : {n place : ℕ} → r ≡ Small n place → NumberRead (take end text) at (Of (toZ w64 (ofZ w64 (pos 0 -ℤ toZ w64 n))) place)
+      pub reads-minus : {n place : ℕ} → r ≡ Plain n place → NumberRead (take end text) at (Of (toZ w64 (ofZ w64 (pos 0 -ℤ toZ w64 n))) place)
       reads-minus = minus-number (take end text) at (at-inside no-stop) (at-byte no-stop ∙ minus) (rw same-end at read)
 
   -- ---- a size alone
@@ -66,5 +66,5 @@ module _ {text : List ℕ} {at end : ℕ} (l : InLine text at end) where
     pub reads-plain-none : r ≡ NoSize → NumberRead (take end text) at NoNumber
     reads-plain-none = plain-none (take end text) at (other 48 no-zero) (other 45 no-minus) read
 
-    pub reads-plain : {n place : ℕ} → r ≡ Small n place → NumberRead (take end text) at (Of (toZ w64 (ofZ w64 (pos n))) place)
+    pub reads-plain : {n place : ℕ} → r ≡ Plain n place → NumberRead (take end text) at (Of (toZ w64 (ofZ w64 (pos n))) place)
     reads-plain = plain-number (take end text) at (other 48 no-zero) (other 45 no-minus) read

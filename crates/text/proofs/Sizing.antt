@@ -12,7 +12,7 @@ use native.Mathlib.Omega.{arith}
 use lib.ListN.{getD, take}
 use Rattle.meaning.specs.Text.{isDigit, largest}
 use Rattle.meaning.proofs.Results.{none-refused}
-use Rattle.text.specs.declared.Size.the-variants.{Small, NoSize}
+use Rattle.text.specs.declared.Size.the-variants.{Plain, NoSize}
 use Rattle.text.specs.Number.{plainSize, SizeRead}
 use Rattle.text.specs.Place.{fieldAt}
 use Rattle.text.proofs.Places.{Searched, search-past, search-stop}
@@ -131,7 +131,7 @@ module _ {text : List ℕ} {at end n i : ℕ} (s : Sizing text at end n i) where
   pub sizing-over : largest < n → SizeRead (take end text) at NoSize
   sizing-over over = none-left (digits-over n _ over)
 
-  pub sizing-end : n ≤ largest → (getD text i 0 ≡ 9) ⊎ (getD text i 0 ≡ 10) → SizeRead (take end text) at (Small n i)
+  pub sizing-end : n ≤ largest → (getD text i 0 ≡ 9) ⊎ (getD text i 0 ≡ 10) → SizeRead (take end text) at (Plain n i)
   unfolding SizeRead
   sizing-end small stop =
       let here = field-ends (s .place) stop in (

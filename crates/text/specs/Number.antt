@@ -10,7 +10,7 @@ use Rattle.meaning.specs.Refusal.{refusedBy, orRefused}
 use Rattle.text.specs.declared.Number.{Number}
 use Rattle.text.specs.declared.Number.the-variants.{Of, NoNumber}
 use Rattle.text.specs.declared.Size.{Size}
-use Rattle.text.specs.declared.Size.the-variants.{Small, NoSize}
+use Rattle.text.specs.declared.Size.the-variants.{Plain, NoSize}
 use Rattle.text.specs.Place.{Found, lineAt, fieldAt}
 
 -- the answer is the number that bytes spell, and the place where they end
@@ -32,5 +32,5 @@ plainSize xs = cond (isPlain xs && leb (decimal 0 xs) largest) (some (decimal 0 
 
 -- the answer is the size that the field at a place spells, and the place where that field ends
 unfoldable pub SizeRead : List ℕ → ℕ → Size → Type 0
-SizeRead line at (Small n place) = (plainSize (fieldAt line at) ≡ some n) × Found 9 line at place
+SizeRead line at (Plain n place) = (plainSize (fieldAt line at) ≡ some n) × Found 9 line at place
 SizeRead line at NoSize = orRefused 3 (plainSize (fieldAt line at)) ≡ refusedBy 3

@@ -17,8 +17,8 @@ use Rattle.meaning.specs.Refusal.{Result, value, refusedBy, orRefused}
 use Rattle.text.specs.Word.{wordOf}
 use Rattle.text.specs.Place.{endOf, lineAt, fieldsFrom}
 use Rattle.text.specs.declared.Word.{Word}
-use Rattle.text.specs.declared.Counted.{Counted}
-use Rattle.text.specs.declared.Counted.the-variants.{Numbers, NoNumbers}
+use Rattle.text.specs.declared.NumberFields.{NumberFields}
+use Rattle.text.specs.declared.NumberFields.the-variants.{Numbers, NoNumbers}
 use Rattle.text.specs.declared.Fields.{Fields}
 use Rattle.text.specs.declared.Fields.the-variants.{Worded, Alone, NoFields}
 use Rattle.text.specs.declared.Parsed.{Parsed}
@@ -66,7 +66,7 @@ pub record Stored (ns before after : List ℤ) : Type 0 where
 -- ---- what is told of fields
 
 -- the numbers of the fields from `from` on, and where the line ends; or no word has such numbers
-unfoldable pub NumbersTold : List ℕ → ℕ → List ℤ → Counted → Type 0
+unfoldable pub NumbersTold : List ℕ → ℕ → List ℤ → NumberFields → Type 0
 NumbersTold line from after (Numbers count end) = (numbersOf (fieldsFrom line from) ≡ some (take count after)) × (count ≤ mostNumbers) × (end ≡ length line)
 NumbersTold line from after NoNumbers = (w : MeantWord) → assemble (some w) (numbersOf (fieldsFrom line from)) ≡ none
 

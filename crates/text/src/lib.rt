@@ -41,7 +41,7 @@ pub enum Number {
 
 // The size of a number above 0, and the place where its field ends.
 enum Size {
-    Small(u64, usize),
+    Plain(u64, usize),
     NoSize,
 }
 
@@ -111,7 +111,7 @@ fn size_from(text: &[u8], at: usize) -> Size
         return Size::NoSize;
     }
     if is_end(byte) {
-        return Size::Small(n, i);
+        return Size::Plain(n, i);
     }
     Size::NoSize
 }
@@ -135,7 +135,7 @@ fn number_at(text: &[u8], at: usize) -> Number
     if first == MINUS {
         from = at + 1;
     }
-    let Size::Small(n, end) = size_from(text, from) else {
+    let Size::Plain(n, end) = size_from(text, from) else {
         return Number::NoNumber;
     };
     if from == at {
@@ -309,7 +309,7 @@ pub fn is_ended(text: &[u8]) -> bool
 // ---- lines
 
 // How many numbers fields spell, and where their line ends.
-enum Counted {
+enum NumberFields {
     Numbers(usize, usize),
     NoNumbers,
 }
@@ -330,7 +330,7 @@ pub enum Parsed {
 
 // The numbers that the fields from the one at `from` up to the line's end spell: they are then the first in `numbers`. Where they spell none,
 // or are more than a line can have, `numbers` begins with those that were read before that was seen.
-fn numbers_from(text: &[u8], from: usize, numbers: &mut [i64]) -> Counted
+fn numbers_from(text: &[u8], from: usize, numbers: &mut [i64]) -> NumberFields
     requires { ⌜ (isEnded (now text) ≡ true) × (from < length (now text)) × (length (now numbers) ≡ mostNumbers) ⌝ }
     ensures told { λ r. ⌜ NumbersTold (upTo (now (text .entry)) from) from (now (numbers .exit)) r ⌝ }
     ensures left { λ _. ⌜ Stored (leadingNumbers (fieldsFrom (upTo (now (text .entry)) from) from)) (now (numbers .entry)) (now (numbers .exit)) ⌝ }
@@ -339,16 +339,16 @@ fn numbers_from(text: &[u8], from: usize, numbers: &mut [i64]) -> Counted
     let mut count: usize = 0;
     while count < MOST_NUMBERS {
         let Number::Of(n, end) = number_at(text, at) else {
-            return Counted::NoNumbers;
+            return NumberFields::NoNumbers;
         };
         numbers[count] = n;
         count += 1;
         if text[end] != TAB {
-            return Counted::Numbers(count, end);
+            return NumberFields::Numbers(count, end);
         }
         at = end + 1;
     }
-    Counted::NoNumbers
+    NumberFields::NoNumbers
 }
 
 // A word with so many numbers, where as many belong to it, in a line that ends at `end`.
@@ -378,7 +378,7 @@ fn fields_of(text: &[u8], at: usize, numbers: &mut [i64]) -> Fields
         }
         from = end + 1;
     }
-    let Counted::Numbers(count, end) = numbers_from(text, from, numbers) else {
+    let NumberFields::Numbers(count, end) = numbers_from(text, from, numbers) else {
         return Fields::NoFields;
     };
     match spelled {

@@ -22,8 +22,8 @@ pub data Expression : Type 0 where
 
 -- ---- normal forms
 
-pub data Term : Type 0 where
-  term : ℤ → List ℕ → Term
+pub data Monomial : Type 0 where
+  monomial : ℤ → List ℕ → Monomial
 
 -- the order of two lists of variables; an `elim`'s cases wait, so that only the branch taken is computed
 abbrev compareVariables : List ℕ → List ℕ → Ordering
@@ -41,39 +41,39 @@ abbrev mergeVariables : List ℕ → List ℕ → List ℕ
 mergeVariables [] n = n
 mergeVariables (i ∷ m) n = insertVariable i (mergeVariables m n)
 
-abbrev insertTerm : ℤ → List ℕ → List Term → List Term
-insertTerm c m [] = term c m ∷ []
-insertTerm c m (term d n ∷ p) = elim (compareVariables m n)
-    [ Ordering·lt ↦ term c m ∷ term d n ∷ p | Ordering·eq ↦ term (c +ℤ d) n ∷ p | Ordering·gt ↦ term d n ∷ insertTerm c m p ]
+abbrev insertTerm : ℤ → List ℕ → List Monomial → List Monomial
+insertTerm c m [] = monomial c m ∷ []
+insertTerm c m (monomial d n ∷ p) = elim (compareVariables m n)
+    [ Ordering·lt ↦ monomial c m ∷ monomial d n ∷ p | Ordering·eq ↦ monomial (c +ℤ d) n ∷ p | Ordering·gt ↦ monomial d n ∷ insertTerm c m p ]
 
-abbrev addTerms : List Term → List Term → List Term
+abbrev addTerms : List Monomial → List Monomial → List Monomial
 addTerms [] q = q
-addTerms (term c m ∷ p) q = insertTerm c m (addTerms p q)
+addTerms (monomial c m ∷ p) q = insertTerm c m (addTerms p q)
 
-abbrev scaleTerms : ℤ → List ℕ → List Term → List Term
+abbrev scaleTerms : ℤ → List ℕ → List Monomial → List Monomial
 scaleTerms c m [] = []
-scaleTerms c m (term d n ∷ q) = term (c *ℤ d) (mergeVariables m n) ∷ scaleTerms c m q
+scaleTerms c m (monomial d n ∷ q) = monomial (c *ℤ d) (mergeVariables m n) ∷ scaleTerms c m q
 
-abbrev multiplyTerms : List Term → List Term → List Term
+abbrev multiplyTerms : List Monomial → List Monomial → List Monomial
 multiplyTerms [] q = []
-multiplyTerms (term c m ∷ p) q = addTerms (scaleTerms c m q) (multiplyTerms p q)
+multiplyTerms (monomial c m ∷ p) q = addTerms (scaleTerms c m q) (multiplyTerms p q)
 
 abbrev isZero : ℤ → Bool
 isZero (pos n) = eqb n 0
 isZero (negsuc n) = false
 
-abbrev dropZeros : List Term → List Term
+abbrev dropZeros : List Monomial → List Monomial
 dropZeros [] = []
-dropZeros (term c m ∷ p) = cond (isZero c) (dropZeros p) (term c m ∷ dropZeros p)
+dropZeros (monomial c m ∷ p) = cond (isZero c) (dropZeros p) (monomial c m ∷ dropZeros p)
 
-abbrev terms : Expression → List Term
-terms (var i) = term (pos 1) (i ∷ []) ∷ []
-terms (lit c) = term c [] ∷ []
+abbrev terms : Expression → List Monomial
+terms (var i) = monomial (pos 1) (i ∷ []) ∷ []
+terms (lit c) = monomial c [] ∷ []
 terms (e ⊕ f) = addTerms (terms e) (terms f)
 terms (e ⊖ f) = addTerms (terms e) (scaleTerms (negsuc 0) [] (terms f))
 terms (e ⊗ f) = multiplyTerms (terms e) (terms f)
 
-abbrev pub normal : Expression → List Term
+abbrev pub normal : Expression → List Monomial
 normal e = dropZeros (terms e)
 
 -- ---- the few identities that the proofs need
@@ -146,9 +146,9 @@ module _ (ρ : List ℤ) where
   product [] = pos 1
   product (i ∷ m) = at i *ℤ product m
 
-  abbrev total : List Term → ℤ
+  abbrev total : List Monomial → ℤ
   total [] = pos 0
-  total (term c m ∷ p) = c *ℤ product m +ℤ total p
+  total (monomial c m ∷ p) = c *ℤ product m +ℤ total p
 
   insertVariable-keeps : (i : ℕ) (m : List ℕ) → product (insertVariable i m) ≡ at i *ℤ product m
   insertVariable-keeps i [] = refl
@@ -160,34 +160,34 @@ module _ (ρ : List ℤ) where
   mergeVariables-keeps (i ∷ m) n =
       insertVariable-keeps i (mergeVariables m n) ∙ rw (mergeVariables-keeps m n) (sym (*ℤ-assoc (at i) (product m) (product n)))
 
-  insertTerm-keeps : (c : ℤ) (m : List ℕ) (p : List Term) → total (insertTerm c m p) ≡ c *ℤ product m +ℤ total p
+  insertTerm-keeps : (c : ℤ) (m : List ℕ) (p : List Monomial) → total (insertTerm c m p) ≡ c *ℤ product m +ℤ total p
   insertTerm-keeps c m [] = refl
-  insertTerm-keeps c m (term d n ∷ p) =
-      by-order (compareVariables m n) (term c m ∷ term d n ∷ p) (term (c +ℤ d) n ∷ p) (term d n ∷ insertTerm c m p)
+  insertTerm-keeps c m (monomial d n ∷ p) =
+      by-order (compareVariables m n) (monomial c m ∷ monomial d n ∷ p) (monomial (c +ℤ d) n ∷ p) (monomial d n ∷ insertTerm c m p)
       (λ l. total l ≡ c *ℤ product m +ℤ (d *ℤ product n +ℤ total p))
       refl
       (λ t. rw (same-variables m n t) (collect c d (product n) (total p)))
       (rw (insertTerm-keeps c m p) (swap-summands (d *ℤ product n) (c *ℤ product m) (total p)))
 
-  addTerms-keeps : (p q : List Term) → total (addTerms p q) ≡ total p +ℤ total q
+  addTerms-keeps : (p q : List Monomial) → total (addTerms p q) ≡ total p +ℤ total q
   addTerms-keeps [] q = sym (+ℤ-idl (total q))
-  addTerms-keeps (term c m ∷ p) q =
+  addTerms-keeps (monomial c m ∷ p) q =
       insertTerm-keeps c m (addTerms p q) ∙ rw (addTerms-keeps p q) (sym (+ℤ-assoc (c *ℤ product m) (total p) (total q)))
 
-  scaleTerms-keeps : (c : ℤ) (m : List ℕ) (q : List Term) → total (scaleTerms c m q) ≡ (c *ℤ product m) *ℤ total q
+  scaleTerms-keeps : (c : ℤ) (m : List ℕ) (q : List Monomial) → total (scaleTerms c m q) ≡ (c *ℤ product m) *ℤ total q
   scaleTerms-keeps c m [] = sym (*ℤ-comm (c *ℤ product m) (pos 0) ∙ zero-*ℤ (c *ℤ product m))
-  scaleTerms-keeps c m (term d n ∷ q) = rw (mergeVariables-keeps m n, scaleTerms-keeps c m q, four-factors c d (product m) (product n))
+  scaleTerms-keeps c m (monomial d n ∷ q) = rw (mergeVariables-keeps m n, scaleTerms-keeps c m q, four-factors c d (product m) (product n))
       (sym (*ℤ-+ℤ (c *ℤ product m) (d *ℤ product n) (total q)))
 
-  multiplyTerms-keeps : (p q : List Term) → total (multiplyTerms p q) ≡ total p *ℤ total q
+  multiplyTerms-keeps : (p q : List Monomial) → total (multiplyTerms p q) ≡ total p *ℤ total q
   multiplyTerms-keeps [] q = sym (zero-*ℤ (total q))
-  multiplyTerms-keeps (term c m ∷ p) q = addTerms-keeps (scaleTerms c m q) (multiplyTerms p q)
+  multiplyTerms-keeps (monomial c m ∷ p) q = addTerms-keeps (scaleTerms c m q) (multiplyTerms p q)
       ∙ rw (scaleTerms-keeps c m q, multiplyTerms-keeps p q) (sym (+ℤ-*ℤ (c *ℤ product m) (total p) (total q)))
 
-  dropZeros-keeps : (p : List Term) → total (dropZeros p) ≡ total p
+  dropZeros-keeps : (p : List Monomial) → total (dropZeros p) ≡ total p
   dropZeros-keeps [] = refl
-  dropZeros-keeps (term c m ∷ p) =
-      cond-cases (λ l. total l ≡ c *ℤ product m +ℤ total p) (isZero c) (dropZeros p) (term c m ∷ dropZeros p)
+  dropZeros-keeps (monomial c m ∷ p) =
+      cond-cases (λ l. total l ≡ c *ℤ product m +ℤ total p) (isZero c) (dropZeros p) (monomial c m ∷ dropZeros p)
       (λ t. rw (dropZeros-keeps p, is-zero c t, zero-*ℤ (product m)) (sym (+ℤ-idl (total p)))) (λ _. rw (dropZeros-keeps p) refl)
 
   terms-keeps : (e : Expression) → total (terms e) ≡ evaluate e

@@ -18,7 +18,7 @@ use Rattle.meaning.specs.Row.{Row}
 use Rattle.meaning.specs.Gadget.Interface.{Gadget}
 use Rattle.meaning.proofs.Cells.{cellsAt, cons-iff}
 use Rattle.meaning.proofs.Hold.{Hold}
-use Rattle.meaning.proofs.Law.{within-append, ranged-append, Before, Law}
+use Rattle.meaning.proofs.Law.{within-append, ranged-append, TableBefore, Law}
 
 module _ (s : Known) (unambiguous fits overlaps : Bool) (es : Ends) (width more : ℕ) (rows : List Row)
     (statement : List ℤ → Bool) (value : List ℤ → ℤ) (others : List ℤ → List ℕ) where
@@ -48,7 +48,7 @@ module _ (s : Known) (unambiguous fits overlaps : Bool) (es : Ends) (width more 
     pub high : (vs : List ℤ) → Within (s .known) vs → T (statement vs) → value vs ≤ℤ es .F
     pub others-count : (vs : List ℤ) → length (others vs) ≡ more
     pub others-below : (vs : List ℤ) → Within (s .known) vs → T (statement vs) → Below p (others vs)
-    pub hold : (t : List ℕ) (vs : List ℤ) → suc (s .cells) + more ≤ length t → Before p s (maker p) t vs
+    pub hold : (t : List ℕ) (vs : List ℤ) → suc (s .cells) + more ≤ length t → TableBefore p s (maker p) t vs
         → Hold p t rows ↔ (T (statement vs) × (getD t (s .cells) 0 ≡ remainder p (value vs)) × (cellsAt t (suc (s .cells)) more ≡ others vs))
 
   pub made-law : (p : ℕ) → Ranged p (s .known) → Makes p → Law p s (maker p)
@@ -64,7 +64,7 @@ module _ (s : Known) (unambiguous fits overlaps : Bool) (es : Ends) (width more 
     rows-hold = λ t vs next b i. holding t vs b;
   }
     where
-      holding : (t : List ℕ) (vs : List ℤ) → Before p s (maker p) t vs
+      holding : (t : List ℕ) (vs : List ℤ) → TableBefore p s (maker p) t vs
           → Hold p t rows ↔ (T (statement vs) × (cellsAt t (s .cells) width ≡ remainder p (value vs) ∷ others vs))
       holding t vs b =
           let room : suc (s .cells) + more ≤ length t = omega (arith, b .room, m .width-is) in

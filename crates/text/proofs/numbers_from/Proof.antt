@@ -12,7 +12,7 @@ use Rattle.meaning.specs.Text.{fieldsOf}
 use Rattle.text.proofs.Places.{partsAfter, fields-from, fields-found, parts-more, parts-none}
 use Rattle.text.proofs.Ends.{InLine, in-line, place-inside, cut-length, before-end, place-next, place-later, same-line, ends-line}
 use Rattle.text.proofs.Numbers.{number-is-none, number-is, number-ends}
-use Rattle.text.proofs.Lines.{Reading, reading-start, reading-end, reading-none, reading-full, reading-turn}
+use Rattle.text.proofs.Lines.{ReadingNumbers, reading-start, reading-end, reading-none, reading-full, reading-turn}
 use borrow.Author.Needs.{needs}
 use native.Mathlib.Omega.{arith}
 use Rattle.text.proofs.numbers_from.Statement.{statement}
@@ -21,7 +21,7 @@ use Rattle.text.proofs.numbers_from.Tie as tie
 abbrev Inv-loop : tie.InvT-loop
 Inv-loop text from numbers₀ at₀ count₀ numbers at count =
     InLine text at (endOf text from) × (count ≤ mostNumbers)
-    × Reading (fieldsFrom (upTo text from) from) (fieldsFrom (upTo text from) at) numbers₀ numbers count
+    × ReadingNumbers (fieldsFrom (upTo text from) from) (fieldsFrom (upTo text from) at) numbers₀ numbers count
 
 abbrev μ-loop : tie.MeasureT-loop
 μ-loop text from numbers₀ at₀ count₀ numbers at count = length text - at
@@ -64,7 +64,7 @@ place c = let l = c .before .before .before .before .before .loop .inv .0 in pla
 turn : (c : tie.After-known-told Inv-loop μ-loop) → let s = c .before .before .before .before .before .before .before .args in
     let now = c .before .before .before .before .before .loop in
     let line = upTo (s .text .now) (s .from) in
-    Reading (fieldsFrom line (s .from)) (partsAfter 9 line (c .before .n .given .0 .1 .0)) (s .numbers .now) (set (now .numbers) (now .count) (c .before .n .given .0 .0)) (now .count + 1)
+    ReadingNumbers (fieldsFrom line (s .from)) (partsAfter 9 line (c .before .n .given .0 .1 .0)) (s .numbers .now) (set (now .numbers) (now .count) (c .before .n .given .0 .0)) (now .count + 1)
 unfolding fieldsOf
 turn c =
     let s = c .before .before .before .before .before .before .before .args in

@@ -1,12 +1,12 @@
--- `groups::group::group_cells`: before each digit, `Filling` holds of what is written and of what is left of n.
+-- `groups::group::group_cells`: before each digit, `GroupFilling` holds of what is written and of what is left of n.
 use Prim.Native.Nat.{_-_}
 use borrow.Author.Needs.{needs}
-use Rattle.groups.proofs.CellsGroup.{Filling, filling-start, filling-turn, filling-end}
+use Rattle.groups.proofs.CellsGroup.{GroupFilling, filling-start, filling-turn, filling-end}
 use Rattle.groups.proofs.group.group_cells.Statement.{statement}
 use Rattle.groups.proofs.group.group_cells.Tie as tie
 
 abbrev Inv-loop : tie.InvT-loop
-Inv-loop out₀ n b k rest₀ i₀ out rest i = Filling b k n out₀ out i rest
+Inv-loop out₀ n b k rest₀ i₀ out rest i = GroupFilling b k n out₀ out i rest
 
 abbrev μ-loop : tie.MeasureT-loop
 μ-loop out₀ n b k rest₀ i₀ out rest i = k - i

@@ -1,4 +1,4 @@
--- `number::inverse::euclid`: the second remainder falls at each call, and each call keeps what `Step` says.
+-- `number::inverse::euclid`: the second remainder falls at each call, and each call keeps what `EuclidStep` says.
 use mathlib.Core.Path.{_≡_}
 use Prim.Native.Nat.{ℕ, _%_, _<_}
 use native.Mathlib.Omega.{arith}

@@ -1,15 +1,15 @@
--- Before each cell, `Summing` holds of the bytes before its line.
+-- Before each cell, `AddingLengths` holds of the bytes before its line.
 use Prim.Native.Nat.{_-_}
 use native.Mathlib.Omega.{arith}
 use lib.ListN.{length}
 use Rattle.meaning.proofs.Decimal.{decimal-of-64}
-use Rattle.program.proofs.Lengths.{Summing, summing-start, summing-turn, summing-end}
+use Rattle.program.proofs.Lengths.{AddingLengths, summing-start, summing-turn, summing-end}
 use borrow.Author.Needs.{needs}
 use Rattle.program.proofs.answer_text.table_length.Statement.{statement}
 use Rattle.program.proofs.answer_text.table_length.Tie as tie
 
 abbrev Inv-loop : tie.InvT-loop
-Inv-loop table total₀ i₀ total i = Summing table total i
+Inv-loop table total₀ i₀ total i = AddingLengths table total i
 
 abbrev μ-loop : tie.MeasureT-loop
 μ-loop table total₀ i₀ total i = length table - i

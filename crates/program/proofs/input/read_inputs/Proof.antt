@@ -1,4 +1,4 @@
--- Before each line, `Reading` holds: each of the lines before it is a number, and the first of these are stored.
+-- Before each line, `ReadingInputs` holds: each of the lines before it is a number, and the first of these are stored.
 use mathlib.Core.Path.{_≡_}
 use Prim.Native.Nat.{_-_}
 use mir.Syntax.{w64}
@@ -8,13 +8,13 @@ use lib.ListN.{length}
 use Rattle.text.specs.Place.{Found}
 use Rattle.text.proofs.Numbers.{number-ends}
 use Rattle.program.specs.Input.{InputsRead}
-use Rattle.program.proofs.Inputs.{Reading, reading-start, reading-turn, reading-stops, reading-end}
+use Rattle.program.proofs.Inputs.{ReadingInputs, reading-start, reading-turn, reading-stops, reading-end}
 use borrow.Author.Needs.{needs}
 use Rattle.program.proofs.input.read_inputs.Statement.{statement}
 use Rattle.program.proofs.input.read_inputs.Tie as tie
 
 abbrev Inv-loop : tie.InvT-loop
-Inv-loop input start inputs₀ at₀ count₀ inputs at count = Reading input start inputs at count
+Inv-loop input start inputs₀ at₀ count₀ inputs at count = ReadingInputs input start inputs at count
 
 abbrev μ-loop : tie.MeasureT-loop
 μ-loop input start inputs₀ at₀ count₀ inputs at count = length input - at

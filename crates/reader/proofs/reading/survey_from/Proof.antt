@@ -11,7 +11,7 @@ use Rattle.meaning.specs.Refusal.{valueLimit}
 use Rattle.text.specs.Place.{endOf}
 use Rattle.text.proofs.Answers.{no-line-seen, line-seen, line-next}
 use Rattle.reader.specs.Read.{surveySeen, PrimeFound}
-use Rattle.reader.specs.Step.{stepSeen, placedAt, valuesIn}
+use Rattle.reader.specs.Step.{stepSeen, placedAt, valueCount}
 use Rattle.reader.proofs.Steps.{no-line-step, line-step, line-parsed}
 use Rattle.reader.proofs.Walk.{Walked, placed-long, walk-ready, walk-start, walk-end, walk-stopped, walk-next}
 use Rattle.reader.proofs.reading.survey_from.Statement.{statement}
@@ -91,7 +91,7 @@ loop-less c =
     omega (arith, next-at at-word, at-test at-word .loop-test .taken)
 
 loop-again : tie.Need-loop-again Inv-loop μ-loop
-unfolding stepSeen valuesIn
+unfolding stepSeen valueCount
 loop-again c =
     let at-step = c .before .before .before .before .before in
     let at-word = at-step .before .before .before .before .before in
