@@ -1,4 +1,4 @@
--- `reader::input::read_input`: room for the value and for its cell, and else the signed range.
+-- `rules::input::read_input`: room for the value and for its cell, and else the signed range.
 use mathlib.Core.Path.{sym}
 use Prim.Native.Nat.{_-_, _/_}
 use lib.IntN.{pos, negℤ, +ℤ-idl}

@@ -17,12 +17,10 @@ returns : tie.Need-returns
 unfolding madeSeen
 returns c =
     let a = c .before .before .before .args in
-    rw (rule-above (a .p) (a .b) (a .k) (above (endsSeen (a .u)) (endsSeen (a .v))) (pos 0) (power-above (a .p) (a .b) (a .k) (c .before .before .capped-power .ensures) (c .enum-told .given .1)))
+    rw (rule-above (a .p) (a .b) (a .k) (above (endsSeen (a .u)) (endsSeen (a .v))) (pos 0) (power-above _ _ _ (c .before .before .capped-power .ensures) (c .enum-told .given .1)))
 
 power : (c : tie.After-known-told) → let a = c .before .before .before .before .args in Power (a .p) (a .b) (a .k) (c .before .c .given .0 .0)
-power c =
-    let a = c .before .before .before .before .args in
-    power-within (a .p) (a .b) (a .k) (c .before .before .before .capped-power .ensures) (c .before .before .before .before .pre .1) (c .before .c .given .1)
+power c = power-within _ _ _ (c .before .before .before .capped-power .ensures) (c .before .before .before .before .pre .1) (c .before .c .given .1)
 
 is-narrow-requires : tie.Need-is-narrow-requires
 is-narrow-requires c κs =

@@ -17,12 +17,10 @@ unfolding madeSeen
 returns c =
     let start = c .before .before .before in
     let a = start .args in
-    sym (root-above (a .p) (a .b ^ a .k) (power-above (a .p) (a .b) (a .k) (c .before .before .capped-power .ensures) (c .enum-told .given .1)) (start .pre .0 .three))
+    sym (root-above (a .p) (a .b ^ a .k) (power-above _ _ _ (c .before .before .capped-power .ensures) (c .enum-told .given .1)) (start .pre .0 .three))
 
 power : (c : tie.After-known-told) → let a = c .before .before .before .before .args in Power (a .p) (a .b) (a .k) (c .before .c .given .0 .0)
-power c =
-    let a = c .before .before .before .before .args in
-    power-within (a .p) (a .b) (a .k) (c .before .before .before .capped-power .ensures) (c .before .before .before .before .pre .1) (c .before .c .given .1)
+power c = power-within _ _ _ (c .before .before .before .capped-power .ensures) (c .before .before .before .before .pre .1) (c .before .c .given .1)
 
 returns-2 : tie.Need-returns-2
 unfolding madeSeen

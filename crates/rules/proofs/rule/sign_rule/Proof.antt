@@ -25,9 +25,7 @@ returns c =
     sym (rule-above (a .p) (a .b) (a .k) (endsSeen (a .e)) (signShift (a .b) (a .k)) (step-above (a .p) (a .b) (a .k) (start .pre .1) above))
 
 part : (c : tie.After-known-told) → let a = c .before .before .before .before .args in Power (a .p) (a .b) (a .k - 1) (c .before .part .given .0 .0)
-part c =
-    let a = c .before .before .before .before .args in
-    power-within (a .p) (a .b) (a .k - 1) (c .before .before .before .capped-power .ensures) (c .before .before .before .before .pre .1) (c .before .part .given .1)
+part c = power-within _ _ _ (c .before .before .before .capped-power .ensures) (c .before .before .before .before .pre .1) (c .before .part .given .1)
 
 mul-c : tie.Need-mul-c
 mul-c c =
