@@ -11,20 +11,7 @@ use lib.ListN.{length, length-map}
 use Rattle.meaning.specs.Machine.{pastU64}
 use Rattle.algebra.proofs.Test.{test-≡, eqb-iff, false-eqb}
 use Rattle.meaning.specs.Reply.{Reply, reply}
-use Rattle.meaning.specs.Desk.{
-  Desk,
-  Called,
-  called,
-  counted,
-  freshDesk,
-  fullCount,
-  isAccepted,
-  raised,
-  deskAnswer,
-  checkOf,
-  deskOver,
-  answersOver,
-}
+use Rattle.meaning.specs.Desk.{Desk, Called, called, freshDesk, fullCount, isAccepted, raised, deskAnswer, checkOf, deskOver, answersOver}
 use Rattle.meaning.specs.Claims.{howMany, passes, Counts, StaysFull}
 
 -- the counts of a desk agree

@@ -14,7 +14,6 @@ use Rattle.algebra.proofs.Test.{leb-iff, leb-false, false-not, cond-cases}
 use Rattle.meaning.specs.Text.{linesOf, isEnded}
 use Rattle.meaning.specs.Line.{Line, lineOf}
 use Rattle.meaning.specs.Known.{Known, fresh}
-use Rattle.meaning.specs.Meaning.{after}
 use Rattle.meaning.specs.Refusal.{textLimit, onSome, RuleOf, rulesWith, rulesWithin, rules, firstBroken, testOrder, placeAmong, rank, Way, plain, ReadingOf, refused, read, onReading, consLine, readLine, readFrom, readingBy, reading}
 use Rattle.meaning.specs.Claims.{
   lineAt,

@@ -7,7 +7,7 @@ use Rattle.meaning.specs.Line.{Line}
 use Rattle.meaning.specs.Known.{Known}
 use Rattle.meaning.specs.Meaning.{after}
 use Rattle.meaning.specs.Refusal.{Reading, refused, read, onSome, onReading, isPlaced, rulesWith, rulesWithin, rules, firstBroken, plain, consLine, readLine}
-use Rattle.reader.specs.Step.{Step, stops, goes, stepOf, stepOption}
+use Rattle.reader.specs.Step.{stops, goes, stepOf, stepOption}
 use Rattle.reader.specs.Read.{refusedAt, surveyOf}
 
 -- the rules are the same for every line after line 0

@@ -9,7 +9,7 @@ use native.Mathlib.Omega.{arith}
 use lib.Dec.{leb}
 use lib.ListN.{length}
 use lib.IntN.{ℤ}
-use Rattle.meaning.specs.Word.{Word, field, input, span, sum, relu, which, max, root, kindOf}
+use Rattle.meaning.specs.Word.{Word, kindOf}
 use Rattle.meaning.specs.Line.{Line}
 use Rattle.meaning.specs.Known.{Known, Ends}
 use Rattle.meaning.specs.Gadget.Interface.{Gadget}
