@@ -1,7 +1,6 @@
--- The lines that have a base and a digit count: span, relu, which, max and root. What they share is a `Shape`, and what is told of them up
--- to rule 9 follows from it alone.
+-- The lines that have a base and a digit count: span, relu, which, max and root. In what they differ is their `Layout`; what is told of them up
+-- to rule 9 follows from it.
 use mathlib.Core.Path.{_≡_, refl, sym, _∙_, ap}
-use mathlib.Core.Logic.{_⊎_, inl, inr}
 use mathlib.Core.Bool.{Bool, true, false, cond, _&&_, and-true}
 use mathlib.Core.List.{List, [], _∷_}
 use Prim.Native.Nat.{ℕ, zero, suc, _+_, _*_, _≤_, _<_}
@@ -23,11 +22,11 @@ use Rattle.meaning.specs.Refusal.{all, isRanged, isMade, isDigits}
 use Rattle.rules.specs.declared.rule.Begun.{Begun}
 use Rattle.rules.specs.declared.rule.Begun.the-variants.{Digits, Stops}
 use Rattle.rules.specs.Ready.{Ready, Seen}
-use Rattle.rules.specs.Told.{refuses, toldOf, spanTold, lineWith}
+use Rattle.rules.specs.Told.{Told, refuses, toldOf, spanTold, lineWith}
 use Rattle.rules.specs.Rule.{begun, begunUnless, earlyBroken}
 use Rattle.rules.proofs.Digits.{digits-allowed}
 use Rattle.rules.proofs.Values.{known-count}
-use Rattle.rules.proofs.Rules.{late, toldWith, areNamed, told-6, told-early, told-late, early-named}
+use Rattle.rules.proofs.Rules.{late, toldWith, toldUnless, earlyOf, told-by-rules, early-named}
 
 -- a kind of line: its word, how many numbers it has and where its base stands; what else rule 6 asks of it, and how its names are tested; how many
 -- values it makes and how its cells are counted; and its gadget, by its base and its digit count
@@ -68,31 +67,33 @@ pub record Begins (K : Layout) (values : ℕ) (ns : List ℤ) (b k : ℕ) : Type
 abbrev tested : ℤ → ℤ → Bool
 tested x y = isDigits (record { b = x; k = y })
 
--- a line stops by rule 6, or by the first broken of the rules 7 to 9, and goes on where it breaks none of them
-module _ (x y : ℤ) where
-  stops-by : (d r : Bool) (e n : ℕ) → Stops n ≡ cond (d && r) (begunUnless e (natAbs x) (natAbs y)) (Stops 6)
-      → ((d && r ≡ false) × (n ≡ 6)) ⊎ ((d && r ≡ true) × (n ≡ e) × (e ≡ 0 → ⊥))
-  unfolding begunUnless
-  stops-by true true zero n q = let z : _≡_ {A = ℕ} 0 1 = cc in absurd (omega arith)
-  stops-by true true (suc e) n q = inr (refl, cc, λ h. absurd (omega (arith, h)))
-  stops-by true false e n q = inl (refl, cc)
-  stops-by false r e n q = inl (refl, cc)
+-- what is told of a line that has begun so, by what is told of it from rule 10 on
+abbrev toldBegun : Begun → (rest : (b k : ℕ) → Told) → Told
+toldBegun (Stops n) rest = refuses n
+toldBegun (Digits b k) rest = rest b k
 
-  goes-by : (d r : Bool) (e b k : ℕ) → Digits b k ≡ cond (d && r) (begunUnless e (natAbs x) (natAbs y)) (Stops 6)
-      → (d ≡ true) × (d && r ≡ true) × (e ≡ 0) × (b ≡ natAbs x) × (k ≡ natAbs y)
+module _ (x y : ℤ) where
+  told-if : (t : Bool) (early : ℕ) (rest : ℕ → ℕ → Told)
+      → toldBegun (cond t (begunUnless early (natAbs x) (natAbs y)) (Stops 6)) rest ≡ cond t (toldUnless early (rest (natAbs x) (natAbs y))) (refuses 6)
+  unfolding begunUnless toldUnless
+  told-if true zero rest = refl
+  told-if true (suc n) rest = refl
+  told-if false early rest = refl
+
+  goes-by : (d r : Bool) (e b k : ℕ) → Digits b k ≡ cond (d && r) (begunUnless e (natAbs x) (natAbs y)) (Stops 6) → (d ≡ true) × (e ≡ 0) × (b ≡ natAbs x) × (k ≡ natAbs y)
   unfolding begunUnless
-  goes-by true true zero b k q = (refl, refl, refl, cc, cc)
+  goes-by true true zero b k q = (refl, refl, cc, cc)
   goes-by true true (suc e) b k q = let z : _≡_ {A = ℕ} 0 1 = cc in absurd (omega arith)
   goes-by true false e b k q = let z : _≡_ {A = ℕ} 0 1 = cc in absurd (omega arith)
   goes-by false r e b k q = let z : _≡_ {A = ℕ} 0 1 = cc in absurd (omega arith)
 
-  stops : (ranged : Bool) (early n : ℕ) → Stops n ≡ begun x y ranged early → ((tested x y && ranged ≡ false) × (n ≡ 6)) ⊎ ((tested x y && ranged ≡ true) × (n ≡ early) × (early ≡ 0 → ⊥))
-  unfolding begun
-  stops ranged early n q = stops-by (tested x y) ranged early n q
-
-  goes : (ranged : Bool) (early b k : ℕ) → Digits b k ≡ begun x y ranged early → (tested x y ≡ true) × (tested x y && ranged ≡ true) × (early ≡ 0) × (b ≡ natAbs x) × (k ≡ natAbs y)
+  goes : (ranged : Bool) (early b k : ℕ) → Digits b k ≡ begun x y ranged early → (tested x y ≡ true) × (early ≡ 0) × (b ≡ natAbs x) × (k ≡ natAbs y)
   unfolding begun
   goes ranged early b k q = goes-by (tested x y) ranged early b k q
+
+  begun-told : (ranged : Bool) (early : ℕ) (rest : ℕ → ℕ → Told) → toldBegun (begun x y ranged early) rest ≡ cond (tested x y && ranged) (toldUnless early (rest (natAbs x) (natAbs y))) (refuses 6)
+  unfolding begun
+  begun-told ranged early rest = told-if (tested x y && ranged) early rest
 
 module _ {K : Layout} {p values cells : ℕ} {numbers : List ℤ} {r : Begun} (told : BegunBy K p values cells numbers r) where
   abbrev x : ℤ
@@ -110,46 +111,36 @@ module _ {K : Layout} {p values cells : ℕ} {numbers : List ℤ} {r : Begun} (t
   abbrev line : List ℤ
   line = take (K .count) numbers
 
-  goes-so : {b k : ℕ} → r ≡ Digits b k
-      → (tested x y ≡ true) × (tested x y && K .ranged p numbers ≡ true) × (early ≡ 0) × (b ≡ natAbs x) × (k ≡ natAbs y)
-  goes-so {b} {k} q = goes x y (K .ranged p numbers) early b k (sym q ∙ told .answer)
-
   pub begins : {b k : ℕ} → r ≡ Digits b k → Begins K values numbers b k
-  begins q =
-      let g = goes-so q in
+  begins {b} {k} q =
+      let g = goes x y (K .ranged p numbers) early b k (sym q ∙ told .answer) in
       let a = digits-allowed x y (g .0) in
       record {
-        base-is = g .3;
-        count-is = g .4;
-        base-one = omega (arith, a .base, g .3);
-        count-one = omega (arith, a .one, g .4);
-        are-made = early-named (K .named values numbers) values (K .new) cells width refl (g .2);
+        base-is = g .2;
+        count-is = g .3;
+        base-one = omega (arith, a .base, g .2);
+        count-one = omega (arith, a .one, g .3);
+        are-made = early-named (K .named values numbers) values (K .new) cells width refl (g .1);
       }
 
   module _ (shape : Shape K) {lows highs : List ℤ} (ready : Ready p values cells lows highs) {s : Known} (seen : Seen s p values cells lows highs) where
     ranged-is : isRanged (s .p) (K .word) line ≡ tested x y && K .ranged p numbers
     ranged-is = rw (seen .prime) (shape .ranges p numbers)
 
-    early-is : early ≡ earlyBroken (areNamed s (K .word) line) (length (s .known))
-        (length (kindOf (K .word) .gadget s line .made)) (s .cells) (kindOf (K .word) .gadget s line .width)
+    early-is : earlyOf s (K .word) line ≡ early
     early-is = rw (shape .is s numbers, shape .makes-so-many s numbers (natAbs x) (natAbs y), shape .cells s numbers (natAbs x) (natAbs y), known-count ready seen, seen .cells-are, shape .names values numbers) refl
 
     -- over any ends that are told where no rule is broken
-    module _ (es : List Ends) where
-      stops-with : {n : ℕ} → r ≡ Stops n → refuses n ≡ toldWith s (lineWith (K .word) line) es
-      stops-with {n} q = by (stops x y (K .ranged p numbers) early n (sym q ∙ told .answer))
-        where
-          by : ((tested x y && K .ranged p numbers ≡ false) × (n ≡ 6)) ⊎ ((tested x y && K .ranged p numbers ≡ true) × (n ≡ early) × (early ≡ 0 → ⊥))
-              → refuses n ≡ toldWith s (lineWith (K .word) line) es
-          by (inl (out, six)) = sym (told-6 s (K .word) line es (shape .plain) (ranged-is ∙ out) ∙ ap refuses (sym six))
-          by (inr (inside, is, some-broken)) =
-              sym (told-early s (K .word) line es (shape .plain) (ranged-is ∙ inside) (is ∙ early-is) (λ z. some-broken (sym is ∙ z)))
+    told-with : (es : List Ends) → toldWith s (lineWith (K .word) line) es ≡ toldBegun r (λ b k. late (K .line s numbers b k) es)
+    told-with es =
+        told-by-rules s (K .word) line es (shape .plain) ∙ rw (ranged-is, early-is, shape .is s numbers)
+        (sym (begun-told x y (K .ranged p numbers) early (λ b k. late (K .line s numbers b k) es)) ∙ ap (λ (t : Begun). toldBegun t (λ b k. late (K .line s numbers b k) es)) (sym (told .answer)))
 
-      goes-with : {b k : ℕ} → r ≡ Digits b k → toldWith s (lineWith (K .word) line) es ≡ late (K .line s numbers b k) es
-      goes-with q =
-          let g = goes-so q in
-          told-late s (K .word) line es (shape .plain) (ranged-is ∙ g .1) {n = 0} (sym (g .2) ∙ early-is) refl
-          ∙ rw (shape .is s numbers, ← g .3, ← g .4)
+    stops-with : (es : List Ends) {n : ℕ} → r ≡ Stops n → refuses n ≡ toldWith s (lineWith (K .word) line) es
+    stops-with es q = sym (told-with es ∙ rw q)
+
+    goes-with : (es : List Ends) {b k : ℕ} → r ≡ Digits b k → toldWith s (lineWith (K .word) line) es ≡ late (K .line s numbers b k) es
+    goes-with es q = told-with es ∙ rw q
 
     pub digits-stop : {n : ℕ} → r ≡ Stops n → refuses n ≡ toldOf s (lineWith (K .word) line)
     unfolding toldOf gadget
@@ -157,7 +148,7 @@ module _ {K : Layout} {p values cells : ℕ} {numbers : List ℤ} {r : Begun} (t
 
     pub digits-late : {b k : ℕ} → r ≡ Digits b k → toldOf s (lineWith (K .word) line) ≡ late (K .line s numbers b k) (K .line s numbers b k .made)
     unfolding toldOf gadget
-    digits-late {b} {k} q =
+    digits-late q =
         let g = begins q in
         goes-with (kindOf (K .word) .gadget s line .made) q ∙ rw (shape .is s numbers, ← g .base-is, ← g .count-is)
 

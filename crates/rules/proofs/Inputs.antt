@@ -1,9 +1,8 @@
 -- What reading tells of an input line: it breaks no rule but those of room.
-use mathlib.Core.Path.{_≡_, refl, _∙_}
+use mathlib.Core.Path.{_≡_, refl, sym, _∙_}
 use mathlib.Core.Bool.{true, false}
 use mathlib.Core.List.{List, [], _∷_}
 use Prim.Native.Nat.{ℕ, _-_, _/_, _<_}
-use lib.ListN.{length}
 use lib.IntN.{ℤ, pos, negℤ, _-ℤ_}
 use mir.Syntax.{w64}
 use mir.Val.{SFits}
@@ -18,10 +17,10 @@ use Rattle.meaning.specs.Gadget.Input.{inputLine}
 use Rattle.meaning.specs.Meaning.{gadget}
 use Rattle.meaning.specs.Refusal.{all, isRanged}
 use Rattle.rules.specs.Ready.{Ready, Seen}
-use Rattle.rules.specs.Told.{refuses, makes, toldOf, lineWith}
+use Rattle.rules.specs.Told.{makes, toldOf, lineWith}
 use Rattle.rules.specs.Rule.{earlyBroken}
 use Rattle.rules.proofs.Values.{known-count}
-use Rattle.rules.proofs.Rules.{late, areNamed, told-early, told-late}
+use Rattle.rules.proofs.Rules.{late, toldUnless, earlyOf, told-by-rules}
 
 module _ {p values cells : ℕ} {lows highs : List ℤ} (ready : Ready p values cells lows highs) {s : Known} (seen : Seen s p values cells lows highs)
     {n : ℕ} (early : n ≡ earlyBroken true values 1 cells 1) where
@@ -33,17 +32,13 @@ module _ {p values cells : ℕ} {lows highs : List ℤ} (ready : Ready p values 
   unfolding isRanged all kindOf
   input-ranged = refl
 
-  early-too : n ≡ earlyBroken (areNamed s input []) (length (s .known)) (length (kindOf input .gadget s [] .made)) (s .cells) (kindOf input .gadget s [] .width)
+  early-too : earlyOf s input [] ≡ n
   unfolding kindOf inputLine all
-  early-too = rw (known-count ready seen, seen .cells-are) early
+  early-too = rw (known-count ready seen, seen .cells-are) (sym early)
 
-  pub input-early : (n ≡ 0 → ⊥) → toldOf s (lineWith input []) ≡ refuses n
-  unfolding toldOf gadget
-  input-early h = told-early s input [] (kindOf input .gadget s [] .made) input-plain input-ranged early-too h
-
-  pub input-late : n ≡ 0 → toldOf s (lineWith input []) ≡ makes (ends (negℤ (pos ((p - 1) / 2))) (pos ((p - 1) / 2)) ∷ [])
+  pub input-told : toldOf s (lineWith input []) ≡ toldUnless n (makes (ends (negℤ (pos ((p - 1) / 2))) (pos ((p - 1) / 2)) ∷ []))
   unfolding toldOf gadget kindOf late inputLine lowest highest half
-  input-late h = told-late s input [] (kindOf input .gadget s [] .made) input-plain input-ranged early-too h ∙ rw (seen .prime) refl
+  input-told = told-by-rules s input [] (kindOf input .gadget s [] .made) input-plain ∙ rw (input-ranged, early-too, seen .prime) refl
 
 -- ---- M in a machine word
 

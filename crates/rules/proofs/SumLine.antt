@@ -24,7 +24,7 @@ use Rattle.rules.specs.Rule.{earlyBroken, endsSeen, EndsRead, BoundedEnd
 use Rattle.rules.specs.Sum.{endsAt, sumTold}
 use Rattle.rules.proofs.Tests.{both-true, made-name}
 use Rattle.rules.proofs.Values.{known-count, known-ends}
-use Rattle.rules.proofs.Rules.{late, areNamed, told-6, told-early, told-late, early-named}
+use Rattle.rules.proofs.Rules.{late, toldUnless, unless-broken, earlyOf, told-by-rules, early-named}
 use Rattle.rules.proofs.DigitLines.{number-taken}
 
 pub all-first : (f : ℤ → Bool) (x : ℤ) (xs : List ℤ) → all f (x ∷ xs) ≡ true → f x ≡ true
@@ -180,38 +180,31 @@ module _ {p values cells : ℕ} {lows highs : List ℤ} (ready : Ready p values 
     unfolding isRanged all kindOf
     sum-ranged = rw (seen .prime, number-taken count numbers 0 some, without-drop (take count numbers) 0)
 
+    sum-told : toldOf s (lineWith sum (take count numbers)) ≡ cond (all (inRange p) (getD numbers 0 (pos 0) ∷ alternate (drop 1 (take count numbers))))
+        (toldUnless (earlyOf s sum (take count numbers)) (late (kindOf sum .gadget s (take count numbers)) (kindOf sum .gadget s (take count numbers) .made))) (refuses 6)
+    unfolding toldOf gadget
+    sum-told = told-by-rules s sum (take count numbers) (kindOf sum .gadget s (take count numbers) .made) sum-plain ∙ rw sum-ranged
+
     pub sum-6 : all (inRange p) (getD numbers 0 (pos 0) ∷ alternate (drop 1 (take count numbers))) ≡ false
         → toldOf s (lineWith sum (take count numbers)) ≡ refuses 6
-    unfolding toldOf gadget
-    sum-6 out = told-6 s sum (take count numbers) (kindOf sum .gadget s (take count numbers) .made) sum-plain (sum-ranged ∙ out)
+    sum-6 out = sum-told ∙ rw out
 
     module _ (ranged : all (inRange p) (getD numbers 0 (pos 0) ∷ alternate (drop 1 (take count numbers))) ≡ true) {n : ℕ}
         (early : n ≡ earlyBroken (all (isMade values) (alternate (drop 2 (take count numbers)))) values 1 cells 1) where
-      early-too : n ≡ earlyBroken (areNamed s sum (take count numbers)) (length (s .known))
-          (length (kindOf sum .gadget s (take count numbers) .made)) (s .cells) (kindOf sum .gadget s (take count numbers) .width)
+      early-too : earlyOf s sum (take count numbers) ≡ n
       unfolding kindOf sumLine
-      early-too = rw (
-        known-count ready seen,
-        seen .cells-are,
-        without-drop (take count numbers) 0,
-        without-drop
-            (take count numbers) 1,
-      ) early
+      early-too = rw (known-count ready seen, seen .cells-are, without-drop (take count numbers) 0, without-drop (take count numbers) 1) (sym early)
 
       pub sum-early : (n ≡ 0 → ⊥) → toldOf s (lineWith sum (take count numbers)) ≡ refuses n
-      unfolding toldOf gadget
-      sum-early h = told-early s sum (take count numbers) (kindOf sum .gadget s (take count numbers) .made) sum-plain
-          (sum-ranged ∙ ranged) early-too h
+      sum-early h = sum-told ∙ rw (ranged, early-too) (unless-broken n _ h)
 
       pub sum-late : n ≡ 0 → toldOf s (lineWith sum (take count numbers))
           ≡ sumTold p lows highs (ends (getD numbers 0 (pos 0)) (getD numbers 0 (pos 0))) (termsOf (drop 1 (take count numbers)))
-      unfolding toldOf gadget kindOf endsInRange
+      unfolding kindOf endsInRange toldUnless
       sum-late none =
           let ns : List ℤ = take count numbers in
           let c0 : ℤ = getD numbers 0 (pos 0) in
           let first = all-first (inRange p) c0 (alternate (drop 1 ns)) ranged in
           let named = early-named (all (isMade values) (alternate (drop 2 ns))) values 1 cells 1 early none in
-          told-late s sum ns (kindOf sum .gadget s ns .made) sum-plain (sum-ranged ∙ ranged) early-too none
-          ∙ sum-gadget s (numberAt ns 0) (termsOf (withoutFirst ns))
-          ∙ rw (number-taken count numbers 0 some, without-drop ns 0)
-          (sum-over (drop 1 ns) (rw (without-drop ns 1) named) (ends c0 c0) (rw first))
+          sum-told ∙ rw (ranged, early-too, none) (sum-gadget s (numberAt ns 0) (termsOf (withoutFirst ns))
+          ∙ rw (number-taken count numbers 0 some, without-drop ns 0) (sum-over (drop 1 ns) (rw (without-drop ns 1) named) (ends c0 c0) (rw first)))
