@@ -5,7 +5,7 @@ use mathlib.Core.List.{List, [], _∷_}
 use mathlib.Core.Logic.{_↔_}
 use Prim.Native.Nat.{ℕ, zero, suc, _-_, _*_, _/_, _%_, _^_, _≤_, _<_}
 use native.Mathlib.Omega.{arith}
-use native.Mathlib.Nat.{pow-zero, pow-suc, pow-succ', one-le-pow, le-mul-of-pos-right, mul-le-mul-left, zero-add}
+use native.Mathlib.Nat.{pow-zero, pow-suc, pow-succ', one-le-pow, le-mul-of-pos-right, mul-le-mul-left, mul-suc, mul-comm, zero-add}
 use native.Mathlib.Nat.{div-lt-iff-lt-mul, le-div-iff-mul-le, div-add-mod', mod-lt, mod-eq-of-lt, div-eq-of-lt, div-one}
 use native.Mathlib.Nat.{add-mul-mod-self-left, add-mul-div-left, div-div-eq-div-mul}
 use lib.IntN.{ℤ, pos, natAbs, _+ℤ_, _-ℤ_}
@@ -65,6 +65,11 @@ power-positive b k h = one-le-pow k b h
 pub base-below-power : (b k : ℕ) → 1 ≤ k → zero < b → b ≤ b ^ k
 base-below-power b zero l h = absurd (omega arith)
 base-below-power b (suc k) l h = rw pow-succ' (le-mul-of-pos-right b (power-positive b k h))
+
+-- a multiple of b less one part of it
+pub less-one : (b x : ℕ) → 1 ≤ b → x * b - x ≡ (b - 1) * x
+less-one zero x h = absurd (omega arith)
+less-one (suc b) x h = let base : suc b - 1 ≡ b = omega arith in rw base (omega (arith, mul-suc x b, mul-comm b x))
 
 pub top-digit : (b k n : ℕ) → n < b ^ suc k → n / b ^ k < b
 top-digit zero k n h = absurd (omega (arith, pow-succ' 0 k))

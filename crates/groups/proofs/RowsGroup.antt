@@ -18,7 +18,7 @@ use Rattle.meaning.specs.Row.{Form, Row, constant, _⊖_, _≅_, eval, holds, d
 use Rattle.meaning.specs.Reply.{Reply, reply, firstFail, refusalAt}
 use Rattle.meaning.proofs.Cells.{cellsAt, cellsAt-zero, cellsAt-suc}
 use Rattle.meaning.proofs.Group.{places-value}
-use Rattle.reader.proofs.Sizes.{length-digitRows, length-groupRows}
+use Rattle.meaning.proofs.RowCounts.{length-digitRows, length-groupRows}
 use Rattle.groups.specs.Rows.{Leaves, firstOf, firstRefusal}
 use Rattle.groups.proofs.RowsFirst.{first-none, first-row, first-rows}
 

@@ -14,7 +14,7 @@ use Rattle.meaning.specs.Known.{topPart}
 use Rattle.meaning.specs.Row.{Form, cell, constant, _⊕_, _⊖_, _⊗_, _≅_, eval, Row, holds, group}
 use Rattle.meaning.specs.Reply.{Reply, reply}
 use Rattle.meaning.specs.Gadget.Sign.{signShift, signRows}
-use Rattle.reader.proofs.Sizes.{length-groupRows}
+use Rattle.meaning.proofs.RowCounts.{length-groupRows}
 use Rattle.groups.specs.Cells.{GroupOf}
 use Rattle.groups.specs.Rows.{Leaves, firstRefusal, firstOf}
 use Rattle.groups.proofs.SignPower.{part-power, rest-top}

@@ -6,7 +6,7 @@ use native.Mathlib.Nat.{pow-succ', mul-comm, mul-div-cancel-left}
 use lib.IntN.{pos, negℤ, _-ℤ_, +ℤ-idl}
 use Rattle.meaning.specs.Known.{topPart}
 use Rattle.meaning.specs.Gadget.Sign.{signShift}
-use Rattle.rules.proofs.Digits.{less-one}
+use Rattle.algebra.proofs.Digits.{less-one}
 
 module _ (b k c : ℕ) (base : zero < b) (some-digit : 1 ≤ k) (power : c ≡ b ^ k) where
   split : c ≡ b * b ^ (k - 1)

@@ -6,7 +6,7 @@ use lib.IntN.{ℤ, pos, natAbs}
 use lib.ListN.{length, getD}
 use lib.Signed.{_≤ℤ_}
 use Rattle.number.specs.Bounded.{Bounded}
-use Rattle.rules.specs.Ready.{greatest}
+use Rattle.meaning.specs.Text.{largest}
 use Rattle.groups.specs.Cells.{GroupOf, valueBound}
 
 -- the size of the number at a place: a name, a base or a digit count, where the number is not negative
@@ -40,7 +40,7 @@ pub record ValueAt (numbers values : List ℤ) (i : ℕ) : Type 0 where
 pub record DigitsFrom (numbers : List ℤ) (i : ℕ) : Type 0 where
   pub base-inside : i < length numbers
   pub base-natural : pos 0 ≤ℤ getD numbers i (pos 0)
-  pub base-most : size numbers i ≤ greatest
+  pub base-most : size numbers i ≤ largest
   pub count-inside : i + 1 < length numbers
   pub count-natural : pos 0 ≤ℤ getD numbers (i + 1) (pos 0)
   pub group : GroupOf (size numbers i) (size numbers (i + 1)) (size numbers i ^ size numbers (i + 1))

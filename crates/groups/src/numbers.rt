@@ -6,7 +6,7 @@ ghost use Prim.Native.Nat.{_≤_, _<_};
 ghost use lib.IntN.{pos, natAbs};
 ghost use lib.ListN.{length, getD};
 ghost use lib.Signed.{_≤ℤ_};
-ghost use Rattle.rules.specs.Ready.{greatest};
+ghost use Rattle.meaning.specs.Text.{largest};
 ghost use Rattle.groups.specs.Numbers.{DigitsFrom, DigitsAre};
 
 // The number at a place where a name or a digit count stands.
@@ -20,7 +20,7 @@ pub fn size_at(numbers: &[i64], at: usize) -> usize
 
 // The number at a place where a base stands.
 fn base_at(numbers: &[i64], at: usize) -> u32
-    requires { ⌜ (at < length (now numbers)) × (pos 0 ≤ℤ getD (now numbers) at (pos 0)) × (natAbs (getD (now numbers) at (pos 0)) ≤ greatest) ⌝ }
+    requires { ⌜ (at < length (now numbers)) × (pos 0 ≤ℤ getD (now numbers) at (pos 0)) × (natAbs (getD (now numbers) at (pos 0)) ≤ largest) ⌝ }
     ensures { λ r. ⌜ r ≡ natAbs (getD (now (numbers .entry)) at (pos 0)) ⌝ }
 {
     let number = numbers[at];

@@ -11,6 +11,7 @@ pub mod Law
 pub mod Gadget
 pub mod Ranks
 pub mod Words
+pub mod RowCounts
 pub mod Kept
 pub mod Lines
 pub mod Induction

@@ -3,16 +3,17 @@ use mathlib.Core.Path.{_≡_, refl, sym, subst}
 use mathlib.Core.Bool.{Bool, true, false, _&&_}
 use mathlib.Core.List.{List, [], _∷_}
 use mathlib.Core.Logic.{_⊎_, inl, inr, ⊎-elim}
-use Prim.Native.Nat.{ℕ, zero, suc, _≤_, _<_}
+use Prim.Native.Nat.{ℕ, zero, suc, _%_, _≤_, _<_}
 use native.Mathlib.Omega.{arith}
-use lib.Dec.{T, ltb, ltb→lt}
-use lib.ListN.{length}
+use lib.Dec.{T, eqb, leb, ltb, eqb→eq, ltb→lt}
+use lib.ListN.{length, take}
+use lib.Seq.{length-take-le}
 use lib.IntN.{ℤ, pos, negsuc, natAbs}
 use lib.Signed.{_≤ℤ_, nonNeg}
-use Rattle.algebra.proofs.Test.{left, right}
+use Rattle.algebra.proofs.Test.{left, right, ≡-test}
 use Rattle.algebra.proofs.Integer.Linear.{linear}
 use Rattle.meaning.specs.Number.{inRange, oddPrime, OddPrime}
-use Rattle.meaning.specs.Word.{Word, field, input, span, sum, relu, which, max, root, numberAt, sizeAt, alternate, withoutFirst, digitsAt, kindOf}
+use Rattle.meaning.specs.Word.{Word, field, input, span, sum, relu, which, max, root, numberAt, sizeAt, alternate, withoutFirst, digitsAt, mostNumbers, kindOf}
 use Rattle.meaning.specs.Line.{Line}
 use Rattle.meaning.specs.Known.{Known, fresh, Ranged}
 use Rattle.meaning.specs.Gadget.Sum.{termsOf}
@@ -36,21 +37,39 @@ pub made-name : (n : ℕ) (v : ℤ) → T (isMade n v) → natAbs v < n
 unfolding isMade
 made-name n v t = ltb→lt (natAbs v) n (right (nonNeg v) (ltb (natAbs v) n) t)
 
+pub not-below : (z : ℤ) → T (nonNeg z) → pos 0 ≤ℤ z
+not-below (pos n) t = omega linear
+not-below (negsuc n) t = absurd t
+
 size-at-least : (n : ℕ) (z : ℤ) → pos n ≤ℤ z → n ≤ natAbs z
 size-at-least n (pos m) h = omega linear
 size-at-least n (negsuc m) h = omega linear
 
+-- the base and the digit count are in their ranges
+pub digits-given : (p i : ℕ) (w : Word) (ns : List ℤ) → kindOf w .digits ns ≡ digitsAt ns i → T (isRanged p w ns) → T (all isDigits (digitsAt ns i))
+unfolding isRanged
+digits-given p i w ns e t =
+    rw e at
+    (left (all isDigits (kindOf w .digits ns)) (all (inRange p) (kindOf w .shifts ns))
+    (left (all isDigits (kindOf w .digits ns) && all (inRange p) (kindOf w .shifts ns)) (all (inRange p) (kindOf w .coefficients ns)) t))
+
 -- "2 ≤ b; 1 ≤ k", where the base and the digit count are the numbers from place i on
 pub digits-ranged : (p i : ℕ) (w : Word) (ns : List ℤ) → kindOf w .digits ns ≡ digitsAt ns i → T (isRanged p w ns)
     → (2 ≤ sizeAt ns i) × (1 ≤ sizeAt ns (suc i))
-unfolding isRanged isDigits digitsAt sizeAt all
+unfolding isDigits digitsAt sizeAt all
 digits-ranged p i w ns e t =
-    let given = left (all isDigits (kindOf w .digits ns)) (all (inRange p) (kindOf w .shifts ns))
-    (left (all isDigits (kindOf w .digits ns) && all (inRange p) (kindOf w .shifts ns)) (all (inRange p) (kindOf w .coefficients ns)) t) in
-    let good : T (all isDigits (digitsAt ns i)) = rw e at given in (
+    let good = digits-given p i w ns e t in (
       size-at-least 2 (numberAt ns i) (record { le = search (left, right) }),
       size-at-least 1 (numberAt ns (suc i)) (record { le = search (left, right) }),
     )
+
+-- a sum has an odd count of numbers
+pub sum-odd : (numbers : List ℤ) (m : ℕ) → m ≤ length numbers → kindOf sum .isCounted (take m numbers) ≡ true → m % 2 ≡ 1
+unfolding kindOf
+sum-odd numbers m few counted =
+    let n : ℕ = length (take m numbers) in
+    let odd : n % 2 ≡ 1 = eqb→eq (n % 2) 1 (left (eqb (n % 2) 1) (leb n mostNumbers) (≡-test (kindOf sum .isCounted (take m numbers)) counted)) in
+    rw (length-take-le m numbers few) at odd
 
 -- the first name, and the two names of a line that has two
 pub first-named : (m i : ℕ) (ns vs : List ℤ) → T (all (isMade m) (numberAt ns i ∷ vs)) → sizeAt ns i < m

@@ -1,21 +1,18 @@
 -- How many values, inputs, cells and rows each kind of line has, and that the code counts them from the line's word and digit count.
 use mathlib.Core.Path.{_≡_, refl, sym, ap, _∙_}
-use mathlib.Core.Bool.{true, _&&_}
-use mathlib.Core.List.{List, [], _∷_, _++_}
+use mathlib.Core.Bool.{true}
+use mathlib.Core.List.{List, [], _∷_}
 use Prim.Native.Nat.{ℕ, zero, suc, _+_, _*_, _<_, _≤_}
 use native.Mathlib.Omega.{arith}
 use lib.Dec.{T, eqb, eqb→eq}
-use lib.ListN.{length, getD, take, length-append}
+use lib.ListN.{length, getD, take}
 use lib.Seq.{getD-take, length-take-le}
 use lib.IntN.{ℤ, pos, natAbs}
 use lib.Signed.{_≤ℤ_}
 use Rattle.algebra.proofs.Test.{left, right, ≡-test}
-use Rattle.meaning.specs.Number.{inRange}
 use Rattle.meaning.specs.Word.{field, input, span, sum, relu, which, max, root, numberAt, sizeAt, digitsAt, kindOf}
 use Rattle.meaning.specs.Word.{Word as Meant}
 use Rattle.meaning.specs.Known.{Known}
-use Rattle.meaning.specs.Row.{Row, Form, constant, _⊖_, _≅_, digitRows, placeValues, group}
-use Rattle.meaning.specs.Gadget.Sign.{signRows, signShift}
 use Rattle.meaning.specs.Gadget.Field.{fieldLine}
 use Rattle.meaning.specs.Gadget.Input.{inputLine}
 use Rattle.meaning.specs.Gadget.Span.{spanLine}
@@ -27,6 +24,8 @@ use Rattle.meaning.specs.Gadget.Root.{rootLine}
 use Rattle.meaning.specs.Meaning.{gadget}
 use Rattle.meaning.specs.Refusal.{all, isDigits, isRanged, mostDigits}
 use Rattle.meaning.specs.Kept.{Keeps}
+use Rattle.meaning.proofs.RowCounts.{length-groupRows, length-signRows, two-groups, four-groups}
+use Rattle.meaning.proofs.Lines.{digits-given}
 use Rattle.text.specs.Word.{wordOf}
 use Rattle.text.specs.declared.Word.{Word}
 use Rattle.text.specs.declared.Word.the-variants.{Field, In, Span, Sum, Relu, Which, Max, Root}
@@ -34,60 +33,17 @@ use Rattle.rules.specs.Told.{lineWith}
 use Rattle.reader.specs.Size.{counted, Adds, FewCounts, DigitSize, mostWidth, mostRows}
 use Rattle.reader.specs.declared.state.Counts.{Counts}
 
--- ---- rows
-
-pub length-digitRows : (at b k : ℕ) → length (digitRows at b k) ≡ k
-unfolding digitRows
-length-digitRows at b zero = refl
-length-digitRows at b (suc k) = ap suc (length-digitRows (suc at) b k)
-
-pub length-groupRows : (f : Form) (L : ℤ) (at b k : ℕ) → length (group f L at b k) ≡ k + 1
-unfolding group
-length-groupRows f L at b k = length-append (digitRows at b k) (f ⊖ constant L ≅ placeValues 1 at b k ∷ []) ∙ ap (λ (n : ℕ). n + 1) (length-digitRows at b k)
-
-pub length-signRows : (f : Form) (at b k : ℕ) (last : Form → Row) → length (signRows f at b k last) ≡ k + 5
-unfolding signRows
-length-signRows f at b k last =
-    length-append (group f (signShift b k) at b k) (_ ∷ _ ∷ _ ∷ _ ∷ []) ∙ rw (length-groupRows f (signShift b k) at b k) (omega arith)
-
-pub two-groups : (f g : Form) (L : ℤ) (at at′ b k : ℕ) → suc (length (group f L at b k ++ group g L at′ b k)) ≡ 2 * k + 3
-two-groups f g L at at′ b k = ap suc (length-append (group f L at b k) (group g L at′ b k))
-    ∙ omega (arith, length-groupRows f L at b k, length-groupRows g L at′ b k)
-
-pub four-groups : (f g h l : Form) (L : ℤ) (a b c d base k : ℕ)
-    → suc (length (group f L a base k ++ group g L b base k ++ group h L c base k ++ group l L d base k)) ≡ 4 * k + 5
-four-groups f g h l L a b c d base k =
-    let one = group f L a base k in
-    let two = group g L b base k in
-    let three = group h L c base k in
-    let four = group l L d base k in
-    omega (
-      arith,
-      length-append (one ++ two ++ three) four,
-      length-append (one ++ two) three,
-      length-append one two,
-      length-groupRows f L a base k,
-      length-groupRows g L b base k,
-      length-groupRows h L c base k,
-      length-groupRows l L d base k,
-    )
-
 -- ---- digit counts
 
 -- where the rules hold, the number at place i + 1 is a digit count
 module _ (p i : ℕ) (w : Meant) (ns : List ℤ) (is : kindOf w .digits ns ≡ digitsAt ns i) (ranged : T (isRanged p w ns)) where
-  pub digits-given : T (all isDigits (digitsAt ns i))
-  unfolding isRanged
-  digits-given = rw is at (left (all isDigits (kindOf w .digits ns)) (all (inRange p) (kindOf w .shifts ns))
-      (left (all isDigits (kindOf w .digits ns) && all (inRange p) (kindOf w .shifts ns)) (all (inRange p) (kindOf w .coefficients ns)) ranged))
-
   count-low : pos 1 ≤ℤ numberAt ns (suc i)
   unfolding all digitsAt isDigits
-  count-low = let g = digits-given in record { le = search (left, right, g) }
+  count-low = let g = digits-given p i w ns is ranged in record { le = search (left, right, g) }
 
   count-high : numberAt ns (suc i) ≤ℤ pos mostDigits
   unfolding all digitsAt isDigits
-  count-high = let g = digits-given in record { le = search (left, right, g) }
+  count-high = let g = digits-given p i w ns is ranged in record { le = search (left, right, g) }
 
 -- and the code's digit count is the line's
 module _ (s : Known) (w : Meant) (numbers : List ℤ) (n i k : ℕ) (inside : suc i < n)

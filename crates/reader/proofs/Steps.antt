@@ -5,13 +5,13 @@ use mathlib.Core.List.{List, [], _∷_}
 use mathlib.Core.Option.{Option, none, some}
 use Prim.Native.Nat.{ℕ, _*_, _%_, _≤_, _<_}
 use native.Mathlib.Omega.{arith}
-use lib.Dec.{T, eqb, leb, ltb, eqb→eq}
+use lib.Dec.{T, ltb}
 use lib.ListN.{length, getD, take, length-set}
-use lib.Seq.{getD-take, length-take-le}
-use lib.IntN.{ℤ, pos, negsuc, natAbs}
+use lib.Seq.{getD-take}
+use lib.IntN.{ℤ, pos, natAbs}
 use lib.Signed.{_≤ℤ_, nonNeg}
 use Rattle.algebra.proofs.Integer.Linear.{linear}
-use Rattle.algebra.proofs.Test.{left, ≡-test}
+use Rattle.algebra.proofs.Test.{left}
 use Rattle.meaning.specs.Word.{field, input, span, sum, relu, which, max, root, numberAt, sizeAt, kindOf, mostNumbers}
 use Rattle.meaning.specs.Line.{Line}
 use Rattle.meaning.specs.Word.{Word as Meant}
@@ -28,7 +28,8 @@ use Rattle.meaning.specs.Gadget.Root.{rootLine}
 use Rattle.meaning.specs.Meaning.{gadget, primeAfter, after}
 use Rattle.meaning.specs.Refusal.{all, onSome, isMade, isPlaced, rulesWith, rulesWithin, rules, firstBroken}
 use Rattle.meaning.specs.Kept.{Keeps}
-use Rattle.meaning.proofs.Lines.{digits-ranged}
+use Rattle.meaning.proofs.RowCounts.{length-groupRows, length-signRows, two-groups, four-groups}
+use Rattle.meaning.proofs.Lines.{not-below, digits-ranged, sum-odd}
 use Rattle.text.specs.Word.{wordOf}
 use Rattle.text.specs.declared.Word.{Word}
 use Rattle.text.specs.declared.Word.the-variants.{Field, In, Span, Sum, Relu, Which, Max, Root}
@@ -46,7 +47,7 @@ use Rattle.reader.specs.Size.{Adds}
 use Rattle.reader.specs.Step.{ParsedLine, toldBy, lineTold, Step, stops, stepOf, stepOption}
 use Rattle.reader.specs.declared.state.Counts.{Counts}
 use Rattle.reader.proofs.Growth.{Held, Grows}
-use Rattle.reader.proofs.Sizes.{HasCount, count-is, length-groupRows, length-signRows, two-groups, four-groups}
+use Rattle.reader.proofs.Sizes.{HasCount, count-is}
 
 -- ---- the arguments of a line's reader
 
@@ -127,20 +128,12 @@ grows-by-word s size root ns h k a = record { adds = a; narrowed-is = refl; prim
 -- ---- a sum, whose count is odd; a span, which names a value
 
 pub sum-count : {v : Word} → v ≡ Sum → (numbers : List ℤ) (m : ℕ) → m ≤ length numbers → kindOf (wordOf v) .isCounted (take m numbers) ≡ true → m % 2 ≡ 1
-unfolding kindOf wordOf
-sum-count q numbers m few e =
-    let counted : kindOf sum .isCounted (take m numbers) ≡ true = ap (λ (u : Word). kindOf (wordOf u) .isCounted (take m numbers)) (sym q) ∙ e in
-    let n : ℕ = length (take m numbers) in
-    let odd : n % 2 ≡ 1 = eqb→eq (n % 2) 1 (left (eqb (n % 2) 1) (leb n mostNumbers) (≡-test (kindOf sum .isCounted (take m numbers)) counted)) in
-    rw (length-take-le m numbers few) at odd
+unfolding wordOf
+sum-count q numbers m few e = sum-odd numbers m few (ap (λ (u : Word). kindOf (wordOf u) .isCounted (take m numbers)) (sym q) ∙ e)
 
 pub span-word : {v : Word} → v ≡ Span → wordOf v ≡ span
 unfolding wordOf
 span-word q = rw q refl
-
-pub not-below : (z : ℤ) → T (nonNeg z) → pos 0 ≤ℤ z
-not-below (pos n) t = omega linear
-not-below (negsuc n) t = absurd t
 
 pub name-counted : {m : ℕ} (s : Known) (numbers : List ℤ) (n r : ℕ) → 0 < n → (pos 0 ≤ℤ getD numbers 0 (pos 0) → r ≡ natAbs (getD numbers 0 (pos 0)))
     → Keeps m s (lineWith span (take n numbers)) → sizeAt (take n numbers) 0 ≡ r

@@ -6,7 +6,7 @@ use mathlib.Core.Bool.{Bool, true, false, cond, _&&_, and-false}
 use mathlib.Core.List.{[], _∷_}
 use Prim.Native.Nat.{ℕ, zero, suc, _+_, _-_, _*_, _^_, _≤_, _<_}
 use native.Mathlib.Omega.{arith}
-use native.Mathlib.Nat.{pow-zero, pow-suc, pow-le-pow-right, one-le-pow, mul-suc, mul-comm, mul-le-mul-left, mul-le-mul-right, one-mul, mul-one}
+use native.Mathlib.Nat.{pow-zero, pow-suc, pow-le-pow-right, one-le-pow, mul-le-mul-left, mul-le-mul-right, one-mul, mul-one}
 use lib.Dec.{T, leb, leb→le}
 use lib.IntN.{ℤ, pos, negsuc, natAbs}
 use lib.Signed.{nonNeg}
@@ -15,6 +15,7 @@ use mir.Val.{Fits}
 use borrow.Author.Tests.{le-leb, lt-leb}
 use Rattle.meaning.specs.Machine.{pastU32}
 use Rattle.algebra.proofs.Test.{≡-test, left, right}
+use Rattle.algebra.proofs.Digits.{less-one}
 use Rattle.meaning.specs.Number.{half}
 use Rattle.meaning.specs.Word.{Digits as Meant}
 use Rattle.meaning.specs.Known.{Ends, ends, digitRule, topPart}
@@ -122,10 +123,6 @@ power-step b (suc k) h = let count : suc k - 1 ≡ k = omega arith in rw count (
 
 pub step-above : (p b k : ℕ) → 1 ≤ b → p < b ^ (k - 1) → p < b ^ k
 step-above p b k h l = let most : b ^ (k - 1) ≤ b ^ k = pow-le-pow-right h (omega arith) in omega arith
-
-pub less-one : (b x : ℕ) → 1 ≤ b → x * b - x ≡ (b - 1) * x
-less-one zero x h = absurd (omega arith)
-less-one (suc b) x h = let base : suc b - 1 ≡ b = omega arith in rw base (omega (arith, mul-suc x b, mul-comm b x))
 
 -- part is 1 where k is 1; else it has b as a factor
 short-or-wide : (b k : ℕ) → 1 ≤ b → 1 ≤ k → (b ^ (k - 1) ≡ 1) ⊎ (b ≤ b ^ (k - 1))

@@ -26,14 +26,12 @@ use Rattle.meaning.specs.Gadget.Max.{maxLine}
 use Rattle.meaning.specs.Gadget.Root.{rootLine}
 use Rattle.meaning.specs.Meaning.{gadget}
 use Rattle.meaning.specs.Refusal.{valueLimit, all, isMade, isDigits}
-use Rattle.meaning.proofs.Lines.{made-name, after-field}
+use Rattle.meaning.proofs.Lines.{made-name, not-below, digits-given, after-field}
 use Rattle.meaning.proofs.Group.{rule-power}
 use Rattle.meaning.proofs.Law.{low-end, high-end, low-ranged, high-ranged}
 use Rattle.number.specs.Bounded.{Bounded}
 use Rattle.number.proofs.Bounded.{bounded-more, bounded-range}
 use Rattle.rules.proofs.Digits.{Allowed, digits-allowed}
-use Rattle.reader.proofs.Sizes.{digits-given}
-use Rattle.reader.proofs.Steps.{not-below}
 use Rattle.groups.specs.Cells.{valueBound}
 use Rattle.groups.specs.Numbers.{size, NameAt, DigitsFrom}
 use Rattle.table.specs.Line.{KeptLine, gadgetOf, knownCount}

@@ -19,7 +19,7 @@ use Rattle.meaning.specs.Reply.{Reply, reply}
 use Rattle.meaning.specs.Gadget.Sum.{termsOf, sumForm, sumLine}
 use Rattle.meaning.specs.Meaning.{gadget}
 use Rattle.text.specs.Word.{wordOf}
-use Rattle.reader.proofs.Steps.{sum-count}
+use Rattle.meaning.proofs.Lines.{sum-odd}
 use Rattle.rules.proofs.SumLine.{without-drop, terms-at}
 use Rattle.groups.specs.Rows.{Leaves, firstRefusal}
 use Rattle.groups.proofs.RowsFirst.{first-none, first-row}
@@ -116,7 +116,7 @@ module _ {p : ℕ} {numbers : List ℤ} {count : ℕ} {table : List ℕ} {cells 
     omega (arith, p-three a refl),
     a .below,
     omega (arith, a .room),
-    sum-count refl numbers count (omega (arith, a .kept .few, a .kept .numbers-long)) (a .kept .counted),
+    sum-odd numbers count (omega (arith, a .kept .few, a .kept .numbers-long)) (a .kept .counted),
     omega (arith, a .kept .numbers-long, a .kept .few),
     record {
       known = knownCount (a .kept);

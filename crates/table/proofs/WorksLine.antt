@@ -26,8 +26,7 @@ use Rattle.meaning.specs.Gadget.Root.{rootValue, rootLine}
 use Rattle.meaning.proofs.Lines.{terms-named}
 use Rattle.number.specs.Bounded.{Bounded}
 use Rattle.text.specs.Word.{wordOf}
-use Rattle.text.specs.declared.Word.the-variants.{Sum}
-use Rattle.reader.proofs.Steps.{sum-count}
+use Rattle.meaning.proofs.Lines.{sum-odd}
 use Rattle.groups.specs.Cells.{workedSeen, powerBound}
 use Rattle.groups.specs.Numbers.{size, OneRead, TwoRead}
 use Rattle.groups.specs.declared.value.Worked.{Worked}
@@ -108,7 +107,7 @@ module _ {numbers : List ℤ} {count : ℕ} {values : List ℤ} where
       let l = a .kept in
       let ns : List ℤ = take count numbers in
       record {
-        some-number = omega (arith, sum-count {v = Sum} refl numbers count (omega (arith, l .few, l .numbers-long)) (l .counted));
+        some-number = omega (arith, sum-odd numbers count (omega (arith, l .few, l .numbers-long)) (l .counted));
         all-numbers = omega (arith, l .few, l .numbers-long);
         all-values = omega (arith, values-most l, a .values-long);
         named = l .keeps .names-made;
