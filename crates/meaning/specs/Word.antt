@@ -86,6 +86,19 @@ named ns = numberAt ns 0 ∷ []
 abbrev bothNamed : List ℤ → List ℤ
 bothNamed ns = numberAt ns 0 ∷ numberAt ns 1 ∷ []
 
+-- a line that names no value
+abbrev kindWithout : (spelling : List ℕ) (isField : Bool) (count : ℕ) (gadget : Known → Gadget) → Kind
+kindWithout s f n g = record {
+  spelling = s;
+  isField = f;
+  isCounted = λ ns. eqb (length ns) n;
+  names = hasNone;
+  coefficients = hasNone;
+  shifts = hasNone;
+  digits = noDigits;
+  gadget = λ known ns. g known;
+}
+
 -- a line that makes a value of the one or two that it names, shown by digits
 abbrev kindWith : (spelling : List ℕ) (count : ℕ) (names : List ℤ → List ℤ) (digits : ℕ) (gadget : Known → List ℤ → Gadget) → Kind
 kindWith s n names i g = record {
@@ -100,26 +113,8 @@ kindWith s n names i g = record {
 }
 
 unfoldable pub kindOf : Word → Kind
-kindOf field = record {
-  spelling = bytes "field";
-  isField = true;
-  isCounted = λ ns. eqb (length ns) 1;
-  names = hasNone;
-  coefficients = hasNone;
-  shifts = hasNone;
-  digits = noDigits;
-  gadget = λ s ns. fieldLine s;
-}
-kindOf input = record {
-  spelling = bytes "in";
-  isField = false;
-  isCounted = λ ns. eqb (length ns) 0;
-  names = hasNone;
-  coefficients = hasNone;
-  shifts = hasNone;
-  digits = noDigits;
-  gadget = λ s ns. inputLine s;
-}
+kindOf field = kindWithout (bytes "field") true 1 fieldLine
+kindOf input = kindWithout (bytes "in") false 0 inputLine
 kindOf span = record {
   spelling = bytes "span";
   isField = false;

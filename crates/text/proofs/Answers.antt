@@ -6,8 +6,8 @@ use mathlib.Core.Option.{Option, none, some, Option·none-ne-some}
 use Prim.Native.Nat.{ℕ, zero, suc, _+_, _≤_, _<_}
 use native.Mathlib.Omega.{arith}
 use lib.IntN.{ℤ, pos, natAbs}
-use lib.ListN.{length, getD, take}
-use lib.Seq.{length-take-le, getD-take}
+use lib.ListN.{getD, take}
+use lib.Seq.{getD-take}
 use Rattle.meaning.specs.Text.{fieldsOf, number, largest}
 use Rattle.meaning.specs.Word.{words, kindOf, mostNumbers}
 use Rattle.meaning.specs.Line.{wordAmong, consNumber, numbersOf, assemble, lineOfFields, lineOf}
@@ -81,9 +81,6 @@ module _ {line : List ℕ} {before after : List ℤ} {r : Parsed} (read : LineRe
 
     pub line-counted : kindOf (wordOf w) .isCounted (take n after) ≡ true
     line-counted = good-line line line-seen .counted
-
-    pub line-taken : length before ≡ mostNumbers → length (take n after) ≡ n
-    line-taken room = length-take-le n after (omega (arith, read .left .kept, line-most))
 
     pub line-small : (i : ℕ) → i < n → natAbs (getD after i (pos 0)) ≤ largest
     line-small i h = rw (getD-take n after i (pos 0) h) at (good-line line line-seen .small i)
