@@ -1,4 +1,4 @@
-// The calls of the service, each printed on one line: the row of the paper, the call and what it was given, then what it returned and left.
+// The calls of the service, each printed on one line: the row's name, the call and what it was given, then what it returned and left.
 use super::print::print;
 use super::print::print_cells;
 use super::print::print_count;
