@@ -1,4 +1,4 @@
 pub mod Ready
-pub mod Told
+pub mod Yield
 pub mod Rule
 pub mod Sum

@@ -1,4 +1,4 @@
-pub mod Listed
+pub mod ReadList
 pub mod Standing
 pub mod Places
 pub mod Scan
