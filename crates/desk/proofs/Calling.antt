@@ -12,11 +12,11 @@ use Rattle.meaning.specs.Reply.{Reply as MeantReply}
 use Rattle.meaning.specs.Desk.{counted, called, fullCount, isAccepted, raised, deskAnswer}
 use Rattle.meaning.specs.Desk.{Desk as MeantDesk, Called as MeantCalled}
 use Rattle.meaning.proofs.Desk.{answers-full, answers-by-check}
-use Rattle.service.specs.Reply.{replySeen}
+use Rattle.service.specs.Reply.{replyMeaning}
 use Rattle.service.specs.declared.reply.Reply.{Reply}
 use Rattle.desk.specs.declared.Desk.{Desk}
 use Rattle.desk.specs.declared.Called.{Called}
-use Rattle.desk.specs.Desk.{Agrees, CountsOne, deskSeen, calledSeen}
+use Rattle.desk.specs.Desk.{Agrees, CountsOne, deskMeaning, calledMeaning}
 
 -- ---- the test of 19, with no sum that may pass 64 bits
 
@@ -33,12 +33,12 @@ disagree h a r lt = lt-leb a h lt ∙ sym (ne-eqb h (a + r) (λ q. omega arith))
 -- ---- raising
 
 module _ (d : Desk) (r : Reply) where
-  pub raise-accepted : r .number ≡ 0 → counted (d .heard + 1) (d .accepted + 1) (d .refused) ≡ raised (deskSeen d) (replySeen r)
-  unfolding deskSeen replySeen raised isAccepted
+  pub raise-accepted : r .number ≡ 0 → counted (d .heard + 1) (d .accepted + 1) (d .refused) ≡ raised (deskMeaning d) (replyMeaning r)
+  unfolding deskMeaning replyMeaning raised isAccepted
   raise-accepted e = rw (eq-eqb (r .number) 0 e) (simp unary-clauses refl)
 
-  pub raise-refused : (r .number ≡ 0 → ⊥) → counted (d .heard + 1) (d .accepted) (d .refused + 1) ≡ raised (deskSeen d) (replySeen r)
-  unfolding deskSeen replySeen raised isAccepted
+  pub raise-refused : (r .number ≡ 0 → ⊥) → counted (d .heard + 1) (d .accepted) (d .refused + 1) ≡ raised (deskMeaning d) (replyMeaning r)
+  unfolding deskMeaning replyMeaning raised isAccepted
   raise-refused e = rw (ne-eqb (r .number) 0 e) (simp unary-clauses refl)
 
 -- ---- the three ways of a call
@@ -48,23 +48,23 @@ module _ (d : Desk) (t : Bool) (is : t ≡ eqb (d .heard) (d .accepted + d .refu
   pub tested-agrees : not t ≡ false → Agrees d
   tested-agrees e = eqb-true _ _ (sym is ∙ not-false t e)
 
-  pub call-disagrees : (checked : MeantReply) → not t ≡ true → deskAnswer (deskSeen d) checked ≡ called (deskSeen d) (reply 19 0)
-  unfolding deskSeen deskAnswer
+  pub call-disagrees : (checked : MeantReply) → not t ≡ true → deskAnswer (deskMeaning d) checked ≡ called (deskMeaning d) (reply 19 0)
+  unfolding deskMeaning deskAnswer
   call-disagrees checked e = rw (sym is, not-true t e) refl
 
 module _ (d : Desk) (checked : MeantReply) (agrees : Agrees d) where
-  pub call-full : d .heard ≡ fullCount → deskAnswer (deskSeen d) checked ≡ called (deskSeen d) (reply 20 0)
-  unfolding deskSeen
-  call-full full = answers-full (deskSeen d) checked agrees full
+  pub call-full : d .heard ≡ fullCount → deskAnswer (deskMeaning d) checked ≡ called (deskMeaning d) (reply 20 0)
+  unfolding deskMeaning
+  call-full full = answers-full (deskMeaning d) checked agrees full
 
-  call-with-room : (d .heard ≡ fullCount → ⊥) → deskAnswer (deskSeen d) checked ≡ called (raised (deskSeen d) checked) checked
-  unfolding deskSeen
-  call-with-room room = answers-by-check (deskSeen d) checked agrees room
+  call-with-room : (d .heard ≡ fullCount → ⊥) → deskAnswer (deskMeaning d) checked ≡ called (raised (deskMeaning d) checked) checked
+  unfolding deskMeaning
+  call-with-room room = answers-by-check (deskMeaning d) checked agrees room
 
   pub call-counted : (d .heard ≡ fullCount → ⊥) → (c : Called)
-      → deskSeen (c .desk) ≡ raised (deskSeen d) (replySeen (c .reply)) → replySeen (c .reply) ≡ checked
-      → calledSeen c ≡ deskAnswer (deskSeen d) checked
-  unfolding calledSeen
+      → deskMeaning (c .desk) ≡ raised (deskMeaning d) (replyMeaning (c .reply)) → replyMeaning (c .reply) ≡ checked
+      → calledMeaning c ≡ deskAnswer (deskMeaning d) checked
+  unfolding calledMeaning
   call-counted room c raises checks = rw (call-with-room room, raises, checks) refl
 
 -- ---- what the contract says in plain words follows from its equation
@@ -72,8 +72,8 @@ module _ (d : Desk) (checked : MeantReply) (agrees : Agrees d) where
 same-counts : {m n : MeantDesk} → m ≡ n → (m .heard ≡ n .heard) × (m .accepted ≡ n .accepted) × (m .refused ≡ n .refused)
 same-counts e = (ap (λ (d : MeantDesk). d .heard) e, ap (λ (d : MeantDesk). d .accepted) e, ap (λ (d : MeantDesk). d .refused) e)
 
-one-more : (d : Desk) (c : Called) → Agrees d → deskSeen (c .desk) ≡ raised (deskSeen d) (replySeen (c .reply)) → CountsOne d c
-unfolding deskSeen
+one-more : (d : Desk) (c : Called) → Agrees d → deskMeaning (c .desk) ≡ raised (deskMeaning d) (replyMeaning (c .reply)) → CountsOne d c
+unfolding deskMeaning
 one-more d c agrees e = by-test (eqb (c .reply .number) 0) refl
   where
     by-test : (b : Bool) → eqb (c .reply .number) 0 ≡ b → CountsOne d c
@@ -86,12 +86,12 @@ one-more d c agrees e = by-test (eqb (c .reply .number) 0) refl
         let q = same-counts (e ∙ sym (raise-refused d (c .reply) other)) in
         record { agrees = omega (arith, q, agrees); heard = q .0; one-other = inr (other, q .1, q .2) }
 
-pub in-plain-words : (d : Desk) (checked : MeantReply) (c : Called) → calledSeen c ≡ deskAnswer (deskSeen d) checked
-    → (calledSeen c ≡ deskAnswer (deskSeen d) checked) × (Agrees d → d .heard < fullCount → CountsOne d c)
-unfolding calledSeen
+pub in-plain-words : (d : Desk) (checked : MeantReply) (c : Called) → calledMeaning c ≡ deskAnswer (deskMeaning d) checked
+    → (calledMeaning c ≡ deskAnswer (deskMeaning d) checked) × (Agrees d → d .heard < fullCount → CountsOne d c)
+unfolding calledMeaning
 in-plain-words d checked c e = (e, λ agrees room. one-more d c agrees (raises agrees room))
   where
-    raises : Agrees d → d .heard < fullCount → deskSeen (c .desk) ≡ raised (deskSeen d) (replySeen (c .reply))
+    raises : Agrees d → d .heard < fullCount → deskMeaning (c .desk) ≡ raised (deskMeaning d) (replyMeaning (c .reply))
     raises agrees room =
         let q = e ∙ call-with-room d checked agrees (λ full. omega arith) in
-        ap (λ (k : MeantCalled). k .desk) q ∙ ap (raised (deskSeen d)) (sym (ap (λ (k : MeantCalled). k .answer) q))
+        ap (λ (k : MeantCalled). k .desk) q ∙ ap (raised (deskMeaning d)) (sym (ap (λ (k : MeantCalled). k .answer) q))

@@ -5,36 +5,36 @@ use Rattle.meaning.specs.Reply.{Reply as MeantReply}
 use Rattle.meaning.specs.Desk.{freshDesk, fullCount, deskAnswer, Call, checkOf, deskOver, answersOver, deskAfter, deskReplies}
 use Rattle.meaning.specs.Desk.{Desk as MeantDesk, Called as MeantCalled}
 use Rattle.meaning.proofs.Desk.{counts}
-use Rattle.service.specs.Reply.{replySeen}
+use Rattle.service.specs.Reply.{replyMeaning}
 use Rattle.desk.specs.declared.Desk.{Desk}
 use Rattle.desk.specs.declared.Called.{Called}
-use Rattle.desk.specs.Desk.{Answers, Agrees, deskSeen, calledSeen}
+use Rattle.desk.specs.Desk.{Answers, Agrees, deskMeaning, calledMeaning}
 use Rattle.desk.specs.Run.{Run, no-call, then, callsOf, repliesOf, deskOf}
 use Rattle.desk.specs.Claims.{CodeCounts, CodeStaysFull, EveryListRuns, fullReply}
 use Rattle.desk.proofs.Calling.{call-full}
 
 -- ---- a run of the code is one of the definitions
 
-desk-of-run : {d : Desk} (run : Run d) → deskSeen (deskOf run) ≡ deskAfter (deskSeen d) (callsOf run)
-unfolding deskOver callsOf deskOf calledSeen
+desk-of-run : {d : Desk} (run : Run d) → deskMeaning (deskOf run) ≡ deskAfter (deskMeaning d) (callsOf run)
+unfolding deskOver callsOf deskOf calledMeaning
 desk-of-run (no-call d) = refl
 desk-of-run (then d c gave h run) = desk-of-run run ∙ ap (λ (k : MeantCalled). deskAfter (k .desk) (callsOf run)) h
 
-replies-of-run : {d : Desk} (run : Run d) → map replySeen (repliesOf run) ≡ deskReplies (deskSeen d) (callsOf run)
-unfolding answersOver callsOf repliesOf calledSeen
+replies-of-run : {d : Desk} (run : Run d) → map replyMeaning (repliesOf run) ≡ deskReplies (deskMeaning d) (callsOf run)
+unfolding answersOver callsOf repliesOf calledMeaning
 replies-of-run (no-call d) = refl
 replies-of-run (then d c gave h run) =
-    ap (λ (rs : List MeantReply). replySeen (gave .reply) ∷ rs) (replies-of-run run)
+    ap (λ (rs : List MeantReply). replyMeaning (gave .reply) ∷ rs) (replies-of-run run)
     ∙ ap (λ (k : MeantCalled). k .answer ∷ deskReplies (k .desk) (callsOf run)) h
 
 -- ---- up to the full count
 
 pub code-counts : CodeCounts
-unfolding deskSeen
+unfolding deskMeaning
 code-counts d run fresh few =
-    let after : deskSeen (deskOf run) ≡ deskAfter freshDesk (callsOf run) =
+    let after : deskMeaning (deskOf run) ≡ deskAfter freshDesk (callsOf run) =
     desk-of-run run ∙ ap (λ (m : MeantDesk). deskAfter m (callsOf run)) fresh in
-    let replies : map replySeen (repliesOf run) ≡ deskReplies freshDesk (callsOf run) =
+    let replies : map replyMeaning (repliesOf run) ≡ deskReplies freshDesk (callsOf run) =
     replies-of-run run ∙ ap (λ (m : MeantDesk). deskReplies m (callsOf run)) fresh in
     let c = rw (sym after) at (counts (callsOf run) few) in
     (c .0, c .1, c .2, c .3, replies ∙ c .4)
@@ -48,19 +48,19 @@ code-of k =
       reply = record { number = k .answer .number; place = k .answer .place };
     }
 
-seen-code : (k : MeantCalled) → calledSeen (code-of k) ≡ k
-unfolding calledSeen deskSeen replySeen code-of
-seen-code k = refl
+meaning-code : (k : MeantCalled) → calledMeaning (code-of k) ≡ k
+unfolding calledMeaning deskMeaning replyMeaning code-of
+meaning-code k = refl
 
-same-called : (c e : Called) → calledSeen c ≡ calledSeen e → c ≡ e
-unfolding calledSeen deskSeen replySeen code-of
+same-called : (c e : Called) → calledMeaning c ≡ calledMeaning e → c ≡ e
+unfolding calledMeaning deskMeaning replyMeaning code-of
 same-called c e q = ap code-of q
 
 -- ---- at the full count
 
 full-call : (d : Desk) (c : Call) (gave : Called) → Agrees d → d .heard ≡ fullCount
     → Answers d c gave → gave ≡ record { desk = d; reply = fullReply c }
-unfolding calledSeen replySeen fullReply
+unfolding calledMeaning replyMeaning fullReply
 full-call d c gave agrees full h =
     same-called gave (record { desk = d; reply = fullReply c }) (h ∙ call-full d (checkOf c) agrees full)
 
@@ -79,7 +79,7 @@ pub every-list-runs : EveryListRuns
 unfolding callsOf
 every-list-runs d [] = (no-call d, refl)
 every-list-runs d (c ∷ cs) =
-    let answer : MeantCalled = deskAnswer (deskSeen d) (checkOf c) in
+    let answer : MeantCalled = deskAnswer (deskMeaning d) (checkOf c) in
     let gave : Called = code-of answer in
     let rest = every-list-runs (gave .desk) cs in
-    (then d c gave (seen-code answer) (rest .0), ap (λ (xs : List Call). c ∷ xs) (rest .1))
+    (then d c gave (meaning-code answer) (rest .0), ap (λ (xs : List Call). c ∷ xs) (rest .1))

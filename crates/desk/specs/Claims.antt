@@ -6,7 +6,7 @@ use mathlib.Core.List.{List, map}
 use lib.ListN.{length}
 use Rattle.meaning.specs.Desk.{fullCount, Call, checkOf}
 use Rattle.meaning.specs.Claims.{howMany, passes}
-use Rattle.service.specs.Reply.{replySeen}
+use Rattle.service.specs.Reply.{replyMeaning}
 use Rattle.service.specs.declared.reply.Reply.{Reply}
 use Rattle.desk.specs.declared.Desk.{Desk}
 use Rattle.desk.specs.Desk.{Fresh, Agrees}
@@ -20,7 +20,7 @@ CodeCounts =
     × (deskOf run .heard ≡ length (callsOf run))
     × (deskOf run .accepted ≡ howMany passes (callsOf run))
     × (deskOf run .refused ≡ howMany (λ c. not (passes c)) (callsOf run))
-    × (map replySeen (repliesOf run) ≡ map checkOf (callsOf run))
+    × (map replyMeaning (repliesOf run) ≡ map checkOf (callsOf run))
 
 -- every list of calls has a run from every desk: the claims are not empty
 abbrev pub EveryListRuns : Type 0

@@ -4,23 +4,23 @@ use mathlib.Core.Path.{_≡_}
 use mathlib.Core.Logic.{_⊎_, _≢_}
 use Rattle.meaning.specs.Desk.{counted, freshDesk, called, deskAnswer, Call, checkOf}
 use Rattle.meaning.specs.Desk.{Desk as MeantDesk, Called as MeantCalled}
-use Rattle.service.specs.Reply.{replySeen}
+use Rattle.service.specs.Reply.{replyMeaning}
 use Rattle.desk.specs.declared.Desk.{Desk}
 use Rattle.desk.specs.declared.Called.{Called}
 
-unfoldable pub deskSeen : Desk → MeantDesk
-deskSeen d = counted (d .heard) (d .accepted) (d .refused)
+unfoldable pub deskMeaning : Desk → MeantDesk
+deskMeaning d = counted (d .heard) (d .accepted) (d .refused)
 
-unfoldable pub calledSeen : Called → MeantCalled
-calledSeen c = called (deskSeen (c .desk)) (replySeen (c .reply))
+unfoldable pub calledMeaning : Called → MeantCalled
+calledMeaning c = called (deskMeaning (c .desk)) (replyMeaning (c .reply))
 
 -- a fresh desk, as `Desk::fresh` promises it: three counts, all 0. FORMAT 9.11
 abbrev pub Fresh : Desk → Type 0
-Fresh d = deskSeen d ≡ freshDesk
+Fresh d = deskMeaning d ≡ freshDesk
 
 -- what a call of this desk gave is what the definitions give, for every desk, list and table. FORMAT 9.1, 9.2, 9.12
 abbrev pub Answers : Desk → Call → Called → Type 0
-Answers d c gave = calledSeen gave ≡ deskAnswer (deskSeen d) (checkOf c)
+Answers d c gave = calledMeaning gave ≡ deskAnswer (deskMeaning d) (checkOf c)
 
 -- the counts of a desk agree. FORMAT 9.13
 abbrev pub Agrees : Desk → Type 0

@@ -8,8 +8,8 @@ ghost use lib.Dec.{eqb};
 ghost use Rattle.meaning.specs.Reply.{reply};
 ghost use Rattle.meaning.specs.Desk.{fullCount, called, callOf};
 ghost use Rattle.meaning.specs.Desk.{raised as raisedDesk};
-ghost use Rattle.service.specs.Reply.{replySeen};
-ghost use Rattle.desk.specs.Desk.{deskSeen, calledSeen, Fresh, Answers, Agrees, CountsOne};
+ghost use Rattle.service.specs.Reply.{replyMeaning};
+ghost use Rattle.desk.specs.Desk.{deskMeaning, calledMeaning, Fresh, Answers, Agrees, CountsOne};
 
 const FULL_COUNT: u64 = 18446744073709551615;
 
@@ -60,7 +60,7 @@ impl Desk {
 
     // A call that is not counted: the desk stays as it is.
     fn refusal(self, number: u32) -> Called
-        ensures { λ r. ⌜ calledSeen r ≡ called (deskSeen self) (reply number 0) ⌝ }
+        ensures { λ r. ⌜ calledMeaning r ≡ called (deskMeaning self) (reply number 0) ⌝ }
     {
         Called {
             desk: self,
@@ -81,7 +81,7 @@ impl Desk {
     // heard and one other count are one more.
     fn raised(self, reply: Reply) -> Desk
         requires { ⌜ Agrees self × (self .heard ≡ fullCount → ⊥) ⌝ }
-        ensures { λ r. ⌜ deskSeen r ≡ raisedDesk (deskSeen self) (replySeen reply) ⌝ }
+        ensures { λ r. ⌜ deskMeaning r ≡ raisedDesk (deskMeaning self) (replyMeaning reply) ⌝ }
     {
         let heard = self.heard + 1;
         let accepted = self.accepted + 1;

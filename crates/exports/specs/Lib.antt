@@ -1,3 +1,3 @@
--- What the contracts of the functions by the C ABI cite, beside the definitions of meaning.
+-- What the functions of the C ABI write where a reply or a part of a table cannot cross it as it is.
 pub mod Read
 pub mod Show

@@ -72,22 +72,22 @@ module _ (p : ℕ) (t : List ℕ) (first at b k : ℕ) where
 -- ---- the digits' value
 
 -- part is b ^ i, and v is the value of the first i digits: with that of the digits from there on, part times, it makes the whole value
-pub record Seen (t : List ℕ) (at b k i v part : ℕ) : Type 0 where
+pub record PowerSum (t : List ℕ) (at b k i v part : ℕ) : Type 0 where
   pub part-is : part ≡ b ^ i
   pub below : v < part
   pub whole : value b (cellsAt t at k) ≡ v + part * value b (cellsAt t (at + i) (k - i))
 
 module _ (t : List ℕ) (at b k : ℕ) where
-  pub seen-none : Seen t at b k 0 0 1
-  seen-none =
+  pub meaning-none : PowerSum t at b k 0 0 1
+  meaning-none =
       let e : at + 0 ≡ at = omega arith in
       let u : k - 0 ≡ k = omega arith in
       record { part-is = sym (pow-zero b); below = omega arith; whole = rw (e, u) (omega arith) }
 
-  pub seen-next : {i v part : ℕ} → Seen t at b k i v part → at + k ≤ length t → i < k → getD t (at + i) 0 < b
-      → Seen t at b k (i + 1) (v + getD t (at + i) 0 * part) (part * b)
+  pub meaning-next : {i v part : ℕ} → PowerSum t at b k i v part → at + k ≤ length t → i < k → getD t (at + i) 0 < b
+      → PowerSum t at b k (i + 1) (v + getD t (at + i) 0 * part) (part * b)
   unfolding value
-  seen-next {i} {v} {part} s room h l =
+  meaning-next {i} {v} {part} s room h l =
       let d : ℕ = getD t (at + i) 0 in
       let e : k - i ≡ suc (k - (i + 1)) = omega arith in
       let u : suc (at + i) ≡ at + (i + 1) = omega arith in
@@ -101,23 +101,23 @@ module _ (t : List ℕ) (at b k : ℕ) where
       }
 
   -- two digits at once, the second of which counts b times as much as the first
-  pub seen-two : {i v part : ℕ} → Seen t at b k i v part → at + k ≤ length t → i + 1 < k → getD t (at + i) 0 < b → getD t (at + i + 1) 0 < b
-      → Seen t at b k (i + 2) (v + (getD t (at + i) 0 + getD t (at + i + 1) 0 * b) * part) (part * (b * b))
-  seen-two {i} {v} {part} s room h low high =
+  pub meaning-two : {i v part : ℕ} → PowerSum t at b k i v part → at + k ≤ length t → i + 1 < k → getD t (at + i) 0 < b → getD t (at + i + 1) 0 < b
+      → PowerSum t at b k (i + 2) (v + (getD t (at + i) 0 + getD t (at + i + 1) 0 * b) * part) (part * (b * b))
+  meaning-two {i} {v} {part} s room h low high =
       let d : ℕ = getD t (at + i) 0 in
       let e : at + i + 1 ≡ at + (i + 1) = omega arith in
       let u : i + 2 ≡ i + 1 + 1 = omega arith in
       let sum : v + (d + getD t (at + (i + 1)) 0 * b) * part ≡ v + d * part + getD t (at + (i + 1)) 0 * (part * b) = omega arith in
       let power : part * (b * b) ≡ part * b * b = omega arith in
-      rw (e, u, sum, power) (seen-next (seen-next s room (omega arith) low) room h (rw e at high))
+      rw (e, u, sum, power) (meaning-next (meaning-next s room (omega arith) low) room h (rw e at high))
 
   -- so far as k digits nothing is above b ^ k
-  pub seen-most : {i v part : ℕ} → Seen t at b k i v part → 0 < b → i ≤ k → part ≤ b ^ k
-  seen-most s h l = rw (s .part-is) (pow-le-pow-right h l)
+  pub meaning-most : {i v part : ℕ} → PowerSum t at b k i v part → 0 < b → i ≤ k → part ≤ b ^ k
+  meaning-most s h l = rw (s .part-is) (pow-le-pow-right h l)
 
-  seen-all : (p : ℕ) {i v part : ℕ} → Seen t at b k i v part → at + k ≤ length t → i ≡ k → b ^ k ≤ p → Leaves p t v (placeValues 1 at b k)
+  meaning-all : (p : ℕ) {i v part : ℕ} → PowerSum t at b k i v part → at + k ≤ length t → i ≡ k → b ^ k ≤ p → Leaves p t v (placeValues 1 at b k)
   unfolding value
-  seen-all p {i} {v} {part} s room e h =
+  meaning-all p {i} {v} {part} s room e h =
       let u : k - i ≡ 0 = omega arith in
       let whole : value b (cellsAt t at k) ≡ v = s .whole ∙ rw (u, cellsAt-zero t (at + i), mul-zero, add-zero) refl in
       let l : v < p = omega (arith, s .below, s .part-is ∙ ap (λ n. b ^ n) e) in
@@ -153,12 +153,12 @@ module _ (p : ℕ) (t : List ℕ) (f : Form) (L : ℤ) (first at b k : ℕ) wher
       test = rw (e, ← l .is) refl
 
   -- where k digits were looked at, their value is tested
-  pub group-seen : {i number v part : ℕ} {r : Option Reply} → i ≡ k → at + k ≤ length t → b ^ k ≤ p → remainder p (eval t f -ℤ L) ≡ number
-      → Seen t at b k i v part
+  pub group-meaning : {i number v part : ℕ} {r : Option Reply} → i ≡ k → at + k ≤ length t → b ^ k ≤ p → remainder p (eval t f -ℤ L) ≡ number
+      → PowerSum t at b k i v part
       → firstRefusal (holds p t) first (digitRows at b k) ≡ firstRefusal (holds p t) (first + i) (digitRows (at + i) b (k - i))
       → r ≡ cond (eqb number v) none (some (reply 15 (first + k))) → r ≡ firstRefusal (holds p t) first (group f L at b k)
-  group-seen {i} all room h e s digits =
-      group-answer e (seen-all t at b k p s room all h) (sym (digits ∙ digits-end p t first at b k i (omega arith)))
+  group-meaning {i} all room h e s digits =
+      group-answer e (meaning-all t at b k p s room all h) (sym (digits ∙ digits-end p t first at b k i (omega arith)))
 
 -- a group, and then other rows, the first of which has the number m
 pub group-then : (p : ℕ) (t : List ℕ) (n m : ℕ) (f : Form) (L : ℤ) (at b k : ℕ) (rows : List Row) {r digits later : Option Reply}

@@ -4,17 +4,17 @@ use mathlib.Core.Bool.{Bool, true, false, cond}
 use mathlib.Core.List.{List, [], _∷_}
 use lib.IntN.{ℤ}
 use Rattle.meaning.specs.Refusal.{value, refusedBy}
-use Rattle.groups.specs.Cells.{workedSeen}
+use Rattle.groups.specs.Cells.{workedMeaning}
 use Rattle.groups.specs.declared.value.Worked.the-variants.{Value, NoValue, False}
 
-pub value-worked : (statement : Bool) (z x : ℤ) → statement ≡ true → z ≡ x → workedSeen (Value z) ≡ cond statement (value (x ∷ [])) (refusedBy 18)
-unfolding workedSeen
+pub value-worked : (statement : Bool) (z x : ℤ) → statement ≡ true → z ≡ x → workedMeaning (Value z) ≡ cond statement (value (x ∷ [])) (refusedBy 18)
+unfolding workedMeaning
 value-worked statement z x t e = rw (t, e) refl
 
-pub no-value-worked : (statement : Bool) → statement ≡ true → workedSeen NoValue ≡ cond statement (value []) (refusedBy 18)
-unfolding workedSeen
+pub no-value-worked : (statement : Bool) → statement ≡ true → workedMeaning NoValue ≡ cond statement (value []) (refusedBy 18)
+unfolding workedMeaning
 no-value-worked statement t = rw t refl
 
-pub false-worked : (statement : Bool) (values : List ℤ) → statement ≡ false → workedSeen False ≡ cond statement (value values) (refusedBy 18)
-unfolding workedSeen
+pub false-worked : (statement : Bool) (values : List ℤ) → statement ≡ false → workedMeaning False ≡ cond statement (value values) (refusedBy 18)
+unfolding workedMeaning
 false-worked statement values f = rw f refl

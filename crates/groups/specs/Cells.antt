@@ -22,10 +22,10 @@ abbrev pub formBound : ℕ
 formBound = 2 ^ 61
 
 -- the values that the line makes, or refusal 18 where its statement is false
-unfoldable pub workedSeen : Worked → Result (List ℤ)
-workedSeen (Value z) = value (z ∷ [])
-workedSeen NoValue = value []
-workedSeen False = refusedBy 18
+unfoldable pub workedMeaning : Worked → Result (List ℤ)
+workedMeaning (Value z) = value (z ∷ [])
+workedMeaning NoValue = value []
+workedMeaning False = refusedBy 18
 
 -- the numbers of a digit group: the base, the count of its digits, and c = b ^ k
 pub record GroupOf (b k c : ℕ) : Type 0 where

@@ -11,9 +11,9 @@ use Rattle.groups.specs.declared.rows.Rows.{Rows}
 use Rattle.groups.specs.declared.rows.Rows.the-variants.{AllHold, Fails}
 
 -- no refusal, or refusal 15 at the first row that fails
-unfoldable pub rowsSeen : Rows → Option Reply
-rowsSeen AllHold = none
-rowsSeen (Fails i) = some (reply 15 i)
+unfoldable pub rowsMeaning : Rows → Option Reply
+rowsMeaning AllHold = none
+rowsMeaning (Fails i) = some (reply 15 i)
 
 -- refusal 15 at the first of some rows that fails the test, where one does; places count from n
 abbrev pub firstRefusal : {A : Type 0} → (A → Bool) → ℕ → List A → Option Reply

@@ -19,7 +19,7 @@ ghost use Rattle.meaning.specs.Number.{remainder};
 ghost use Rattle.meaning.specs.Row.{Form, eval, holds, group};
 ghost use Rattle.meaning.specs.Gadget.Digits.{groupCells};
 ghost use Rattle.number.specs.Bounded.{Bounded};
-ghost use Rattle.groups.specs.Rows.{rowsSeen, firstRefusal};
+ghost use Rattle.groups.specs.Rows.{rowsMeaning, firstRefusal};
 ghost use Rattle.groups.specs.Cells.{GroupOf, formBound, powerBound};
 
 // c = b ^ k.
@@ -106,7 +106,7 @@ pub fn two_groups(out: &mut [u32], first: i64, second: i64, b: u32, k: usize)
 pub fn group_rows(table: &[u32], number: Residue, first: usize, at: Cell, b: u32, k: usize) -> Rows
     requires { ⌜ GroupOf b k (b ^ k) × (at .0 + k ≤ length (now table)) × (first + k < pastU64) ⌝ }
     ensures { λ r. ⌜ ((p : ℕ) (f : Form) (L : ℤ) → b ^ k ≤ p → remainder p (eval (now (table .entry)) f -ℤ L) ≡ number .0
-        → rowsSeen r ≡ firstRefusal (holds p (now (table .entry))) first (group f L (at .0) b k)) ⌝ }
+        → rowsMeaning r ≡ firstRefusal (holds p (now (table .entry))) first (group f L (at .0) b k)) ⌝ }
 {
     let mut value: u32 = 0;
     let mut part: u32 = 1;

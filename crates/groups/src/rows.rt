@@ -8,7 +8,7 @@ ghost use mathlib.Core.Option.{some};
 ghost use Prim.Native.Nat.{_<_};
 ghost use lib.ListN.{length, getD};
 ghost use Rattle.meaning.specs.Reply.{reply};
-ghost use Rattle.groups.specs.Rows.{rowsSeen, firstOf};
+ghost use Rattle.groups.specs.Rows.{rowsMeaning, firstOf};
 
 // The number of the first row that fails, counted from 0 in its line.
 pub enum Rows {
@@ -27,14 +27,14 @@ pub fn residue_at(table: &[u32], at: Cell) -> Residue
 
 // One row, of this number, and then others.
 pub fn row_before(holds: bool, row: usize, later: Rows) -> Rows
-    ensures { λ r. ⌜ rowsSeen r ≡ cond holds (rowsSeen later) (some (reply 15 row)) ⌝ }
+    ensures { λ r. ⌜ rowsMeaning r ≡ cond holds (rowsMeaning later) (some (reply 15 row)) ⌝ }
 {
     if holds { later } else { Rows::Fails(row) }
 }
 
 // Some rows, and then others.
 pub fn rows_before(earlier: Rows, later: Rows) -> Rows
-    ensures { λ r. ⌜ rowsSeen r ≡ firstOf (rowsSeen earlier) (rowsSeen later) ⌝ }
+    ensures { λ r. ⌜ rowsMeaning r ≡ firstOf (rowsMeaning earlier) (rowsMeaning later) ⌝ }
 {
     match earlier {
         Rows::AllHold => later,

@@ -32,7 +32,7 @@ ghost use Rattle.meaning.specs.Row.{Form, cell, constant, _⊖_, _⊗_, eval, R
 ghost use Rattle.meaning.specs.Gadget.Sign.{signStatement, signCells, signShift, signRows};
 ghost use Rattle.number.specs.Bounded.{Bounded};
 ghost use Rattle.groups.specs.Cells.{flagCells, GroupOf, powerBound};
-ghost use Rattle.groups.specs.Rows.{rowsSeen, firstRefusal, Leaves};
+ghost use Rattle.groups.specs.Rows.{rowsMeaning, firstRefusal, Leaves};
 
 // ---- working
 
@@ -112,7 +112,7 @@ pub fn sign_rows(
     requires { ⌜ (1 < p) × Below p (now table) × (at .0 + k + 2 ≤ length (now table)) × GroupOf b k (b ^ k) × (b ^ k ≤ p) ⌝ }
     ensures { λ r. ⌜ ((form : Form) (row : Form → Row) → remainder p (eval (now (table .entry)) form -ℤ signShift b k) ≡ number .0
         → last ≡ holds p (now (table .entry)) (row (cell (at .0 + k)))
-        → rowsSeen r ≡ firstRefusal (holds p (now (table .entry))) 0 (signRows form (at .0) b k row)) ⌝ }
+        → rowsMeaning r ≡ firstRefusal (holds p (now (table .entry))) 0 (signRows form (at .0) b k row)) ⌝ }
 {
     let digit = residue_at(table, Cell(at.0 + (k - 1)));
     let top = difference(digit, Residue(b - 1), p);
@@ -127,7 +127,7 @@ pub fn sign_rows(
 fn flag_rows(p: u32, top: Residue, flag: Residue, witness: Residue, last: bool, row: usize) -> Rows
     requires { ⌜ (1 < p) × (flag .0 < p) × (row + 3 < pastU64) ⌝ }
     ensures { λ r. ⌜ ((t : List ℕ) (T F W : Form) (x : Row) → Leaves p t (top .0) T → Leaves p t (flag .0) F → Leaves p t (witness .0) W
-        → last ≡ holds p t x → rowsSeen r ≡ firstRefusal (holds p t) row (T ⊗ W ≅ constant (pos 1) ⊖ F ∷ T ⊗ F ≅ constant (pos 0)
+        → last ≡ holds p t x → rowsMeaning r ≡ firstRefusal (holds p t) row (T ⊗ W ≅ constant (pos 1) ⊖ F ∷ T ⊗ F ≅ constant (pos 0)
         ∷ W ⊗ F ≅ constant (pos 0) ∷ x ∷ [])) ⌝ }
 {
     let other = difference(Residue(1), flag, p);

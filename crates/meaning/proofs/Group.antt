@@ -125,7 +125,7 @@ module _ (p : ℕ) (t : List ℕ) where
   -- the rows hold exactly where Q does and the n cells from the one called at are xs
   pub record Tells (rows : List Row) (at n : ℕ) (Q : Type 0) (xs : List ℕ) : Type 0 where
     pub count : length xs ≡ n
-    pub told : Hold p t rows ↔ (Q × (cellsAt t at n ≡ xs))
+    pub yields : Hold p t rows ↔ (Q × (cellsAt t at n ≡ xs))
 
   pub tells-group : (f : Form) {E F L x : ℤ} (at : ℕ) {b k : ℕ} → zero < p → at + k ≤ length t → Congruent p (eval t f) x
       → DigitRule p b k E F L x → Tells (group f L at b k) at k (Spanned b k L x) (groupCells b k x L)
@@ -133,7 +133,7 @@ module _ (p : ℕ) (t : List ℕ) where
       let holds = group-holds p t f at h room c rule in
       record {
         count = length-group b k x L;
-        told = (λ e. let g = holds .0 e in ((g .0, g .1), g .2), λ e. holds .1 (e .0 .0, e .0 .1, e .1));
+        yields = (λ e. let g = holds .0 e in ((g .0, g .1), g .2), λ e. holds .1 (e .0 .0, e .0 .1, e .1));
       }
 
   -- rows, and a group at the cells after theirs; what the rows say may serve for its digit rule
@@ -143,15 +143,15 @@ module _ (p : ℕ) (t : List ℕ) where
       → Tells (rows ++ group f L next b k) at m (Q × Spanned b k L x) (xs ++ groupCells b k x L)
   tells-more {rows} {at} {n} {Q} {xs} before f {E} {F} {L} {x} next {b} {k} m place width h room c rule =
       let all = hold-append p t rows (group f L next b k) in
-      let old = before .told in
+      let old = before .yields in
       record {
         count = omega (arith, length-more xs b k x L, before .count);
-        told = (
+        yields = (
           λ e. let g = all .0 e in
               let o = old .0 (g .0) in
-              let i = own (o .0) .told .0 (g .1) in
+              let i = own (o .0) .yields .0 (g .1) in
               ((o .0, i .0), cells .1 (o .1, i .1)),
-          λ e. let i = cells .0 (e .1) in all .1 (old .1 (e .0 .0, i .0), own (e .0 .0) .told .1 (e .0 .1, i .1)),
+          λ e. let i = cells .0 (e .1) in all .1 (old .1 (e .0 .0, i .0), own (e .0 .0) .yields .1 (e .0 .1, i .1)),
         );
       }
     where

@@ -218,13 +218,13 @@ module _ (s′ : Known) (t : List ℕ) (long : length t ≡ s′ .cells) (below 
         )
 
     -- the first line by its law, and the later lines by the induction
-    first-told : ((vs′ : List ℤ) → Within (after s l .known) vs′ → InCells (s′ .p) t (after s l .places) vs′ → ExactFrom (suc n) (after s l) vs′ ls)
+    first-yield : ((vs′ : List ℤ) → Within (after s l .known) vs′ → InCells (s′ .p) t (after s l .places) vs′ → ExactFrom (suc n) (after s l) vs′ ls)
         → ExactFrom n s vs (l ∷ ls)
     unfolding rowsFrom
-    first-told later = (
+    first-yield later = (
       λ r. let a = split .0 r in let q = rows .0 (a .0) in
-          let e = told (q .0) (q .1) .0 (a .1) in (e .0, work-joined (e .0) (q .0) (q .1) (e .1), e .2, e .3),
-      λ ws e. let q = work-parted ws e in split .1 (rows .1 (q .0, q .1), told (q .0) (q .1) .1 ws (q .2)),
+          let e = yields (q .0) (q .1) .0 (a .1) in (e .0, work-joined (e .0) (q .0) (q .1) (e .1), e .2, e .3),
+      λ ws e. let q = work-parted ws e in split .1 (rows .1 (q .0, q .1), yields (q .0) (q .1) .1 ws (q .2)),
     )
       where
         rows : Hold (s′ .p) t (g .rows) ↔ (T (g .statement vs) × (cellsAt t (s .cells) (g .width) ≡ g .cells vs next))
@@ -233,8 +233,8 @@ module _ (s′ : Known) (t : List ℕ) (long : length t ≡ s′ .cells) (below 
         split : Hold (s′ .p) t (g .rows ++ rowsFrom (after s l) ls) ↔ (Hold (s′ .p) t (g .rows) × Hold (s′ .p) t (rowsFrom (after s l) ls))
         split = hold-append (s′ .p) t (g .rows) (rowsFrom (after s l) ls)
 
-        told : T (g .statement vs) → cellsAt t (s .cells) (g .width) ≡ g .cells vs next → ExactFrom (suc n) (after s l) values-after ls
-        told holds cells = later values-after (within-after (s′ .p) t s l law vs next within in-cells holds in-range)
+        yields : T (g .statement vs) → cellsAt t (s .cells) (g .width) ≡ g .cells vs next → ExactFrom (suc n) (after s l) values-after ls
+        yields holds cells = later values-after (within-after (s′ .p) t s l law vs next within in-cells holds in-range)
             (cells-after (s′ .p) t s l law vs next within in-cells holds in-range cells)
 
   pub rows-iff : (ls : List Line) (n : ℕ) (s : Known) (vs : List ℤ) → Kept n s ls s′ → Sound n s → Within (s .known) vs
@@ -253,4 +253,4 @@ module _ (s′ : Known) (t : List ℕ) (long : length t ≡ s′ .cells) (below 
       nothing-left : drop (s .cells) t ≡ []
       nothing-left = rw (ap (λ (q : Known). q .cells) k, ← long) (drop-length t)
   rows-iff (l ∷ ls) n s vs k h w c =
-      first-told l ls n s vs k h w c (λ vs′. rows-iff ls (suc n) (after s l) vs′ (k .1) (sound-after n s l h (keeps-all n s l (k .0))))
+      first-yield l ls n s vs k h w c (λ vs′. rows-iff ls (suc n) (after s l) vs′ (k .1) (sound-after n s l h (keeps-all n s l (k .0))))

@@ -126,9 +126,9 @@ field-alone text l s is-read t =
     let keeps = keeps-all 0 fresh l (kept .0) in
     let cells : 0 + gadget fresh l .width ≡ s .cells = ap (λ (q : Known). q .cells) (kept .1) in
     let none : s .cells ≡ 0 = omega (arith, no-cell fresh l keeps) in
-    let told = accepted-iff text (l ∷ []) s t is-read in (
-      λ a. empty t (told .0 a .0 .long ∙ none),
-      λ e. told .1 (
+    let yields = accepted-iff text (l ∷ []) s t is-read in (
+      λ a. empty t (yields .0 a .0 .long ∙ none),
+      λ e. yields .1 (
         record { long = rw e (sym none); below = λ i h. absurd (omega (arith, ap (λ (q : List ℕ). length q) e)) },
         λ i h. absurd (omega (arith, ap (λ (q : List Row). length q) (ap (λ (q : List Row). q ++ []) (no-row fresh l keeps)))),
       ),

@@ -29,7 +29,7 @@ use Rattle.meaning.proofs.Lines.{sound-after, sound-fresh}
 use Rattle.meaning.proofs.Reading.{read-kept}
 use Rattle.meaning.proofs.Rows.{accepted-iff}
 use Rattle.meaning.proofs.Induction.{rows-iff, cellsIn, IsTrue}
-use Rattle.meaning.proofs.Working.{Made, working-gives}
+use Rattle.meaning.proofs.Working.{MadeValues, working-gives}
 
 -- ---- tables with all cells below p, told cell by cell and as a whole
 
@@ -82,12 +82,12 @@ module _ (text : List ℕ) (ls : List Line) (s : Known) (is-read : reading text 
   accepts t = (
     λ a.
         let q = accepted-iff text ls s t is-read .0 a in
-        let told = rows-iff s t (q .0 .long) (below-each (s .p) t (q .0 .below)) ls 0 fresh [] kept sound-fresh tt tt in
-        let e = told .0 (hold-each (s .p) t (rowsOf ls) .1 (q .1)) in
+        let yields = rows-iff s t (q .0 .long) (below-each (s .p) t (q .0 .below)) ls 0 fresh [] kept sound-fresh tt tt in
+        let e = yields .0 (hold-each (s .p) t (rowsOf ls) .1 (q .1)) in
         (q .0, e .1 ∙ ap (λ (ws : List ℤ). true-table ws t) (sym (values-are t (e .0) (e .2) (e .3)))),
     λ h.
-        let told = rows-iff s t (h .0 .long) (below-each (s .p) t (h .0 .below)) ls 0 fresh [] kept sound-fresh tt tt in
-        accepted-iff text ls s t is-read .1 (h .0, hold-each (s .p) t (rowsOf ls) .0 (told .1 (valuesOf s t) (h .1))),
+        let yields = rows-iff s t (h .0 .long) (below-each (s .p) t (h .0 .below)) ls 0 fresh [] kept sound-fresh tt tt in
+        accepted-iff text ls s t is-read .1 (h .0, hold-each (s .p) t (rowsOf ls) .0 (yields .1 (valuesOf s t) (h .1))),
   )
 
 pub accepts-true-tables : AcceptsTrueTables
@@ -107,7 +107,7 @@ module _ (text : List ℕ) (ls : List Line) (s : Known) (is-read : reading text 
   ) refl
 
   -- of the column's true table: its inputs and values, and that it is accepted
-  table-made : (vs : List ℤ) (cs : List ℕ) → work ls xs ≡ true-table vs cs → Made s cs fresh xs ls vs
+  table-made : (vs : List ℤ) (cs : List ℕ) → work ls xs ≡ true-table vs cs → MadeValues s cs fresh xs ls vs
   unfolding work fresh
   table-made vs cs e = working-gives s cs ls 0 fresh [] xs (read-kept text ls s is-read) sound-fresh tt tt
       (zero-add (length xs) ∙ column .count) (column .within) vs e

@@ -48,7 +48,7 @@ drop-in-range p i xs h j l = rw (getD-drop i xs j (pos 0)) (h (i + j) (omega (ar
 
 module _ (s′ : Known) (t : List ℕ) where
   -- what is told of the lines from here on
-  pub record Made (s : Known) (xs : List ℤ) (ls : List Line) (ws : List ℤ) : Type 0 where
+  pub record MadeValues (s : Known) (xs : List ℤ) (ls : List Line) (ws : List ℤ) : Type 0 where
     pub inputs-stand : map (signedAt (s′ .p) t) (inputCellsFrom s ls) ≡ xs
     pub within : Within (s′ .known) ws
     pub in-cells : InCells (s′ .p) t (s′ .places) ws
@@ -56,7 +56,7 @@ module _ (s′ : Known) (t : List ℕ) where
     pub long : s .cells + length (drop (s .cells) t) ≡ s′ .cells
 
   nothing-made : (n : ℕ) (s : Known) (vs xs : List ℤ) → s ≡ s′ → Within (s .known) vs → InCells (s′ .p) t (s .places) vs
-      → s .inputs + length xs ≡ s′ .inputs → (ws : List ℤ) → true-table vs [] ≡ true-table ws (drop (s .cells) t) → Made s xs [] ws
+      → s .inputs + length xs ≡ s′ .inputs → (ws : List ℤ) → true-table vs [] ≡ true-table ws (drop (s .cells) t) → MadeValues s xs [] ws
   unfolding inputCellsFrom
   nothing-made n s vs xs k w c i ws e =
       let same : vs ≡ ws = ap valuesIn e in
@@ -128,7 +128,7 @@ module _ (s′ : Known) (t : List ℕ) where
 
     line-made : ((vs′ : List ℤ) → Within (after s l .known) vs′ → InCells (s′ .p) t (after s l .places) vs′
         → workFrom (suc n) (after s l) vs′ (drop (g .inputs) xs) ls ≡ true-table ws (drop (after s l .cells) t)
-        → Made (after s l) (drop (g .inputs) xs) ls ws) → Made s xs (l ∷ ls) ws
+        → MadeValues (after s l) (drop (g .inputs) xs) ls ws) → MadeValues s xs (l ∷ ls) ws
     unfolding inputCellsFrom after
     line-made later =
         let m = later (vs ++ g .values vs next) (within-after (s′ .p) t s l law vs next within in-cells (parted .0) in-range)
@@ -148,7 +148,7 @@ module _ (s′ : Known) (t : List ℕ) where
 
   pub working-gives : (ls : List Line) (n : ℕ) (s : Known) (vs xs : List ℤ) → Kept n s ls s′ → Sound n s → Within (s .known) vs
       → InCells (s′ .p) t (s .places) vs → s .inputs + length xs ≡ s′ .inputs → AllInRange (s′ .p) xs
-      → (ws : List ℤ) → workFrom n s vs xs ls ≡ true-table ws (drop (s .cells) t) → Made s xs ls ws
+      → (ws : List ℤ) → workFrom n s vs xs ls ≡ true-table ws (drop (s .cells) t) → MadeValues s xs ls ws
   unfolding workFrom
   working-gives [] n s vs xs k h w c i r ws e = nothing-made n s vs xs k w c i ws e
   working-gives (l ∷ ls) n s vs xs k h w c i r ws e = line-made l ls n s vs xs k h w c i r ws e

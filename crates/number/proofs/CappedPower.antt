@@ -59,17 +59,17 @@ halved x n = ap (λ m. x ^ m) parts ∙ pow-add x (n % 2) (n / 2 + n / 2) ∙ ap
     parts = omega arith
 
 -- what is left to do: b ^ k is c · base ^ n
-pub record Left (b k cap c base n : ℕ) : Type 0 where
+pub record PowerLeft (b k cap c base n : ℕ) : Type 0 where
   pub product : c * base ^ n ≡ b ^ k
   pub positive : 1 ≤ c
   pub within : c ≤ cap
   pub base-positive : 1 ≤ base
 
 module _ {b k cap : ℕ} where
-  pub left-start : 1 ≤ b → 1 ≤ cap → Left b k cap 1 b k
+  pub left-start : 1 ≤ b → 1 ≤ cap → PowerLeft b k cap 1 b k
   left-start h l = record { product = one-mul (b ^ k); positive = omega arith; within = l; base-positive = h }
 
-  module _ {c base n : ℕ} (l : Left b k cap c base n) where
+  module _ {c base n : ℕ} (l : PowerLeft b k cap c base n) where
     pub left-end : n ≡ 0 → c ≡ b ^ k
     left-end e = sym (mul-one c) ∙ ap (λ m. c * m) (sym (ap (λ m. base ^ m) e ∙ pow-zero base)) ∙ l .product
 
@@ -89,7 +89,7 @@ module _ {b k cap : ℕ} where
       pub product-above : cap < c * factor → cap < b ^ k
       product-above a = omega (arith, next, mul-le-mul-left (c * factor) (one-le-pow (n / 2) (base * base) square-positive))
 
-      pub left-turn : c * factor ≤ cap → Left b k cap (c * factor) (base * base) (n / 2)
+      pub left-turn : c * factor ≤ cap → PowerLeft b k cap (c * factor) (base * base) (n / 2)
       left-turn h =
           let f : 1 ≤ factor = rw is (one-le-pow (n % 2) base (l .base-positive)) in
           record { product = next; positive = mul-le-mul (l .positive) f; within = h; base-positive = square-positive }

@@ -15,7 +15,7 @@ use Rattle.meaning.proofs.Number.{odd-prime}
 use Rattle.algebra.specs.Prime.{Prime}
 use Rattle.algebra.proofs.Test.{left, right, not-false, either, every, every-at, everyBelow, everyBelow-at}
 use Rattle.algebra.proofs.Prime.{prime-by-trial, prime-no-remainder}
-use Rattle.number.specs.Table.{primes, wheel, Listed, FirstDivisor, tableEnd, tableLength}
+use Rattle.number.specs.Table.{primes, wheel, InTable, FirstDivisor, tableEnd, tableLength}
 use Rattle.algebra.proofs.PrimeDivisor.{prime-by-prime-roots}
 use Rattle.number.proofs.OddPrime.{odd-prime-passes}
 
@@ -86,7 +86,7 @@ prime-listed q P h =
     listed-place q primes (rw (prime-test q P) at t)
 
 -- a number from 3 on and below 256 is an odd prime exactly where the table has it
-pub listed-decides : (n : ℕ) (r : Bool) → 3 ≤ n → n < tableEnd → Listed n primes r → r ≡ oddPrime n
+pub listed-decides : (n : ℕ) (r : Bool) → 3 ≤ n → n < tableEnd → InTable n primes r → r ≡ oddPrime n
 listed-decides n true h l w = let p = w .found refl in odd-prime-passes n h (rw (p .2) at (entry-prime (p .0) (p .1)))
 listed-decides n false h l w = sym (not-false (oddPrime n) (λ t.
     let p = prime-listed n (odd-prime n t .prime) l in

@@ -1,19 +1,21 @@
 -- Whole numbers in a machine word. A signed local holds bits, so a use of x reads `toZ w64 (ofZ w64 x)`: `back` takes the bits away
 -- where x fits. What fits is said by the two parts of an integer, as algebra has them, so that `omega` decides it.
-use mathlib.Core.Path.{_≡_, refl}
+use mathlib.Core.Path.{_≡_, refl, ap, _∙_}
 use mathlib.Core.Bool.{Bool, true, false}
 use Prim.Native.Nat.{ℕ, suc, _+_, _-_, _*_, _%_, _≤_, _<_}
 use native.Mathlib.Omega.{arith}
 use native.Mathlib.Nat.{mul-le-mul, mod-lt}
 use lib.Dec.{T, ltb, ltb→lt}
-use lib.IntN.{ℤ, pos, negsuc}
-use lib.Signed.{mag, ltZ, leZ, _≤ℤ_, _<ℤ_, ltZ-no}
+use lib.IntN.{ℤ, pos, negsuc, negℤ, natAbs, _-ℤ_}
+use lib.Signed.{mag, ltZ, leZ, nonNeg, _≤ℤ_, _<ℤ_, ltZ-no}
 use mir.Syntax.{w32, w64}
 use mir.Val.{Fits, SFits, toZ, ofZ}
 use mir.ValLaws.{toZ-ofZ, toZ-pos}
 use Rattle.meaning.specs.Machine.{pastU32, pastI64}
 use Rattle.algebra.proofs.Test.{≡-test, false-test}
-use Rattle.algebra.proofs.Integer.Order.{positivePart, negativePart, integer}
+use Rattle.algebra.proofs.Integer.Order.{positivePart, negativePart, minus, integer}
+use Rattle.algebra.proofs.Integer.Linear.{linear}
+use Rattle.algebra.proofs.Prime.{natAbs-negation}
 
 -- ---- bits
 
@@ -54,9 +56,21 @@ not-negative {z} f e = above z (ltZ-no (false-test (ltZ z (pos 0)) (rw (back f) 
     above (pos n) h = refl
     above (negsuc n) h = absurd (omega integer)
 
+-- a number that is not negative goes into a u64
+pub cast-fits : (z : ℤ) → SFits w64 z → pos 0 ≤ℤ z → T (nonNeg z) × Fits w64 (natAbs z)
+cast-fits (pos n) f h = (tt, record { fits = omega (arith, f .sfits) })
+cast-fits (negsuc n) f h = absurd (omega integer)
+
 -- the order of two i64, as a test reads it from their bits
 pub test-≤ : {a b : ℤ} → SFits w64 a → SFits w64 b → (t : Bool) → leZ (toZ w64 (ofZ w64 a)) (toZ w64 (ofZ w64 b)) ≡ t → leZ a b ≡ t
 test-≤ fa fb t e = rw (back fa, back fb) at e
+
+-- the distance of two numbers, either way
+pub distance-turned : (x y : ℤ) → natAbs (y -ℤ x) ≡ natAbs (x -ℤ y)
+distance-turned x y = ap natAbs turned ∙ natAbs-negation (x -ℤ y)
+  where
+    turned : y -ℤ x ≡ negℤ (x -ℤ y)
+    turned = omega (linear, minus x y)
 
 -- ---- unsigned words
 

@@ -26,7 +26,7 @@ abbrev pub wheel : List ℕ
 wheel = 1 ∷ 7 ∷ 11 ∷ 13 ∷ 17 ∷ 19 ∷ 23 ∷ 29 ∷ []
 
 -- r tells whether n is an entry of the table
-pub record Listed (n : ℕ) (table : List ℕ) (r : Bool) : Type 0 where
+pub record InTable (n : ℕ) (table : List ℕ) (r : Bool) : Type 0 where
   pub found : r ≡ true → (i : ℕ) × (i < length table) × (getD table i 0 ≡ n)
   pub absent : r ≡ false → (i : ℕ) → i < length table → getD table i 0 ≢ n
 

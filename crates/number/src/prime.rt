@@ -7,7 +7,7 @@ ghost use Prim.Native.Nat.{ℕ, _+_, _≤_, _<_};
 ghost use lib.ListN.{length, getD};
 ghost use Rattle.meaning.specs.Machine.{pastU32};
 ghost use Rattle.meaning.specs.Number.{oddPrime};
-ghost use Rattle.number.specs.Table.{primes, Listed, FirstDivisor, tableLength};
+ghost use Rattle.number.specs.Table.{primes, InTable, FirstDivisor, tableLength};
 
 // The primes below 256.
 const PRIMES: [u32; 54] = [
@@ -97,7 +97,7 @@ pub fn is_odd_prime(n: u32) -> bool
 
 // Whether n is a number of the table.
 fn is_listed(n: u32, table: &[u32]) -> bool
-    ensures { λ r. ⌜ Listed n (now (table .entry)) r ⌝ }
+    ensures { λ r. ⌜ InTable n (now (table .entry)) r ⌝ }
 {
     let mut i: usize = 0;
     while i < table.len() {

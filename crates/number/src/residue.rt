@@ -1,14 +1,61 @@
 // Remainders modulo p, for every p that a u32 holds: the signed reading, the remainder of a whole number, and the
 // operations. Products are taken in a u64, where they are exact.
+use super::cell::Cell;
 use super::whole::Whole;
 use super::whole::magnitude;
 ghost use mathlib.Core.Path.{_≡_};
-ghost use Prim.Native.Nat.{_%_, _<_};
+ghost use Prim.Native.Nat.{_+_, _*_, _%_, _<_};
+ghost use lib.Dec.{eqb, ltb};
 ghost use lib.IntN.{pos, _+ℤ_, _-ℤ_, _*ℤ_};
+ghost use lib.ListN.{length, getD, set};
+ghost use Rattle.meaning.specs.Machine.{pastU32};
 ghost use Rattle.meaning.specs.Number.{remainder, signed};
 
 // A remainder modulo p, below p.
 pub struct Residue(pub u32);
+
+// ---- cells of a lent table
+
+// What stands in a cell.
+pub fn residue_at(table: &[u32], at: Cell) -> Residue
+    requires { ⌜ at .0 < length (now table) ⌝ }
+    ensures { λ r. ⌜ r .0 ≡ getD (now (table .entry)) (at .0) 0 ⌝ }
+{
+    let place = at.0;
+    Residue(table[place])
+}
+
+// Writes a remainder into a cell.
+pub fn set_residue(table: &mut [u32], at: Cell, r: Residue)
+    requires { ⌜ at .0 < length (now table) ⌝ }
+    ensures { λ _. ⌜ now (table .exit) ≡ set (now (table .entry)) (at .0) (r .0) ⌝ }
+{
+    let place = at.0;
+    table[place] = r.0;
+}
+
+// ---- tests
+
+pub fn is_zero(r: Residue) -> bool
+    ensures { λ t. ⌜ t ≡ eqb (r .0) 0 ⌝ }
+{
+    r.0 == 0
+}
+
+pub fn is_same(a: Residue, b: Residue) -> bool
+    ensures { λ t. ⌜ t ≡ eqb (a .0) (b .0) ⌝ }
+{
+    a.0 == b.0
+}
+
+// Whether r is a digit in base b.
+pub fn is_digit(r: Residue, b: u32) -> bool
+    ensures { λ t. ⌜ t ≡ ltb (r .0) b ⌝ }
+{
+    r.0 < b
+}
+
+// ---- the two readings
 
 // The whole number that r stands for: r where it is at most M = (p-1)/2, else r - p.
 pub fn signed_value(r: Residue, p: u32) -> Whole
@@ -47,6 +94,23 @@ pub fn remainder_of(x: Whole, p: u32) -> Residue
     } else {
         Residue(m)
     }
+}
+
+// ---- arithmetic
+
+// A number below p is its own remainder.
+pub fn own_residue(n: u32) -> Residue
+    ensures { λ r. ⌜ r .0 ≡ n ⌝ }
+{
+    Residue(n)
+}
+
+// The value of some digits and one more, which counts `part` times: below p it is its own remainder, and nothing is reduced.
+pub fn with_digit(value: Residue, digit: Residue, part: u32) -> Residue
+    requires { ⌜ value .0 + digit .0 * part < pastU32 ⌝ }
+    ensures { λ r. ⌜ r .0 ≡ value .0 + digit .0 * part ⌝ }
+{
+    Residue(value.0 + digit.0 * part)
 }
 
 // a + b modulo p, without a division: a + b, or a + b - p where that is p or more.

@@ -13,7 +13,7 @@ use lib.Seq.{length-take-le, take-at}
 use Rattle.algebra.proofs.Test.{≡-test}
 use Rattle.meaning.specs.Reply.{Reply, reply, making, makeReply}
 use Rattle.meaning.specs.Program.{refusalText, tableText, makingText}
-use Rattle.service.specs.Reply.{replySeen, Makes}
+use Rattle.service.specs.Reply.{replyMeaning, Makes}
 use Rattle.service.specs.declared.reply.Reply.{Reply as Replied}
 use Rattle.output.specs.Written.{Written}
 use Rattle.program.specs.Answered.{Answered, longestAnswer}
@@ -53,13 +53,13 @@ take-replicate (suc k) (suc n) h = ap (λ (t : List ℕ). 0 ∷ t) (take-replica
 pub within-text : (list : List ℕ) (xs : List ℤ) (table last : List ℕ) (cells : ℕ) (r : Replied) → take cells table ≡ replicate cells 0
     → cells ≤ length table → length last ≡ length (take (cells - 0) table)
     → Makes list xs (take (cells - 0) table) r last
-    → makingText (making (replySeen r) (take (cells - 0) (putMid 0 (cells - 0) table last))) ≡ makingText (makeReply list xs (replicate cells 0))
-within-text list xs table last cells r zeros inside long told =
+    → makingText (making (replyMeaning r) (take (cells - 0) (putMid 0 (cells - 0) table last))) ≡ makingText (makeReply list xs (replicate cells 0))
+within-text list xs table last cells r zeros inside long yields =
     let all : cells - 0 ≡ cells = omega arith in
     let before : take (cells - 0) table ≡ replicate cells 0 = rw all zeros in
     let size : length last ≡ cells - 0 = long ∙ length-take-le (cells - 0) table (omega arith) in
     let after : take (cells - 0) (putMid 0 (cells - 0) table last) ≡ last = take-at last (drop (cells - 0) table) (cells - 0) size in
-    rw after (ap₂ (λ (q : Reply) (t : List ℕ). makingText (making q t)) (rw before at (told .replied)) (rw before at (told .left)))
+    rw after (ap₂ (λ (q : Reply) (t : List ℕ). makingText (making q t)) (rw before at (yields .replied)) (rw before at (yields .left)))
 
 -- ---- what was written is a part of the output
 

@@ -17,7 +17,7 @@ use Rattle.meaning.specs.Reply.{reply, firstFail, refusalAt}
 use Rattle.meaning.specs.Program.{isSome, orNone}
 use Rattle.text.specs.declared.Number.{Number}
 use Rattle.text.specs.declared.Number.the-variants.{Of, NoNumber}
-use Rattle.text.specs.Number.{WholeRead}
+use Rattle.text.specs.Number.{WholeYield}
 use Rattle.text.specs.Place.{endOf, linesFrom}
 use Rattle.text.proofs.Lines.{afterNumbers, after-next, before-all}
 use Rattle.text.proofs.Places.{lines-none}
@@ -83,7 +83,7 @@ module _ {input : List ℕ} {start : ℕ} {stored : List ℤ} {at count : ℕ} (
           let read : numbersOf (linesFrom input start) ≡ some (r .numbers ++ []) = r .numbers-left ∙ rw (lines-none input at h) in
           ap orNone read ∙ append-nil (r .numbers)
 
-  module _ (ended : isEnded input ≡ true) (h : at < length input) {x : Number} (read : WholeRead input at x) where
+  module _ (ended : isEnded input ≡ true) (h : at < length input) {x : Number} (read : WholeYield input at x) where
     pub reading-stops : x ≡ NoNumber → refusalAt 3 (firstFail (λ l. isSome (number l)) 0 (linesFrom input start)) ≡ some (reply 3 count)
     unfolding firstFail isSome refusalAt
     reading-stops q = ap (refusalAt 3) (r .fails-left) ∙ rw (lines-at input at ended h, number-is-none _ _ read q)

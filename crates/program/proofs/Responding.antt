@@ -17,30 +17,30 @@ use Rattle.meaning.specs.Program.{refusalText, makingText, Parts, partsOf, join
 use Rattle.meaning.proofs.Results.{refused-none, refusal-place}
 use Rattle.text.specs.Place.{linesFrom}
 use Rattle.reader.specs.declared.state.Counts.{Counts}
-use Rattle.service.specs.Walk.{ListRead, Listed}
+use Rattle.service.specs.Walk.{ListRead, CountsGiven}
 use Rattle.service.proofs.Made.{made-wrong-count, make-read}
 use Rattle.service.proofs.Scan.{first-from, none-from, found-inside}
-use Rattle.program.specs.Input.{EndFound, NumbersRead, InputsRead}
+use Rattle.program.specs.Input.{EndYield, NumbersRead, InputsYield}
 use Rattle.program.specs.declared.input.Ending.{Ending}
 use Rattle.program.specs.declared.input.Ending.the-variants.{At, Missing}
 use Rattle.program.specs.declared.input.Inputs.{Inputs}
 use Rattle.program.specs.declared.input.Inputs.the-variants.{Numbers, NoNumber}
 use Rattle.text.proofs.Places.{lines-few}
 use Rattle.program.proofs.Limits.{list-most, joined-few}
-use Rattle.program.specs.Answered.{ListAsked, InputsAsked}
+use Rattle.program.specs.Answered.{ListGiven, InputsGiven}
 
 -- ---- the answers
 
 abbrev isNumber : List ℕ → Bool
 isNumber l = isSome (number l)
 
-module _ {input : List ℕ} {end lines : ℕ} (asked : ListAsked input end lines) where
+module _ {input : List ℕ} {end lines : ℕ} (given : ListGiven input end lines) where
   abbrev parts : Parts
-  parts = asked .ends .parts
+  parts = given .ends .parts
 
   whole : answerParts parts ≡ onParts (partsOf (linesOf input))
   unfolding onParts
-  whole = sym (ap onParts (asked .ends .are))
+  whole = sym (ap onParts (given .ends .are))
 
   -- the part of the input up to `end`, as the code lends it
   upto : take (end - 0) input ≡ take end input
@@ -51,29 +51,29 @@ module _ {input : List ℕ} {end lines : ℕ} (asked : ListAsked input end lines
   pub list-refused : (n i : ℕ) → reading (take (end - 0) input) ≡ refused n i → refusalText (reply n i) ≡ onParts (partsOf (linesOf input))
   unfolding answerParts onReading
   list-refused n i e =
-      let here : reading (joined (parts .list)) ≡ refused n i = ap reading (sym (asked .ends .listed) ∙ sym upto) ∙ e in
+      let here : reading (joined (parts .list)) ≡ refused n i = ap reading (sym (given .ends .listed) ∙ sym upto) ∙ e in
       let answer : refusalText (reply n i) ≡ answerParts parts = rw here in
       answer ∙ whole
 
-  pub list-read : {p : ℕ} {c : Counts} → Listed (take (end - 0) input) p c → InputsAsked input end lines (c .cells)
+  pub list-read : {p : ℕ} {c : Counts} → CountsGiven (take (end - 0) input) p c → InputsGiven input end lines (c .cells)
   list-read {p} {c} l =
-      let m : Listed (take end input) p c = subst (λ (t : List ℕ). Listed t p c) upto l in
-      record { asked = asked; listed = m .listed; cells-are = m .counts-are .cells-are }
+      let m : CountsGiven (take end input) p c = subst (λ (t : List ℕ). CountsGiven t p c) upto l in
+      record { given = given; listed = m .listed; cells-are = m .counts-are .cells-are }
 
   module _ (l : ListRead (take end input)) where
     here : reading (joined (parts .list)) ≡ read (l .lines) (l .last)
-    here = ap reading (sym (asked .ends .listed)) ∙ l .is-read
+    here = ap reading (sym (given .ends .listed)) ∙ l .is-read
 
     pub place-fits : (i : ℕ) → firstFail isNumber 0 (linesFrom input (end + 4)) ≡ some i → lines + 1 + i ≤ 2 * textLimit + 1
     place-fits i e =
         omega (
           arith,
-          asked .short,
-          asked .ends .counted,
+          given .short,
+          given .ends .counted,
           joined-few (parts .list),
-          ap length (asked .ends .listed),
-          length-take-le end input (omega (arith, asked .ends .inside)),
-          asked .ends .inside,
+          ap length (given .ends .listed),
+          length-take-le end input (omega (arith, given .ends .inside)),
+          given .ends .inside,
           found-inside isNumber [] (linesFrom input (end + 4)) i e,
           lines-few (drop (end + 4) input),
           length-drop (end + 4) input,
@@ -82,9 +82,9 @@ module _ {input : List ℕ} {end lines : ℕ} (asked : ListAsked input end lines
     pub no-number : (i : ℕ) → firstFail isNumber 0 (linesFrom input (end + 4)) ≡ some i → refusalText (reply 3 (lines + 1 + i)) ≡ onParts (partsOf (linesOf input))
     unfolding answerParts onReading onSome
     no-number i e =
-        let place : suc (length (parts .list)) + i ≡ lines + 1 + i = omega (arith, asked .ends .counted) in
+        let place : suc (length (parts .list)) + i ≡ lines + 1 + i = omega (arith, given .ends .counted) in
         let found : firstFail isNumber (suc (length (parts .list))) (parts .inputs) ≡ some (suc (length (parts .list)) + i) =
-        first-from isNumber [] (parts .inputs) (suc (length (parts .list))) i (rw (← asked .ends .left) e) in
+        first-from isNumber [] (parts .inputs) (suc (length (parts .list))) i (rw (← given .ends .left) e) in
         let answer : refusalText (reply 3 (lines + 1 + i)) ≡ answerParts parts = rw (here, found, place) in
         answer ∙ whole
 
@@ -99,9 +99,9 @@ module _ {input : List ℕ} {end lines : ℕ} (asked : ListAsked input end lines
       unfolding answerParts onReading onSome
       made-whole =
           let passed : firstFail isNumber (suc (length (parts .list))) (parts .inputs) ≡ none =
-          none-from isNumber [] (parts .inputs) (suc (length (parts .list))) (rw (← asked .ends .left) (n .all)) in
+          none-from isNumber [] (parts .inputs) (suc (length (parts .list))) (rw (← given .ends .left) (n .all)) in
           let answer : makingText (made (l .last) (l .lines) column zeros) ≡ answerParts parts =
-          rw (here, passed, asked .ends .left) in
+          rw (here, passed, given .ends .left) in
           answer ∙ whole
 
       pub too-many : valueLimit < count → refusalText (reply 16 0) ≡ onParts (partsOf (linesOf input))
@@ -121,14 +121,14 @@ module _ {input : List ℕ} {end lines : ℕ} (asked : ListAsked input end lines
 
 -- ---- what was read of the inputs
 
-module _ (ls : List (List ℕ)) (stored : List ℤ) {x : Inputs} (told : InputsRead ls stored x) where
+module _ (ls : List (List ℕ)) (stored : List ℤ) {x : Inputs} (yields : InputsYield ls stored x) where
   pub inputs-no-number : {i : ℕ} → x ≡ NoNumber i → firstFail isNumber 0 ls ≡ some i
-  unfolding InputsRead
-  inputs-no-number e = refusal-place 3 _ (subst (InputsRead ls stored) e told)
+  unfolding InputsYield
+  inputs-no-number e = refusal-place 3 _ (subst (InputsYield ls stored) e yields)
 
   pub inputs-numbers : {count : ℕ} → x ≡ Numbers count → NumbersRead ls stored count
-  unfolding InputsRead
-  inputs-numbers e = subst (InputsRead ls stored) e told
+  unfolding InputsYield
+  inputs-numbers e = subst (InputsYield ls stored) e yields
 
 -- ---- the whole input
 
@@ -147,11 +147,11 @@ module _ (input : List ℕ) where
       unfolding respond
       respond-parts = rw (le-leb (length input) textLimit short, ended)
 
-      module _ {x : Ending} (found : EndFound input x) where
+      module _ {x : Ending} (found : EndYield input x) where
         pub respond-missing : x ≡ Missing → refusalText (reply 2 0) ≡ respond input
-        unfolding EndFound onParts
-        respond-missing e = sym (ap onParts (refused-none 2 _ (subst (EndFound input) e found))) ∙ respond-parts
+        unfolding EndYield onParts
+        respond-missing e = sym (ap onParts (refused-none 2 _ (subst (EndYield input) e found))) ∙ respond-parts
 
-        pub list-asked : {end lines : ℕ} → x ≡ At end lines → ListAsked input end lines
-        unfolding EndFound
-        list-asked e = record { short = short; ended = ended; ends = subst (EndFound input) e found }
+        pub list-given : {end lines : ℕ} → x ≡ At end lines → ListGiven input end lines
+        unfolding EndYield
+        list-given e = record { short = short; ended = ended; ends = subst (EndYield input) e found }

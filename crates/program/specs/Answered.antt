@@ -22,13 +22,13 @@ pub record Answered (answer before after : List ℕ) (r : ℕ) : Type 0 where
   pub short : length answer ≤ longestAnswer
 
 -- the line `end` stands in the input, after so many lines
-pub record ListAsked (input : List ℕ) (end lines : ℕ) : Type 0 where
+pub record ListGiven (input : List ℕ) (end lines : ℕ) : Type 0 where
   pub short : length input ≤ textLimit
   pub ended : isEnded input ≡ true
   pub ends : EndsAt input end lines
 
 -- and the list before it is read, and has so many cells
-pub record InputsAsked (input : List ℕ) (end lines cells : ℕ) : Type 0 where
-  pub asked : ListAsked input end lines
+pub record InputsGiven (input : List ℕ) (end lines cells : ℕ) : Type 0 where
+  pub given : ListGiven input end lines
   pub listed : ListRead (take end input)
   pub cells-are : listed .last .cells ≡ cells

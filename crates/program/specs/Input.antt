@@ -27,9 +27,9 @@ pub record EndsAt (input : List ℕ) (at lines : ℕ) : Type 0 where
   pub left : linesFrom input (at + 4) ≡ parts .inputs
 
 -- where it is, or that it is missing. FORMAT 11.3
-unfoldable pub EndFound : List ℕ → Ending → Type 0
-EndFound input (At at lines) = EndsAt input at lines
-EndFound input Missing = orRefused 2 (partsOf (linesOf input)) ≡ refusedBy 2
+unfoldable pub EndYield : List ℕ → Ending → Type 0
+EndYield input (At at lines) = EndsAt input at lines
+EndYield input Missing = orRefused 2 (partsOf (linesOf input)) ≡ refusedBy 2
 
 -- all lines are numbers, so many; the first of them are stored, as many as have room
 pub record NumbersRead (lines : List (List ℕ)) (stored : List ℤ) (count : ℕ) : Type 0 where
@@ -39,6 +39,6 @@ pub record NumbersRead (lines : List (List ℕ)) (stored : List ℤ) (count : �
   pub stands : take valueLimit (orNone (numbersOf lines)) ≡ take count stored
 
 -- all are numbers, or the first line that is none. FORMAT 11.6
-unfoldable pub InputsRead : List (List ℕ) → List ℤ → Inputs → Type 0
-InputsRead lines stored (Numbers count) = NumbersRead lines stored count
-InputsRead lines stored (NoNumber i) = refusalAt 3 (firstFail (λ l. isSome (number l)) 0 lines) ≡ some (reply 3 i)
+unfoldable pub InputsYield : List (List ℕ) → List ℤ → Inputs → Type 0
+InputsYield lines stored (Numbers count) = NumbersRead lines stored count
+InputsYield lines stored (NoNumber i) = refusalAt 3 (firstFail (λ l. isSome (number l)) 0 lines) ≡ some (reply 3 i)

@@ -1,5 +1,4 @@
--- What the contract of `respond` and of the functions below it cite: the parts of an answer's text, the parts of the input, and what an answer
--- leaves in the output.
+-- The program's answer in the parts in which it is written, and what the functions that find and answer the parts of the input are given (`..Given`) and yield (`..Yield`).
 pub mod Texts
 pub mod Input
 pub mod Answered

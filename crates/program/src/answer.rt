@@ -16,8 +16,8 @@ ghost use Rattle.meaning.specs.Refusal.{cellLimit};
 ghost use Rattle.meaning.specs.Text.{linesOf};
 ghost use Rattle.meaning.specs.Reply.{reply, making, makeReply};
 ghost use Rattle.meaning.specs.Program.{refusalText, tableText, makingText, partsOf, onParts};
-ghost use Rattle.service.specs.Reply.{replySeen};
-ghost use Rattle.program.specs.Answered.{Answered, ListAsked, InputsAsked};
+ghost use Rattle.service.specs.Reply.{replyMeaning};
+ghost use Rattle.program.specs.Answered.{Answered, ListGiven, InputsGiven};
 
 pub fn answer_refusal(output: &mut [u8], number: u32, place: usize) -> usize
     ensures { λ r. ⌜ Answered (refusalText (reply number place)) (now (output .entry)) (now (output .exit)) r ⌝ }
@@ -41,7 +41,7 @@ fn answer_table(output: &mut [u8], table: &[u32]) -> usize
 // What making answers: the table, or the refusal that it replies.
 fn answer_making(output: &mut [u8], reply: Reply, table: &[u32]) -> usize
     requires { ⌜ length (now table) ≤ cellLimit ⌝ }
-    ensures { λ r. ⌜ Answered (makingText (making (replySeen reply) (now (table .entry)))) (now (output .entry)) (now (output .exit)) r ⌝ }
+    ensures { λ r. ⌜ Answered (makingText (making (replyMeaning reply) (now (table .entry)))) (now (output .entry)) (now (output .exit)) r ⌝ }
 {
     if reply.number == 0 {
         return answer_table(output, table);
@@ -77,7 +77,7 @@ fn answer_within(
 
 // The list before `end` is read, and has so many cells. More inputs than a list can have values are a wrong count of inputs.
 fn answer_inputs(output: &mut [u8], input: &[u8], end: usize, lines: usize, cells: usize) -> usize
-    requires { ⌜ InputsAsked (now input) end lines cells ⌝ }
+    requires { ⌜ InputsGiven (now input) end lines cells ⌝ }
     ensures { λ r. ⌜ Answered (onParts (partsOf (linesOf (now (input .entry))))) (now (output .entry)) (now (output .exit)) r ⌝ }
 {
     let mut inputs: [i64; 256] = [0; 256];
@@ -95,7 +95,7 @@ fn answer_inputs(output: &mut [u8], input: &[u8], end: usize, lines: usize, cell
 
 // The line `end` is there, after so many lines.
 pub fn answer_list(output: &mut [u8], input: &[u8], end: usize, lines: usize) -> usize
-    requires { ⌜ ListAsked (now input) end lines ⌝ }
+    requires { ⌜ ListGiven (now input) end lines ⌝ }
     ensures { λ r. ⌜ Answered (onParts (partsOf (linesOf (now (input .entry))))) (now (output .entry)) (now (output .exit)) r ⌝ }
 {
     let found = survey(&input[0..end]);

@@ -19,7 +19,7 @@ const LINE_END: u8 = 10;
 
 // How long a line of two numbers is.
 fn pair_length(first: u64, second: u64) -> usize
-    ensures told { λ r. ⌜ r ≡ length (pairText first second) ⌝ }
+    ensures yields { λ r. ⌜ r ≡ length (pairText first second) ⌝ }
     ensures short { λ r. ⌜ r ≤ longestPair ⌝ }
 {
     decimal_length(first) + decimal_length(second) + 2

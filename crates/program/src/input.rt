@@ -10,7 +10,7 @@ ghost use lib.ListN.{length, set};
 ghost use Rattle.meaning.specs.Refusal.{valueLimit};
 ghost use Rattle.meaning.specs.Text.{isEnded};
 ghost use Rattle.text.specs.Place.{linesFrom};
-ghost use Rattle.program.specs.Input.{EndFound, InputsRead};
+ghost use Rattle.program.specs.Input.{EndYield, InputsYield};
 
 // Where the first line `end` starts, and how many lines come before it.
 pub enum Ending {
@@ -26,7 +26,7 @@ pub enum Inputs {
 
 pub fn find_end(input: &[u8]) -> Ending
     requires { ⌜ isEnded (now input) ≡ true ⌝ }
-    ensures { λ r. ⌜ EndFound (now (input .entry)) r ⌝ }
+    ensures { λ r. ⌜ EndYield (now (input .entry)) r ⌝ }
 {
     let mut at: usize = 0;
     let mut lines: usize = 0;
@@ -44,7 +44,7 @@ pub fn find_end(input: &[u8]) -> Ending
 // Stores the first of the numbers, as many as have room; those after them are counted.
 pub fn read_inputs(input: &[u8], start: usize, inputs: &mut [i64]) -> Inputs
     requires { ⌜ (isEnded (now input) ≡ true) × (start ≤ length (now input)) × (length (now inputs) ≡ valueLimit) ⌝ }
-    ensures { λ r. ⌜ InputsRead (linesFrom (now (input .entry)) start) (now (inputs .exit)) r ⌝ }
+    ensures { λ r. ⌜ InputsYield (linesFrom (now (input .entry)) start) (now (inputs .exit)) r ⌝ }
 {
     let mut at = start;
     let mut count: usize = 0;

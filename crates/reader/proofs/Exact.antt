@@ -8,7 +8,7 @@ use Rattle.meaning.specs.Known.{Known}
 use Rattle.meaning.specs.Refusal.{Reading, refused, read, onReading, reading}
 use Rattle.meaning.specs.Reply.{Answer, reply, counts, refusal, readReply}
 use Rattle.meaning.proofs.Reading.{reads-exactly}
-use Rattle.reader.specs.Read.{surveyOf, surveySeen, replyOf, Exact}
+use Rattle.reader.specs.Read.{surveyOf, surveyMeaning, replyOf, Exact}
 use Rattle.reader.specs.declared.state.Counts.{Counts}
 use Rattle.reader.specs.declared.reading.Surveyed.{Surveyed}
 use Rattle.reader.specs.declared.reading.Surveyed.the-variants.{Counted, NotRead}
@@ -24,18 +24,18 @@ unfolding replyOf surveyOf repliedTo onReading
 survey-replied (refused n i) = refl
 survey-replied (read ls s) = refl
 
-module _ (text : List ℕ) (x : Surveyed) (told : surveySeen x ≡ surveyOf (reading text)) where
-  found-replied : replyOf (surveySeen x) ≡ readReply text
+module _ (text : List ℕ) (x : Surveyed) (yields : surveyMeaning x ≡ surveyOf (reading text)) where
+  found-replied : replyOf (surveyMeaning x) ≡ readReply text
   unfolding readReply repliedTo
-  found-replied = ap replyOf told ∙ survey-replied (reading text)
+  found-replied = ap replyOf yields ∙ survey-replied (reading text)
 
   pub refused-replied : (n i : ℕ) → x ≡ NotRead n i → refusal (reply n i) ≡ readReply text
-  unfolding replyOf surveySeen
-  refused-replied n i is = ap (λ (y : Surveyed). replyOf (surveySeen y)) (sym is) ∙ found-replied
+  unfolding replyOf surveyMeaning
+  refused-replied n i is = ap (λ (y : Surveyed). replyOf (surveyMeaning y)) (sym is) ∙ found-replied
 
   pub counts-replied : (p : ℕ) (c : Counts) → x ≡ Counted p c → counts p (c .values) (c .cells) (c .rows) ≡ readReply text
-  unfolding replyOf surveySeen
-  counts-replied p c is = ap (λ (y : Surveyed). replyOf (surveySeen y)) (sym is) ∙ found-replied
+  unfolding replyOf surveyMeaning
+  counts-replied p c is = ap (λ (y : Surveyed). replyOf (surveyMeaning y)) (sym is) ∙ found-replied
 
 -- ---- a reply and the claim
 

@@ -25,7 +25,7 @@ use Rattle.meaning.specs.Known.{fresh}
 use Rattle.meaning.specs.Gadget.Field.{fieldLine}
 use Rattle.meaning.specs.Meaning.{gadget, primeAfter, placesFrom, after}
 use Rattle.meaning.specs.Refusal.{all, onSome, isPlaced, isOverPrime, isRanged, rulesWith, rulesWithin, rules, firstBroken}
-use Rattle.rules.specs.Told.{lineWith}
+use Rattle.rules.specs.Yield.{lineWith}
 use Rattle.reader.specs.Step.{ParsedLine, stops, goes, stepOf}
 use Rattle.reader.specs.Read.{only}
 use Rattle.rules.specs.Ready.{greatest}

@@ -17,37 +17,37 @@ use Rattle.meaning.specs.Refusal.{valueLimit, onSome, rules, firstBroken}
 use Rattle.meaning.specs.Kept.{Keeps}
 use Rattle.meaning.proofs.Kept.{keeps-all}
 use Rattle.rules.specs.Ready.{endsFrom}
-use Rattle.rules.specs.Told.{refuses, makes, toldOf, madeSeen}
+use Rattle.rules.specs.Yield.{refuses, makes, yieldOf, madeMeaning}
 use Rattle.rules.specs.declared.rule.Made.{Made}
 use Rattle.rules.specs.declared.rule.Made.the-variants.{EndsOf, Breaks}
-use Rattle.rules.proofs.Rules.{toldWith}
+use Rattle.rules.proofs.Rules.{yieldWith}
 use Rattle.rules.proofs.Values.{known-long}
 use Rattle.reader.specs.State.{stateOf}
 use Rattle.reader.specs.Size.{counted, added, Adds}
-use Rattle.reader.specs.Step.{stops, goes, stepOf, stepSeen, placedAt, answered, entered, untouched, valueCount, Left, WithinLimits}
+use Rattle.reader.specs.Step.{stops, goes, stepOf, stepMeaning, placedAt, answered, entered, untouched, valueCount, Left, WithinLimits}
 use Rattle.reader.specs.declared.state.Counts.{Counts}
 use Rattle.reader.specs.declared.state.Stepped.{Stepped}
 
 -- ---- what is told, taken apart
 
-told-refused : (o : Option ℕ) (es : List Ends) (a : Known) (n : ℕ) → refuses n ≡ onSome o refuses (makes es) → stops n ≡ onSome o stops (goes a)
+yield-refused : (o : Option ℕ) (es : List Ends) (a : Known) (n : ℕ) → refuses n ≡ onSome o refuses (makes es) → stops n ≡ onSome o stops (goes a)
 unfolding onSome
-told-refused none es a n e = let z : _≡_ {A = ℕ} 0 1 = cc in absurd (omega arith)
-told-refused (some r) es a n e = cc
+yield-refused none es a n e = let z : _≡_ {A = ℕ} 0 1 = cc in absurd (omega arith)
+yield-refused (some r) es a n e = cc
 
-told-made : (o : Option ℕ) (es : List Ends) (e : Ends) → makes (e ∷ []) ≡ onSome o refuses (makes es) → (o ≡ none) × (es ≡ e ∷ [])
+yield-made : (o : Option ℕ) (es : List Ends) (e : Ends) → makes (e ∷ []) ≡ onSome o refuses (makes es) → (o ≡ none) × (es ≡ e ∷ [])
 unfolding onSome
-told-made none es e q = (refl, cc)
-told-made (some r) es e q = let z : _≡_ {A = ℕ} 0 1 = cc in absurd (omega arith)
+yield-made none es e q = (refl, cc)
+yield-made (some r) es e q = let z : _≡_ {A = ℕ} 0 1 = cc in absurd (omega arith)
 
 module _ (s : Known) (l : Line) (es : List Ends) where
-  pub refused-step : (n : ℕ) → refuses n ≡ toldWith s l es → stops n ≡ stepOf 1 s l
+  pub refused-step : (n : ℕ) → refuses n ≡ yieldWith s l es → stops n ≡ stepOf 1 s l
   unfolding stepOf
-  refused-step n e = told-refused (firstBroken rules 1 s l) es (after s l) n e
+  refused-step n e = yield-refused (firstBroken rules 1 s l) es (after s l) n e
 
   -- no rule is broken, and these are the ends
-  pub kept-ends : {low high : ℤ} → makes (ends low high ∷ []) ≡ toldWith s l es → (firstBroken rules 1 s l ≡ none) × (es ≡ ends low high ∷ [])
-  kept-ends {low} {high} e = told-made (firstBroken rules 1 s l) es (ends low high) e
+  pub kept-ends : {low high : ℤ} → makes (ends low high ∷ []) ≡ yieldWith s l es → (firstBroken rules 1 s l ≡ none) × (es ≡ ends low high ∷ [])
+  kept-ends {low} {high} e = yield-made (firstBroken rules 1 s l) es (ends low high) e
 
 -- ---- the arrays with one more value
 
@@ -113,12 +113,12 @@ module _ {p : ℕ} {s : Known} {c : Counts} {lows highs : List ℤ} {places : Li
         (ap₂ (λ (x y : ℕ). x + y) (ap (λ (z : Known). z .rows) (sym (held .is))) (sym (adds .rows-are)))))
 
   -- no more than 256 values, by the line's own rules
-  pub few-values : (size : Counts) → (Keeps 1 s l → Adds s l size) → (es : List Ends) (made : Made) → madeSeen made ≡ toldWith s l es → valueCount (answered made (added c size)) ≤ valueLimit
-  unfolding valueCount answered counted added madeSeen
-  few-values size adds es (EndsOf low high) told =
-      let kept = keeps-all 1 s l (kept-ends s l es told .0) in
+  pub few-values : (size : Counts) → (Keeps 1 s l → Adds s l size) → (es : List Ends) (made : Made) → madeMeaning made ≡ yieldWith s l es → valueCount (answered made (added c size)) ≤ valueLimit
+  unfolding valueCount answered counted added madeMeaning
+  few-values size adds es (EndsOf low high) yields =
+      let kept = keeps-all 1 s l (kept-ends s l es yields .0) in
       omega (arith, leb→le (length (s .known) + length (gadget s l .made)) valueLimit (kept .values-fit), values-are, adds kept .values-are)
-  few-values size adds es (Breaks n) told = omega arith
+  few-values size adds es (Breaks n) yields = omega arith
 
 -- ---- a line that makes a value
 
@@ -129,10 +129,10 @@ pub record Grows (s : Known) (l : Line) (size : Counts) : Type 0 where
   pub prime-is : after s l .p ≡ s .p
 
 module _ {p : ℕ} {s : Known} {c : Counts} {lows highs : List ℤ} {places : List ℕ} (held : Held p s c lows highs places) (l : Line) where
-  module _ {low high : ℤ} (told : makes (ends low high ∷ []) ≡ toldOf s l) where
+  module _ {low high : ℤ} (yields : makes (ends low high ∷ []) ≡ yieldOf s l) where
     parts : (firstBroken rules 1 s l ≡ none) × (gadget s l .made ≡ ends low high ∷ [])
-    unfolding toldOf
-    parts = kept-ends s l (gadget s l .made) told
+    unfolding yieldOf
+    parts = kept-ends s l (gadget s l .made) yields
 
     kept : Keeps 1 s l
     kept = keeps-all 1 s l (parts .0)
@@ -155,21 +155,21 @@ module _ {p : ℕ} {s : Known} {c : Counts} {lows highs : List ℤ} {places : Li
           (ap₂ (λ (xs ys : List ℕ). xs ++ ys) (ap (λ (z : Known). z .places) (sym (held .is)))
           (ap (λ (i : ℕ). i ∷ []) (ap (λ (z : Known). z .cells) (sym (held .is))) ∙ ap (placesFrom (s .cells)) (sym (parts .1)))))
 
-  pub room : (made : Made) → madeSeen made ≡ toldOf s l → (low high : ℤ) → made ≡ EndsOf low high → c .values < valueLimit
-  unfolding madeSeen
-  room made told low high q = room-for (rw q at told)
+  pub room : (made : Made) → madeMeaning made ≡ yieldOf s l → (low high : ℤ) → made ≡ EndsOf low high → c .values < valueLimit
+  unfolding madeMeaning
+  room made yields low high q = room-for (rw q at yields)
 
   module _ (size : Counts) (grows : Keeps 1 s l → Grows s l size) where
-    pub entry-counted : (made : Made) → madeSeen made ≡ toldOf s l → (low high : ℤ) → made ≡ EndsOf low high → c .values < c .values + size .values
-    unfolding madeSeen
-    entry-counted made told low high q = let t : makes (ends low high ∷ []) ≡ toldOf s l = rw q at told in omega (arith, one t size (grows (kept t)))
+    pub entry-counted : (made : Made) → madeMeaning made ≡ yieldOf s l → (low high : ℤ) → made ≡ EndsOf low high → c .values < c .values + size .values
+    unfolding madeMeaning
+    entry-counted made yields low high q = let t : makes (ends low high ∷ []) ≡ yieldOf s l = rw q at yields in omega (arith, one t size (grows (kept t)))
 
-    pub grown : (made : Made) → madeSeen made ≡ toldOf s l → length places ≡ valueLimit
-        → stepSeen p (answered made (added c size)) (entered made (c .values) (λ low high. low) lows) (entered made (c .values) (λ low high. high) highs) (placedAt c places) ≡ stepOf 1 s l
-    unfolding stepSeen answered entered toldOf madeSeen
-    grown (EndsOf low high) told long = grown-with told size (grows (kept told)) long
-    grown (Breaks n) told long = refused-step s l (gadget s l .made) n told
+    pub grown : (made : Made) → madeMeaning made ≡ yieldOf s l → length places ≡ valueLimit
+        → stepMeaning p (answered made (added c size)) (entered made (c .values) (λ low high. low) lows) (entered made (c .values) (λ low high. high) highs) (placedAt c places) ≡ stepOf 1 s l
+    unfolding stepMeaning answered entered yieldOf madeMeaning
+    grown (EndsOf low high) yields long = grown-with yields size (grows (kept yields)) long
+    grown (Breaks n) yields long = refused-step s l (gadget s l .made) n yields
 
-    pub few-grown : (made : Made) → madeSeen made ≡ toldOf s l → valueCount (answered made (added c size)) ≤ valueLimit
-    unfolding toldOf
-    few-grown made told = few-values held l size (λ k. grows k .adds) (gadget s l .made) made told
+    pub few-grown : (made : Made) → madeMeaning made ≡ yieldOf s l → valueCount (answered made (added c size)) ≤ valueLimit
+    unfolding yieldOf
+    few-grown made yields = few-values held l size (λ k. grows k .adds) (gadget s l .made) made yields

@@ -18,9 +18,9 @@ use Rattle.meaning.proofs.Kept.{keeps-all}
 use Rattle.meaning.proofs.Lines.{first-named}
 use Rattle.rules.specs.Ready.{endsFrom}
 use Rattle.reader.specs.State.{stateOf}
-use Rattle.rules.specs.Told.{makes, spanTold, madeSeen, lineWith}
+use Rattle.rules.specs.Yield.{makes, spanYield, madeMeaning, lineWith}
 use Rattle.reader.specs.Size.{added, Adds}
-use Rattle.reader.specs.Step.{goes, stepOf, stepSeen, placedAt, answered, entered, valueCount}
+use Rattle.reader.specs.Step.{goes, stepOf, stepMeaning, placedAt, answered, entered, valueCount}
 use Rattle.rules.specs.declared.rule.Made.{Made}
 use Rattle.rules.specs.declared.rule.Made.the-variants.{EndsOf, Breaks}
 use Rattle.reader.specs.declared.state.Counts.{Counts}
@@ -42,10 +42,10 @@ module _ {p : ℕ} {s : Known} {c : Counts} {lows highs : List ℤ} {places : Li
   abbrev new : Ends
   new = shared (sizeAt ns 1) (sizeAt ns 2) (numberAt ns 3) (endsOf s (sizeAt ns 0))
 
-  module _ {low high : ℤ} (told : makes (ends low high ∷ []) ≡ spanTold s line) where
+  module _ {low high : ℤ} (yields : makes (ends low high ∷ []) ≡ spanYield s line) where
     parts : (firstBroken rules 1 s line ≡ none) × (new ∷ [] ≡ ends low high ∷ [])
-    unfolding spanTold
-    parts = kept-ends s line (new ∷ []) told
+    unfolding spanYield
+    parts = kept-ends s line (new ∷ []) yields
 
     kept : Keeps 1 s line
     kept = keeps-all 1 s line (parts .0)
@@ -74,20 +74,20 @@ module _ {p : ℕ} {s : Known} {c : Counts} {lows highs : List ℤ} {places : Li
         (rw none-made (known-narrowed ∙ sym (append-nil (set (s .known) (sizeAt ns 0) new))))
         (rw none-made (take-set-le (c .values) places (c .values) (c .cells) (omega arith) ∙ ap (λ (z : Known). z .places) (sym (held .is)) ∙ sym (append-nil (s .places))))
 
-  pub named : (made : Made) → madeSeen made ≡ spanTold s line → (low high : ℤ) → made ≡ EndsOf low high → at < c .values
-  unfolding madeSeen
-  named made told low high q = named-for (rw q at told)
+  pub named : (made : Made) → madeMeaning made ≡ spanYield s line → (low high : ℤ) → made ≡ EndsOf low high → at < c .values
+  unfolding madeMeaning
+  named made yields low high q = named-for (rw q at yields)
 
   module _ (size : Counts) (adds : Keeps 1 s line → Adds s line size) where
-    pub narrowed : (made : Made) → madeSeen made ≡ spanTold s line
-        → stepSeen p (answered made (added c size)) (entered made at (λ low high. low) lows) (entered made at (λ low high. high) highs) (placedAt c places) ≡ stepOf 1 s line
-    unfolding stepSeen answered entered spanTold madeSeen
-    narrowed (EndsOf low high) told = narrowed-with told size (adds (kept told))
-    narrowed (Breaks n) told = refused-step s line (new ∷ []) n told
+    pub narrowed : (made : Made) → madeMeaning made ≡ spanYield s line
+        → stepMeaning p (answered made (added c size)) (entered made at (λ low high. low) lows) (entered made at (λ low high. high) highs) (placedAt c places) ≡ stepOf 1 s line
+    unfolding stepMeaning answered entered spanYield madeMeaning
+    narrowed (EndsOf low high) yields = narrowed-with yields size (adds (kept yields))
+    narrowed (Breaks n) yields = refused-step s line (new ∷ []) n yields
 
-    pub named-counted : (made : Made) → madeSeen made ≡ spanTold s line → (low high : ℤ) → made ≡ EndsOf low high → at < c .values + size .values
-    named-counted made told low high q = omega (arith, named made told low high q)
+    pub named-counted : (made : Made) → madeMeaning made ≡ spanYield s line → (low high : ℤ) → made ≡ EndsOf low high → at < c .values + size .values
+    named-counted made yields low high q = omega (arith, named made yields low high q)
 
-    pub few-narrowed : (made : Made) → madeSeen made ≡ spanTold s line → valueCount (answered made (added c size)) ≤ valueLimit
-    unfolding spanTold
-    few-narrowed made told = few-values held line size adds (new ∷ []) made told
+    pub few-narrowed : (made : Made) → madeMeaning made ≡ spanYield s line → valueCount (answered made (added c size)) ≤ valueLimit
+    unfolding spanYield
+    few-narrowed made yields = few-values held line size adds (new ∷ []) made yields

@@ -29,7 +29,7 @@ use Rattle.meaning.proofs.Lines.{digits-given}
 use Rattle.text.specs.Word.{wordOf}
 use Rattle.text.specs.declared.Word.{Word}
 use Rattle.text.specs.declared.Word.the-variants.{Field, In, Span, Sum, Relu, Which, Max, Root}
-use Rattle.rules.specs.Told.{lineWith}
+use Rattle.rules.specs.Yield.{lineWith}
 use Rattle.reader.specs.Size.{counted, Adds, FewCounts, DigitSize, mostWidth, mostRows}
 use Rattle.reader.specs.declared.state.Counts.{Counts}
 

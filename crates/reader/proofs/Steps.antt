@@ -40,20 +40,20 @@ use Rattle.text.specs.declared.Parsed.the-variants.{Line as Spelled}
 use Rattle.text.proofs.Answers.{line-most, line-counted, line-small}
 use types.Run.{OneOf, miss}
 use denote.Enum.Declared.{tagOf}
-use Rattle.rules.specs.Ready.{Small, Seen}
+use Rattle.rules.specs.Ready.{Small, Represented}
 use Rattle.reader.specs.State.{stateOf}
-use Rattle.rules.specs.Told.{Told, refuses, toldOf, lineWith}
+use Rattle.rules.specs.Yield.{Yield, refuses, yieldOf, lineWith}
 use Rattle.reader.specs.Size.{Adds}
-use Rattle.reader.specs.Step.{ParsedLine, toldBy, lineTold, Step, stops, stepOf, stepOption}
+use Rattle.reader.specs.Step.{ParsedLine, yieldBy, lineYield, Step, stops, stepOf, stepOption}
 use Rattle.reader.specs.declared.state.Counts.{Counts}
 use Rattle.reader.proofs.Growth.{Held, Grows}
 use Rattle.reader.proofs.Sizes.{HasCount, count-is}
 
 -- ---- the arguments of a line's reader
 
-pub seen-state : {p : ℕ} {s : Known} {c : Counts} {lows highs : List ℤ} {places : List ℕ} → Held p s c lows highs places → Seen s p (c .values) (c .cells) lows highs
+pub meaning-state : {p : ℕ} {s : Known} {c : Counts} {lows highs : List ℤ} {places : List ℕ} → Held p s c lows highs places → Represented s p (c .values) (c .cells) lows highs
 unfolding stateOf
-seen-state held = record {
+meaning-state held = record {
   prime = ap (λ (q : Known). q .p) (held .is);
   known = ap (λ (q : Known). q .known) (held .is);
   cells-are = ap (λ (q : Known). q .cells) (held .is);
@@ -69,13 +69,13 @@ module _ {v w : Word} {m : ℕ} {numbers : List ℤ} (n : ℕ) (parsed : ParsedL
   with-count lent = (lent, omega (arith, counted-so, parsed .most, parsed .numbers-long), λ i l. parsed .small i (omega (arith, counted-so)))
 
   -- what is told of it is what is told of the line that was read
-  pub at-count : (s : Known) (x : Told) → x ≡ lineTold s (lineWith (wordOf w) (take n numbers)) → x ≡ lineTold s (lineWith (wordOf v) (take m numbers))
-  at-count s x h = h ∙ ap₂ (λ (u : Word) (i : ℕ). lineTold s (lineWith (wordOf u) (take i numbers))) (sym q) (sym counted-so)
+  pub at-count : (s : Known) (x : Yield) → x ≡ lineYield s (lineWith (wordOf w) (take n numbers)) → x ≡ lineYield s (lineWith (wordOf v) (take m numbers))
+  at-count s x h = h ∙ ap₂ (λ (u : Word) (i : ℕ). lineYield s (lineWith (wordOf u) (take i numbers))) (sym q) (sym counted-so)
 
 -- ---- a field line that comes later
 
-pub field-later : {v : Word} (s : Known) (ns : List ℤ) → v ≡ Field → refuses 4 ≡ lineTold s (lineWith (wordOf v) ns)
-unfolding lineTold toldBy toldOf rules rulesWith rulesWithin firstBroken onSome isPlaced kindOf wordOf
+pub field-later : {v : Word} (s : Known) (ns : List ℤ) → v ≡ Field → refuses 4 ≡ lineYield s (lineWith (wordOf v) ns)
+unfolding lineYield yieldBy yieldOf rules rulesWith rulesWithin firstBroken onSome isPlaced kindOf wordOf
 field-later s ns q = rw q refl
 
 -- ---- the lines that narrow no ends
@@ -102,16 +102,16 @@ not-span Which h = tt
 not-span Max h = tt
 not-span Root h = tt
 
-pub told-by-word : (s : Known) (w : Meant) (ns : List ℤ) → NotSpan w → lineTold s (lineWith w ns) ≡ toldOf s (lineWith w ns)
-unfolding lineTold toldBy
-told-by-word s field ns h = refl
-told-by-word s input ns h = refl
-told-by-word s span ns h = absurd h
-told-by-word s sum ns h = refl
-told-by-word s relu ns h = refl
-told-by-word s which ns h = refl
-told-by-word s max ns h = refl
-told-by-word s root ns h = refl
+pub yield-by-word : (s : Known) (w : Meant) (ns : List ℤ) → NotSpan w → lineYield s (lineWith w ns) ≡ yieldOf s (lineWith w ns)
+unfolding lineYield yieldBy
+yield-by-word s field ns h = refl
+yield-by-word s input ns h = refl
+yield-by-word s span ns h = absurd h
+yield-by-word s sum ns h = refl
+yield-by-word s relu ns h = refl
+yield-by-word s which ns h = refl
+yield-by-word s max ns h = refl
+yield-by-word s root ns h = refl
 
 pub grows-by-word : (s : Known) (size : Counts) (w : Meant) (ns : List ℤ) → NotSpan w → Keeps 1 s (lineWith w ns) → Adds s (lineWith w ns) size
     → Grows s (lineWith w ns) size
@@ -138,12 +138,12 @@ span-word q = rw q refl
 pub name-counted : {m : ℕ} (s : Known) (numbers : List ℤ) (n r : ℕ) → 0 < n → (pos 0 ≤ℤ getD numbers 0 (pos 0) → r ≡ natAbs (getD numbers 0 (pos 0)))
     → Keeps m s (lineWith span (take n numbers)) → sizeAt (take n numbers) 0 ≡ r
 unfolding sizeAt numberAt kindOf all isMade
-name-counted s numbers n r h told kept =
+name-counted s numbers n r h yields kept =
     let is : getD (take n numbers) 0 (pos 0) ≡ getD numbers 0 (pos 0) = getD-take n numbers 0 (pos 0) h in
     let m : ℕ = length (s .known) in
     let z : ℤ = getD (take n numbers) 0 (pos 0) in
     let made : T (nonNeg z && ltb (natAbs z) m) = left (nonNeg z && ltb (natAbs z) m) true (kept .names-made) in
-    ap natAbs is ∙ sym (told (rw is at (not-below z (left (nonNeg z) (ltb (natAbs z) m) made))))
+    ap natAbs is ∙ sym (yields (rw is at (not-below z (left (nonNeg z) (ltb (natAbs z) m) made))))
 
 -- ---- bytes that spell a line or none
 

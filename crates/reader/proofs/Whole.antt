@@ -51,11 +51,11 @@ module _ (text : List ℕ) where
       survey-here = rw (le-leb (length text) textLimit short, ended, lines-at text 0 ended (ended-some text ended)) refl
 
       pub first-stopped : (n : ℕ) → stops n ≡ stepOption 0 fresh (lineOf line) → refusedAt n 0 ≡ surveyOf (reading text)
-      first-stopped n told = sym (survey-here ∙ stopped-at 0 fresh rest (lineOf line) n told)
+      first-stopped n yields = sym (survey-here ∙ stopped-at 0 fresh rest (lineOf line) n yields)
 
-      module _ (p : ℕ) (told : goes (only p) ≡ stepOption 0 fresh (lineOf line)) where
+      module _ (p : ℕ) (yields : goes (only p) ≡ stepOption 0 fresh (lineOf line)) where
         gone : (l : Line) × (firstBroken rules 0 fresh l ≡ none) × (only p ≡ after fresh l) × (surveyOf (readLine plain 0 fresh (lineOf line) rest) ≡ surveyOf (rest (only p)))
-        gone = gone-at 0 fresh rest (lineOf line) (only p) told
+        gone = gone-at 0 fresh rest (lineOf line) (only p) yields
 
         pub first-is-prime : OddPrime p
         unfolding only

@@ -23,9 +23,9 @@ use Rattle.reader.specs.declared.reading.Answer.the-variants.{Read, Refu
 unfoldable pub only : ℕ → Known
 only p = record { p = p; known = []; places = []; inputs = 0; cells = 0; rows = 0 }
 
-unfoldable pub firstSeen : First → Step
-firstSeen (Prime p) = goes (only p)
-firstSeen (NotFirst n) = stops n
+unfoldable pub firstMeaning : First → Step
+firstMeaning (Prime p) = goes (only p)
+firstMeaning (NotFirst n) = stops n
 
 unfoldable pub primeIn : First → ℕ
 primeIn (Prime p) = p
@@ -40,9 +40,9 @@ pub data Survey : Type 0 where
 unfoldable pub surveyOf : Reading → Survey
 surveyOf r = onReading r refusedAt (λ ls s. counted (s .p) (length (s .known)) (s .inputs) (s .cells) (s .rows))
 
-unfoldable pub surveySeen : Surveyed → Survey
-surveySeen (Counted p c) = counted p (c .values) (c .inputs) (c .cells) (c .rows)
-surveySeen (NotRead number place) = refusedAt number place
+unfoldable pub surveyMeaning : Surveyed → Survey
+surveyMeaning (Counted p c) = counted p (c .values) (c .inputs) (c .cells) (c .rows)
+surveyMeaning (NotRead number place) = refusedAt number place
 
 -- p of a read list is an odd prime, and of a number's size. FORMAT 1.1
 unfoldable pub PrimeFound : Surveyed → Type 0
@@ -54,9 +54,9 @@ unfoldable pub replyOf : Survey → Meant
 replyOf (counted p values inputs cells rows) = counts p values cells rows
 replyOf (refusedAt number place) = refusal (reply number place)
 
-unfoldable pub answerSeen : Answer → Meant
-answerSeen (Read p values cells rows) = counts p values cells rows
-answerSeen (Refused number place) = refusal (reply number place)
+unfoldable pub answerMeaning : Answer → Meant
+answerMeaning (Read p values cells rows) = counts p values cells rows
+answerMeaning (Refused number place) = refusal (reply number place)
 
 -- it is a read list's reply exactly when no refusal fits the text, and a refusal's exactly when that is the first that fits. FORMAT 10.23
 abbrev pub Exact : List ℕ → Meant → Type 0

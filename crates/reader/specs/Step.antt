@@ -12,9 +12,9 @@ use Rattle.meaning.specs.Known.{Known}
 use Rattle.meaning.specs.Meaning.{after}
 use Rattle.meaning.specs.Refusal.{onSome, rules, firstBroken, cellLimit, valueLimit}
 use Rattle.text.specs.Word.{wordOf}
-use Rattle.text.specs.declared.Word.{Word as WordRead}
+use Rattle.text.specs.declared.Word.{Word as WordYield}
 use Rattle.rules.specs.Ready.{Small}
-use Rattle.rules.specs.Told.{Told, toldOf, spanTold}
+use Rattle.rules.specs.Yield.{Yield, yieldOf, spanYield}
 use Rattle.reader.specs.State.{stateOf}
 use Rattle.rules.specs.declared.rule.Made.{Made}
 use Rattle.rules.specs.declared.rule.Made.the-variants.{EndsOf, Breaks}
@@ -23,25 +23,25 @@ use Rattle.reader.specs.declared.state.Stepped.{Stepped}
 use Rattle.reader.specs.declared.state.Stepped.the-variants.{Next, Refused}
 
 -- a line as the line reader gives it: as many numbers as belong to its word, the first ones of an array with room for the most
-pub record ParsedLine (w : WordRead) (count : ℕ) (numbers : List ℤ) : Type 0 where
+pub record ParsedLine (w : WordYield) (count : ℕ) (numbers : List ℤ) : Type 0 where
   pub numbers-long : length numbers ≡ mostNumbers
   pub counted : kindOf (wordOf w) .isCounted (take count numbers) ≡ true
   pub most : count ≤ mostNumbers
   pub small : Small count numbers
 
 -- the first rule that a line breaks, or the ends of the value that it makes, or narrows, for every kind
-unfoldable pub toldBy : Word → Known → Line → Told
-toldBy field s l = toldOf s l
-toldBy input s l = toldOf s l
-toldBy span s l = spanTold s l
-toldBy sum s l = toldOf s l
-toldBy relu s l = toldOf s l
-toldBy which s l = toldOf s l
-toldBy max s l = toldOf s l
-toldBy root s l = toldOf s l
+unfoldable pub yieldBy : Word → Known → Line → Yield
+yieldBy field s l = yieldOf s l
+yieldBy input s l = yieldOf s l
+yieldBy span s l = spanYield s l
+yieldBy sum s l = yieldOf s l
+yieldBy relu s l = yieldOf s l
+yieldBy which s l = yieldOf s l
+yieldBy max s l = yieldOf s l
+yieldBy root s l = yieldOf s l
 
-unfoldable pub lineTold : Known → Line → Told
-lineTold s l = toldBy (l .word) s l
+unfoldable pub lineYield : Known → Line → Yield
+lineYield s l = yieldBy (l .word) s l
 
 -- the refusal of a line, or what is known after it
 pub data Step : Type 0 where
@@ -57,9 +57,9 @@ unfoldable pub stepOption : ℕ → Known → Option Line → Step
 stepOption n s none = stops 3
 stepOption n s (some l) = stepOf n s l
 
-unfoldable pub stepSeen : ℕ → Stepped → (lows highs : List ℤ) (places : List ℕ) → Step
-stepSeen p (Next c) lows highs places = goes (stateOf p c lows highs places)
-stepSeen p (Refused n) lows highs places = stops n
+unfoldable pub stepMeaning : ℕ → Stepped → (lows highs : List ℤ) (places : List ℕ) → Step
+stepMeaning p (Next c) lows highs places = goes (stateOf p c lows highs places)
+stepMeaning p (Refused n) lows highs places = stops n
 
 -- the cells of the values after a line: its own first cell stands behind them, and counts where the line makes a value
 unfoldable pub placedAt : Counts → List ℕ → List ℕ
@@ -80,7 +80,7 @@ unfoldable pub untouched : {A : Type 0} → Stepped → List A → List A
 untouched (Next c) xs = drop (c .values) xs
 untouched (Refused n) xs = xs
 
--- a lent array before and after a line. What it has for the values is in the state that `stepSeen` reads, so that the two say all of it
+-- a lent array before and after a line. What it has for the values is in the state that `stepMeaning` reads, so that the two say all of it
 pub record Left {A : Type 0} (r : Stepped) (before after : List A) : Type 0 where
   pub long : length after ≡ length before
   pub same : untouched r after ≡ untouched r before

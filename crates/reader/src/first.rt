@@ -7,9 +7,9 @@ ghost use lib.ListN.{take};
 ghost use Rattle.meaning.specs.Known.{fresh};
 ghost use Rattle.text.specs.Word.{wordOf};
 ghost use Rattle.rules.specs.Ready.{greatest};
-ghost use Rattle.rules.specs.Told.{lineWith};
+ghost use Rattle.rules.specs.Yield.{lineWith};
 ghost use Rattle.reader.specs.Step.{ParsedLine, stepOf};
-ghost use Rattle.reader.specs.Read.{primeIn, firstSeen};
+ghost use Rattle.reader.specs.Read.{primeIn, firstMeaning};
 
 // p, or the number of the refusal.
 pub enum First {
@@ -20,7 +20,7 @@ pub enum First {
 // Line 0 with this word and the first `count` of these numbers. Where the line comes from, text or not, is for the caller.
 pub fn first_parsed(word: Word, numbers: &[i64], count: usize) -> First
     requires { ⌜ ParsedLine word count (now numbers) ⌝ }
-    ensures told { λ r. ⌜ firstSeen r ≡ stepOf 0 fresh (lineWith (wordOf word) (take count (now (numbers .entry)))) ⌝ }
+    ensures yields { λ r. ⌜ firstMeaning r ≡ stepOf 0 fresh (lineWith (wordOf word) (take count (now (numbers .entry)))) ⌝ }
     ensures small { λ r. ⌜ primeIn r ≤ greatest ⌝ }
 {
     let Word::Field = word else {

@@ -17,7 +17,7 @@ ghost use Rattle.meaning.specs.Number.{OddPrime};
 ghost use Rattle.text.specs.Place.{linesFrom};
 ghost use Rattle.meaning.specs.Reply.{readReply};
 ghost use Rattle.rules.specs.Ready.{greatest};
-ghost use Rattle.reader.specs.Read.{only, surveyOf, surveySeen, PrimeFound, answerSeen, Exact};
+ghost use Rattle.reader.specs.Read.{only, surveyOf, surveyMeaning, PrimeFound, answerMeaning, Exact};
 ghost use Rattle.meaning.specs.Word.{mostNumbers};
 
 // A read list's p and all its counts, or its refusal.
@@ -34,8 +34,8 @@ pub enum Answer {
 
 // The public call: for every byte string the reply of document 01, and so the first refusal that fits the text, or none.
 pub fn read(list: &[u8]) -> Answer
-    ensures replied { λ r. ⌜ answerSeen r ≡ readReply (now (list .entry)) ⌝ }
-    ensures exact { λ r. ⌜ Exact (now (list .entry)) (answerSeen r) ⌝ }
+    ensures replied { λ r. ⌜ answerMeaning r ≡ readReply (now (list .entry)) ⌝ }
+    ensures exact { λ r. ⌜ Exact (now (list .entry)) (answerMeaning r) ⌝ }
 {
     let found = survey(list);
     match found {
@@ -46,7 +46,7 @@ pub fn read(list: &[u8]) -> Answer
 
 // The same with the count of inputs, which making asks for.
 pub fn survey(list: &[u8]) -> Surveyed
-    ensures told { λ r. ⌜ surveySeen r ≡ surveyOf (reading (now (list .entry))) ⌝ }
+    ensures yields { λ r. ⌜ surveyMeaning r ≡ surveyOf (reading (now (list .entry))) ⌝ }
     ensures prime { λ r. ⌜ PrimeFound r ⌝ }
 {
     if 65536 < list.len() {
@@ -70,7 +70,7 @@ pub fn survey(list: &[u8]) -> Surveyed
 fn survey_from(list: &[u8], start: usize, p: u32, numbers: &mut [i64]) -> Surveyed
     requires { ⌜ (isEnded (now list) ≡ true) × (1 ≤ start) × (start ≤ length (now list)) × OddPrime p × (p ≤ greatest)
         × (length (now numbers) ≡ mostNumbers) ⌝ }
-    ensures told { λ r. ⌜ surveySeen r ≡ surveyOf (readFrom plain 1 (only p) (linesFrom (now (list .entry)) start)) ⌝ }
+    ensures yields { λ r. ⌜ surveyMeaning r ≡ surveyOf (readFrom plain 1 (only p) (linesFrom (now (list .entry)) start)) ⌝ }
     ensures prime { λ r. ⌜ PrimeFound r ⌝ }
 {
     let mut lows: [i64; 256] = [0; 256];

@@ -12,7 +12,7 @@ ghost use Rattle.meaning.specs.Word.{kindOf, mostNumbers};
 ghost use Rattle.meaning.specs.Known.{Known};
 ghost use Rattle.meaning.specs.Kept.{Keeps};
 ghost use Rattle.text.specs.Word.{wordOf};
-ghost use Rattle.rules.specs.Told.{lineWith};
+ghost use Rattle.rules.specs.Yield.{lineWith};
 ghost use Rattle.reader.specs.Size.{counted, Adds, FewCounts, DigitCount, DigitSize};
 
 // A number that is not negative, as a count: 0 where it is negative.
@@ -64,7 +64,7 @@ fn digit_size(
 // How much a line adds to the counts of a list: its values, inputs, cells and rows. The walks over a list that was read go by it.
 pub fn line_size(word: Word, numbers: &[i64]) -> Counts
     requires { ⌜ length (now numbers) ≡ mostNumbers ⌝ }
-    ensures told { λ r. ⌜ ((n count : ℕ) (s : Known) → kindOf (wordOf word) .isCounted (take count (now (numbers .entry))) ≡ true
+    ensures yields { λ r. ⌜ ((n count : ℕ) (s : Known) → kindOf (wordOf word) .isCounted (take count (now (numbers .entry))) ≡ true
         → Keeps n s (lineWith (wordOf word) (take count (now (numbers .entry)))) → Adds s (lineWith (wordOf word) (take count (now (numbers .entry)))) r) ⌝ }
     ensures small { λ r. ⌜ FewCounts r ⌝ }
 {

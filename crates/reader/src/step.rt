@@ -20,10 +20,10 @@ ghost use mathlib.Core.List.{List};
 ghost use lib.ListN.{length, take};
 ghost use Rattle.meaning.specs.Known.{Known};
 ghost use Rattle.text.specs.Word.{wordOf};
-ghost use Rattle.rules.specs.Ready.{Ready, Seen};
+ghost use Rattle.rules.specs.Ready.{Ready, Represented};
 ghost use Rattle.reader.specs.State.{stateOf};
-ghost use Rattle.rules.specs.Told.{madeSeen, lineWith};
-ghost use Rattle.reader.specs.Step.{ParsedLine, lineTold, WithinLimits, Left, placedAt, valueCount, stepSeen, stepOf};
+ghost use Rattle.rules.specs.Yield.{madeMeaning, lineWith};
+ghost use Rattle.reader.specs.Step.{ParsedLine, lineYield, WithinLimits, Left, placedAt, valueCount, stepMeaning, stepOf};
 ghost use Rattle.meaning.specs.Refusal.{valueLimit};
 
 // The ends of the value that a line makes, or narrows, or the number of the first rule that it breaks.
@@ -38,8 +38,8 @@ fn read_ends(
     highs: &[i64],
 ) -> Made
     requires { ⌜ Ready p values cells (now lows) (now highs) × ParsedLine word count (now numbers) ⌝ }
-    ensures { λ r. ⌜ ((s : Known) → Seen s p values cells (now (lows .entry)) (now (highs .entry))
-        → madeSeen r ≡ lineTold s (lineWith (wordOf word) (take count (now (numbers .entry))))) ⌝ }
+    ensures { λ r. ⌜ ((s : Known) → Represented s p values cells (now (lows .entry)) (now (highs .entry))
+        → madeMeaning r ≡ lineYield s (lineWith (wordOf word) (take count (now (numbers .entry))))) ⌝ }
 {
     match word {
         Word::Field => Made::Breaks(4),
@@ -66,8 +66,8 @@ pub fn step_parsed(
 ) -> Stepped
     requires { ⌜ Ready p (counts .values) (counts .cells) (now lows) (now highs) × WithinLimits counts (length (now lows)) (length (now highs))
         × ParsedLine word count (now numbers) ⌝ }
-    ensures told { λ r. ⌜ ((s : Known) (places : List ℕ) → length places ≡ valueLimit → s ≡ stateOf p counts (now (lows .entry)) (now (highs .entry)) places
-        → stepSeen p r (now (lows .exit)) (now (highs .exit)) (placedAt counts places) ≡ stepOf 1 s (lineWith (wordOf word) (take count (now (numbers .entry))))) ⌝ }
+    ensures yields { λ r. ⌜ ((s : Known) (places : List ℕ) → length places ≡ valueLimit → s ≡ stateOf p counts (now (lows .entry)) (now (highs .entry)) places
+        → stepMeaning p r (now (lows .exit)) (now (highs .exit)) (placedAt counts places) ≡ stepOf 1 s (lineWith (wordOf word) (take count (now (numbers .entry))))) ⌝ }
     ensures held { λ r. ⌜ (valueCount r ≤ valueLimit) × Left r (now (lows .entry)) (now (lows .exit)) × Left r (now (highs .entry)) (now (highs .exit)) ⌝ }
 {
     let made = read_ends(

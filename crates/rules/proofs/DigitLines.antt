@@ -21,12 +21,12 @@ use Rattle.meaning.specs.Meaning.{gadget}
 use Rattle.meaning.specs.Refusal.{all, isRanged, isMade, isDigits}
 use Rattle.rules.specs.declared.rule.Begun.{Begun}
 use Rattle.rules.specs.declared.rule.Begun.the-variants.{Digits, Stops}
-use Rattle.rules.specs.Ready.{Ready, Seen}
-use Rattle.rules.specs.Told.{Told, refuses, toldOf, spanTold, lineWith}
+use Rattle.rules.specs.Ready.{Ready, Represented}
+use Rattle.rules.specs.Yield.{Yield, refuses, yieldOf, spanYield, lineWith}
 use Rattle.rules.specs.Rule.{begun, begunUnless, earlyBroken}
 use Rattle.rules.proofs.Digits.{digits-allowed}
 use Rattle.rules.proofs.Values.{known-count}
-use Rattle.rules.proofs.Rules.{late, toldWith, toldUnless, earlyOf, told-by-rules, early-named}
+use Rattle.rules.proofs.Rules.{late, yieldWith, yieldUnless, earlyOf, yield-by-rules, early-named}
 
 -- a kind of line: its word, how many numbers it has and where its base stands; what else rule 6 asks of it, and how its names are tested; how many
 -- values it makes and how its cells are counted; and its gadget, by its base and its digit count
@@ -68,17 +68,17 @@ abbrev tested : ℤ → ℤ → Bool
 tested x y = isDigits (record { b = x; k = y })
 
 -- what is told of a line that has begun so, by what is told of it from rule 10 on
-abbrev toldBegun : Begun → (rest : (b k : ℕ) → Told) → Told
-toldBegun (Stops n) rest = refuses n
-toldBegun (Digits b k) rest = rest b k
+abbrev yieldBegun : Begun → (rest : (b k : ℕ) → Yield) → Yield
+yieldBegun (Stops n) rest = refuses n
+yieldBegun (Digits b k) rest = rest b k
 
 module _ (x y : ℤ) where
-  told-if : (t : Bool) (early : ℕ) (rest : ℕ → ℕ → Told)
-      → toldBegun (cond t (begunUnless early (natAbs x) (natAbs y)) (Stops 6)) rest ≡ cond t (toldUnless early (rest (natAbs x) (natAbs y))) (refuses 6)
-  unfolding begunUnless toldUnless
-  told-if true zero rest = refl
-  told-if true (suc n) rest = refl
-  told-if false early rest = refl
+  yield-if : (t : Bool) (early : ℕ) (rest : ℕ → ℕ → Yield)
+      → yieldBegun (cond t (begunUnless early (natAbs x) (natAbs y)) (Stops 6)) rest ≡ cond t (yieldUnless early (rest (natAbs x) (natAbs y))) (refuses 6)
+  unfolding begunUnless yieldUnless
+  yield-if true zero rest = refl
+  yield-if true (suc n) rest = refl
+  yield-if false early rest = refl
 
   goes-by : (d r : Bool) (e b k : ℕ) → Digits b k ≡ cond (d && r) (begunUnless e (natAbs x) (natAbs y)) (Stops 6) → (d ≡ true) × (e ≡ 0) × (b ≡ natAbs x) × (k ≡ natAbs y)
   unfolding begunUnless
@@ -91,11 +91,11 @@ module _ (x y : ℤ) where
   unfolding begun
   goes ranged early b k q = goes-by (tested x y) ranged early b k q
 
-  begun-told : (ranged : Bool) (early : ℕ) (rest : ℕ → ℕ → Told) → toldBegun (begun x y ranged early) rest ≡ cond (tested x y && ranged) (toldUnless early (rest (natAbs x) (natAbs y))) (refuses 6)
+  begun-yield : (ranged : Bool) (early : ℕ) (rest : ℕ → ℕ → Yield) → yieldBegun (begun x y ranged early) rest ≡ cond (tested x y && ranged) (yieldUnless early (rest (natAbs x) (natAbs y))) (refuses 6)
   unfolding begun
-  begun-told ranged early rest = told-if (tested x y && ranged) early rest
+  begun-yield ranged early rest = yield-if (tested x y && ranged) early rest
 
-module _ {K : Layout} {p values cells : ℕ} {numbers : List ℤ} {r : Begun} (told : BegunBy K p values cells numbers r) where
+module _ {K : Layout} {p values cells : ℕ} {numbers : List ℤ} {r : Begun} (yields : BegunBy K p values cells numbers r) where
   abbrev x : ℤ
   x = getD numbers (K .at) (pos 0)
 
@@ -113,7 +113,7 @@ module _ {K : Layout} {p values cells : ℕ} {numbers : List ℤ} {r : Begun} (t
 
   pub begins : {b k : ℕ} → r ≡ Digits b k → Begins K values numbers b k
   begins {b} {k} q =
-      let g = goes x y (K .ranged p numbers) early b k (sym q ∙ told .answer) in
+      let g = goes x y (K .ranged p numbers) early b k (sym q ∙ yields .answer) in
       let a = digits-allowed x y (g .0) in
       record {
         base-is = g .2;
@@ -123,31 +123,31 @@ module _ {K : Layout} {p values cells : ℕ} {numbers : List ℤ} {r : Begun} (t
         are-made = early-named (K .named values numbers) values (K .new) cells width refl (g .1);
       }
 
-  module _ (shape : Shape K) {lows highs : List ℤ} (ready : Ready p values cells lows highs) {s : Known} (seen : Seen s p values cells lows highs) where
+  module _ (shape : Shape K) {lows highs : List ℤ} (ready : Ready p values cells lows highs) {s : Known} (meaning : Represented s p values cells lows highs) where
     ranged-is : isRanged (s .p) (K .word) line ≡ tested x y && K .ranged p numbers
-    ranged-is = rw (seen .prime) (shape .ranges p numbers)
+    ranged-is = rw (meaning .prime) (shape .ranges p numbers)
 
     early-is : earlyOf s (K .word) line ≡ early
-    early-is = rw (shape .is s numbers, shape .makes-so-many s numbers (natAbs x) (natAbs y), shape .cells s numbers (natAbs x) (natAbs y), known-count ready seen, seen .cells-are, shape .names values numbers) refl
+    early-is = rw (shape .is s numbers, shape .makes-so-many s numbers (natAbs x) (natAbs y), shape .cells s numbers (natAbs x) (natAbs y), known-count ready meaning, meaning .cells-are, shape .names values numbers) refl
 
     -- over any ends that are told where no rule is broken
-    told-with : (es : List Ends) → toldWith s (lineWith (K .word) line) es ≡ toldBegun r (λ b k. late (K .line s numbers b k) es)
-    told-with es =
-        told-by-rules s (K .word) line es (shape .plain) ∙ rw (ranged-is, early-is, shape .is s numbers)
-        (sym (begun-told x y (K .ranged p numbers) early (λ b k. late (K .line s numbers b k) es)) ∙ ap (λ (t : Begun). toldBegun t (λ b k. late (K .line s numbers b k) es)) (sym (told .answer)))
+    yield-with : (es : List Ends) → yieldWith s (lineWith (K .word) line) es ≡ yieldBegun r (λ b k. late (K .line s numbers b k) es)
+    yield-with es =
+        yield-by-rules s (K .word) line es (shape .plain) ∙ rw (ranged-is, early-is, shape .is s numbers)
+        (sym (begun-yield x y (K .ranged p numbers) early (λ b k. late (K .line s numbers b k) es)) ∙ ap (λ (t : Begun). yieldBegun t (λ b k. late (K .line s numbers b k) es)) (sym (yields .answer)))
 
-    stops-with : (es : List Ends) {n : ℕ} → r ≡ Stops n → refuses n ≡ toldWith s (lineWith (K .word) line) es
-    stops-with es q = sym (told-with es ∙ rw q)
+    stops-with : (es : List Ends) {n : ℕ} → r ≡ Stops n → refuses n ≡ yieldWith s (lineWith (K .word) line) es
+    stops-with es q = sym (yield-with es ∙ rw q)
 
-    goes-with : (es : List Ends) {b k : ℕ} → r ≡ Digits b k → toldWith s (lineWith (K .word) line) es ≡ late (K .line s numbers b k) es
-    goes-with es q = told-with es ∙ rw q
+    goes-with : (es : List Ends) {b k : ℕ} → r ≡ Digits b k → yieldWith s (lineWith (K .word) line) es ≡ late (K .line s numbers b k) es
+    goes-with es q = yield-with es ∙ rw q
 
-    pub digits-stop : {n : ℕ} → r ≡ Stops n → refuses n ≡ toldOf s (lineWith (K .word) line)
-    unfolding toldOf gadget
+    pub digits-stop : {n : ℕ} → r ≡ Stops n → refuses n ≡ yieldOf s (lineWith (K .word) line)
+    unfolding yieldOf gadget
     digits-stop q = stops-with (kindOf (K .word) .gadget s line .made) q
 
-    pub digits-late : {b k : ℕ} → r ≡ Digits b k → toldOf s (lineWith (K .word) line) ≡ late (K .line s numbers b k) (K .line s numbers b k .made)
-    unfolding toldOf gadget
+    pub digits-late : {b k : ℕ} → r ≡ Digits b k → yieldOf s (lineWith (K .word) line) ≡ late (K .line s numbers b k) (K .line s numbers b k .made)
+    unfolding yieldOf gadget
     digits-late q =
         let g = begins q in
         goes-with (kindOf (K .word) .gadget s line .made) q ∙ rw (shape .is s numbers, ← g .base-is, ← g .count-is)
@@ -266,21 +266,21 @@ span-shape = record {
 
 -- ---- a span line, which makes no value: what is told of it are the new ends of its value
 
-module _ {p values cells : ℕ} {numbers : List ℤ} {r : Begun} (told : BegunBy spanLayout p values cells numbers r)
-    {lows highs : List ℤ} (ready : Ready p values cells lows highs) {s : Known} (seen : Seen s p values cells lows highs) where
+module _ {p values cells : ℕ} {numbers : List ℤ} {r : Begun} (yields : BegunBy spanLayout p values cells numbers r)
+    {lows highs : List ℤ} (ready : Ready p values cells lows highs) {s : Known} (meaning : Represented s p values cells lows highs) where
   abbrev newEnds : List Ends
   newEnds =
       let ns : List ℤ = take 4 numbers in
       shared (sizeAt ns 1) (sizeAt ns 2) (numberAt ns 3) (endsOf s (sizeAt ns 0)) ∷ []
 
-  pub span-stop : {n : ℕ} → r ≡ Stops n → refuses n ≡ spanTold s (lineWith span (take 4 numbers))
-  unfolding spanTold
-  span-stop q = stops-with told span-shape ready seen newEnds q
+  pub span-stop : {n : ℕ} → r ≡ Stops n → refuses n ≡ spanYield s (lineWith span (take 4 numbers))
+  unfolding spanYield
+  span-stop q = stops-with yields span-shape ready meaning newEnds q
 
-  pub span-late : {b k : ℕ} → r ≡ Digits b k → spanTold s (lineWith span (take 4 numbers))
+  pub span-late : {b k : ℕ} → r ≡ Digits b k → spanYield s (lineWith span (take 4 numbers))
       ≡ late (spanLine s (nameAt numbers 0) b k (getD numbers 3 (pos 0))) (shared b k (getD numbers 3 (pos 0)) (endsOf s (nameAt numbers 0)) ∷ [])
-  unfolding spanTold
+  unfolding spanYield
   span-late q =
-      let g = begins told q in
-      goes-with told span-shape ready seen newEnds q
+      let g = begins yields q in
+      goes-with yields span-shape ready meaning newEnds q
       ∙ rw (size-taken 4 numbers 0 (omega arith), size-taken 4 numbers 1 (omega arith), size-taken 4 numbers 2 (omega arith), number-taken 4 numbers 3 (omega arith), ← g .base-is, ← g .count-is)

@@ -27,8 +27,8 @@ use Rattle.number.proofs.Word.{wide-product}
 use Rattle.number.proofs.CappedPower.{of-capped, above-capped, power-one}
 use Rattle.rules.specs.declared.rule.Digits.{Digits as DigitsRead}
 use Rattle.rules.specs.declared.rule.Digits.the-variants.{Of, NoDigits}
-use Rattle.rules.specs.Told.{refuses, makes}
-use Rattle.rules.specs.Rule.{digitsAllowed, digitsSeen, narrow, rootTold}
+use Rattle.rules.specs.Yield.{refuses, makes}
+use Rattle.rules.specs.Rule.{digitsAllowed, digitsMeaning, narrow, rootYield}
 
 -- ---- what rule 6 says
 
@@ -74,8 +74,8 @@ pub record Read (x y : ℤ) (b k : ℕ) : Type 0 where
   pub count-one : 1 ≤ k
   pub count-most : k ≤ mostDigits
 
-pub digits-read : (x y : ℤ) {r : DigitsRead} {b k : ℕ} → r ≡ Of b k → digitsSeen r ≡ digitsAllowed x y → Read x y b k
-unfolding digitsSeen digitsAllowed
+pub digits-read : (x y : ℤ) {r : DigitsRead} {b k : ℕ} → r ≡ Of b k → digitsMeaning r ≡ digitsAllowed x y → Read x y b k
+unfolding digitsMeaning digitsAllowed
 digits-read x y {r} {b} {k} q e =
     let w = value-cond (isDigits (record { b = x; k = y })) 6 (record { b = pos b; k = pos k }) (record { b = x; k = y }) (rw q at e) in
     let base-is : b ≡ natAbs x = ap (λ (d : Meant). natAbs (d .b)) (w .1) in
@@ -83,8 +83,8 @@ digits-read x y {r} {b} {k} q e =
     let a = digits-allowed x y (w .0) in
     record { digits = w .0; base-is = base-is; count-is = count-is; base-two = omega arith; count-one = omega arith; count-most = omega arith }
 
-pub digits-none : (x y : ℤ) {r : DigitsRead} → r ≡ NoDigits → digitsSeen r ≡ digitsAllowed x y → isDigits (record { b = x; k = y }) ≡ false
-unfolding digitsSeen digitsAllowed
+pub digits-none : (x y : ℤ) {r : DigitsRead} → r ≡ NoDigits → digitsMeaning r ≡ digitsAllowed x y → isDigits (record { b = x; k = y }) ≡ false
+unfolding digitsMeaning digitsAllowed
 digits-none x y q e = refused-cond (isDigits (record { b = x; k = y })) 6 6 (record { b = x; k = y }) (rw q at e)
 
 -- ---- c = b^k
@@ -94,13 +94,13 @@ pub record Power (p b k c : ℕ) : Type 0 where
   pub positive : 1 ≤ c
   pub within : c ≤ p
 
-module _ (p b k : ℕ) {r : PowerRead} (told : r ≡ cappedPower b k p) where
+module _ (p b k : ℕ) {r : PowerRead} (yields : r ≡ cappedPower b k p) where
   pub power-above : r ≡ AboveCap → p < b ^ k
-  power-above q = above-capped b k p (sym q ∙ told)
+  power-above q = above-capped b k p (sym q ∙ yields)
 
   pub power-within : {c : ℕ} → 1 ≤ b → r ≡ PowerOf c → Power p b k c
   power-within {c} h q =
-      let w = of-capped b k p c (sym q ∙ told) in
+      let w = of-capped b k p c (sym q ∙ yields) in
       let l : 1 ≤ b ^ k = one-le-pow k b (omega arith) in
       record { power = w .0; positive = omega arith; within = omega arith }
 
@@ -155,18 +155,18 @@ module _ {p b k part : ℕ} (base : 1 ≤ b) (one : 1 ≤ k) (r : Power p b (k -
 -- ---- the root rule
 
 module _ (p c : ℕ) where
-  pub root-low : c < 3 → rootTold p c ≡ refuses 10
-  unfolding rootTold
+  pub root-low : c < 3 → rootYield p c ≡ refuses 10
+  unfolding rootYield
   root-low h = rw (lt-leb 3 c h)
 
-  pub root-wide : half p + 1 < c * c → rootTold p c ≡ refuses 10
-  unfolding rootTold
+  pub root-wide : half p + 1 < c * c → rootYield p c ≡ refuses 10
+  unfolding rootYield
   root-wide h = rw (lt-leb (c * c) (half p + 1) h, and-false (leb 3 c))
 
-  pub root-above : p < c → 3 ≤ p → rootTold p c ≡ refuses 10
+  pub root-above : p < c → 3 ≤ p → rootYield p c ≡ refuses 10
   unfolding half
   root-above h three = root-wide (let l : 1 * c ≤ c * c = mul-le-mul-right c (omega arith) in omega (arith, one-mul c))
 
-  pub root-kept : 3 ≤ c → c * c ≤ half p + 1 → rootTold p c ≡ makes (ends (pos 0) (pos (c - 1)) ∷ [])
-  unfolding rootTold
+  pub root-kept : 3 ≤ c → c * c ≤ half p + 1 → rootYield p c ≡ makes (ends (pos 0) (pos (c - 1)) ∷ [])
+  unfolding rootYield
   root-kept h k = rw (le-leb 3 c h, le-leb (c * c) (half p + 1) k)

@@ -16,13 +16,13 @@ use Rattle.meaning.specs.Known.{ends, Known}
 use Rattle.meaning.specs.Gadget.Input.{inputLine}
 use Rattle.meaning.specs.Meaning.{gadget}
 use Rattle.meaning.specs.Refusal.{all, isRanged}
-use Rattle.rules.specs.Ready.{Ready, Seen}
-use Rattle.rules.specs.Told.{makes, toldOf, lineWith}
+use Rattle.rules.specs.Ready.{Ready, Represented}
+use Rattle.rules.specs.Yield.{makes, yieldOf, lineWith}
 use Rattle.rules.specs.Rule.{earlyBroken}
 use Rattle.rules.proofs.Values.{known-count}
-use Rattle.rules.proofs.Rules.{late, toldUnless, earlyOf, told-by-rules}
+use Rattle.rules.proofs.Rules.{late, yieldUnless, earlyOf, yield-by-rules}
 
-module _ {p values cells : ℕ} {lows highs : List ℤ} (ready : Ready p values cells lows highs) {s : Known} (seen : Seen s p values cells lows highs)
+module _ {p values cells : ℕ} {lows highs : List ℤ} (ready : Ready p values cells lows highs) {s : Known} (meaning : Represented s p values cells lows highs)
     {n : ℕ} (early : n ≡ earlyBroken true values 1 cells 1) where
   input-plain : kindOf input .isField ≡ false
   unfolding kindOf
@@ -34,11 +34,11 @@ module _ {p values cells : ℕ} {lows highs : List ℤ} (ready : Ready p values 
 
   early-too : earlyOf s input [] ≡ n
   unfolding kindOf inputLine all
-  early-too = rw (known-count ready seen, seen .cells-are) (sym early)
+  early-too = rw (known-count ready meaning, meaning .cells-are) (sym early)
 
-  pub input-told : toldOf s (lineWith input []) ≡ toldUnless n (makes (ends (negℤ (pos ((p - 1) / 2))) (pos ((p - 1) / 2)) ∷ []))
-  unfolding toldOf gadget kindOf late inputLine lowest highest half
-  input-told = told-by-rules s input [] (kindOf input .gadget s [] .made) input-plain ∙ rw (input-ranged, early-too, seen .prime) refl
+  pub input-yield : yieldOf s (lineWith input []) ≡ yieldUnless n (makes (ends (negℤ (pos ((p - 1) / 2))) (pos ((p - 1) / 2)) ∷ []))
+  unfolding yieldOf gadget kindOf late inputLine lowest highest half
+  input-yield = yield-by-rules s input [] (kindOf input .gadget s [] .made) input-plain ∙ rw (input-ranged, early-too, meaning .prime) refl
 
 -- ---- M in a machine word
 

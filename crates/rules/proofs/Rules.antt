@@ -15,7 +15,7 @@ use Rattle.meaning.specs.Known.{Known, Ends}
 use Rattle.meaning.specs.Gadget.Interface.{Gadget}
 use Rattle.meaning.specs.Meaning.{gadget}
 use Rattle.meaning.specs.Refusal.{valueLimit, cellLimit, onSome, all, isPlaced, isOverPrime, isRanged, isMade, rulesWith, rulesWithin, rules, firstBroken}
-use Rattle.rules.specs.Told.{Told, refuses, makes, lineWith}
+use Rattle.rules.specs.Yield.{Yield, refuses, makes, lineWith}
 use Rattle.rules.specs.Rule.{earlyBroken, begunUnless}
 use Rattle.rules.specs.declared.rule.Begun.the-variants.{Stops}
 
@@ -24,28 +24,28 @@ unfolding isOverPrime kindOf
 over-prime w ns e = rw e refl
 
 -- the first broken rule, or these ends
-abbrev pub toldWith : Known → Line → List Ends → Told
-toldWith s l es = onSome (firstBroken rules 1 s l) refuses (makes es)
+abbrev pub yieldWith : Known → Line → List Ends → Yield
+yieldWith s l es = onSome (firstBroken rules 1 s l) refuses (makes es)
 
 -- the rules from 10 on
-unfoldable pub late : Gadget → List Ends → Told
+unfoldable pub late : Gadget → List Ends → Yield
 late g es = cond (g .unambiguous) (cond (g .fits) (cond (g .overlaps) (makes es) (refuses 12)) (refuses 11)) (refuses 10)
 
 -- the rules from 7 on: `early` is the first broken of 7 to 9, or 0, and `rest` is what is told from rule 10 on
-unfoldable pub toldUnless : (early : ℕ) (rest : Told) → Told
-toldUnless zero rest = rest
-toldUnless (suc n) rest = refuses (suc n)
+unfoldable pub yieldUnless : (early : ℕ) (rest : Yield) → Yield
+yieldUnless zero rest = rest
+yieldUnless (suc n) rest = refuses (suc n)
 
-pub unless-broken : (n : ℕ) (rest : Told) → (n ≡ 0 → ⊥) → toldUnless n rest ≡ refuses n
-unfolding toldUnless
+pub unless-broken : (n : ℕ) (rest : Yield) → (n ≡ 0 → ⊥) → yieldUnless n rest ≡ refuses n
+unfolding yieldUnless
 unless-broken zero rest h = absurd (h refl)
 unless-broken (suc n) rest h = refl
 
 -- the tests of the rules from 6 on, in their order
 by-tests : (r a b c u f o : Bool) (es : List Ends)
     → onSome (cond r (cond a (cond b (cond c (cond u (cond f (cond o none (some 12)) (some 11)) (some 10)) (some 9)) (some 8)) (some 7)) (some 6)) refuses (makes es)
-    ≡ cond r (toldUnless (cond a (cond b (cond c 0 9) 8) 7) (cond u (cond f (cond o (makes es) (refuses 12)) (refuses 11)) (refuses 10))) (refuses 6)
-unfolding onSome toldUnless
+    ≡ cond r (yieldUnless (cond a (cond b (cond c 0 9) 8) 7) (cond u (cond f (cond o (makes es) (refuses 12)) (refuses 11)) (refuses 10))) (refuses 6)
+unfolding onSome yieldUnless
 by-tests true true true true true true true es = refl
 by-tests true true true true true true false es = refl
 by-tests true true true true true false o es = refl
@@ -69,10 +69,10 @@ abbrev pub earlyOf : Known → Word → List ℤ → ℕ
 earlyOf s w ns = earlyBroken (areNamed s w ns) (length (s .known)) (length (kindOf w .gadget s ns .made)) (s .cells) (kindOf w .gadget s ns .width)
 
 -- what is told of any line after line 0
-pub told-by-rules : (s : Known) (w : Word) (ns : List ℤ) (es : List Ends) → kindOf w .isField ≡ false
-    → toldWith s (lineWith w ns) es ≡ cond (isRanged (s .p) w ns) (toldUnless (earlyOf s w ns) (late (kindOf w .gadget s ns) es)) (refuses 6)
+pub yield-by-rules : (s : Known) (w : Word) (ns : List ℤ) (es : List Ends) → kindOf w .isField ≡ false
+    → yieldWith s (lineWith w ns) es ≡ cond (isRanged (s .p) w ns) (yieldUnless (earlyOf s w ns) (late (kindOf w .gadget s ns) es)) (refuses 6)
 unfolding firstBroken rules rulesWith rulesWithin isPlaced earlyBroken gadget late
-told-by-rules s w ns es plain =
+yield-by-rules s w ns es plain =
     let g : Gadget = kindOf w .gadget s ns in
     rw (plain, over-prime w ns plain) (by-tests (isRanged (s .p) w ns) (areNamed s w ns) (valuesFit s w ns) (cellsFit s w ns) (g .unambiguous) (g .fits) (g .overlaps) es)
 

@@ -18,13 +18,13 @@ use Rattle.meaning.proofs.Order.{between-iff}
 use Rattle.number.specs.Bounded.{Bounded}
 use Rattle.number.proofs.Bounded.{bounded-range, bounded-more}
 use Rattle.rules.specs.declared.rule.Ends.{Ends as ReadEnds}
-use Rattle.rules.specs.Ready.{greatest, Ready, Seen}
-use Rattle.rules.specs.Told.{refuses, makes, toldOf, lineWith}
-use Rattle.rules.specs.Rule.{earlyBroken, endsSeen, EndsRead, BoundedEnds}
-use Rattle.rules.specs.Sum.{endsAt, sumTold}
+use Rattle.rules.specs.Ready.{greatest, Ready, Represented}
+use Rattle.rules.specs.Yield.{refuses, makes, yieldOf, lineWith}
+use Rattle.rules.specs.Rule.{earlyBroken, endsMeaning, EndsRead, BoundedEnds}
+use Rattle.rules.specs.Sum.{endsAt, sumYield}
 use Rattle.rules.proofs.Tests.{both-true, made-name}
 use Rattle.rules.proofs.Values.{known-count, known-ends}
-use Rattle.rules.proofs.Rules.{late, toldUnless, unless-broken, earlyOf, told-by-rules, early-named}
+use Rattle.rules.proofs.Rules.{late, yieldUnless, unless-broken, earlyOf, yield-by-rules, early-named}
 use Rattle.rules.proofs.DigitLines.{number-taken}
 
 pub all-first : (f : ℤ → Bool) (x : ℤ) (xs : List ℤ) → all f (x ∷ xs) ≡ true → f x ≡ true
@@ -82,8 +82,8 @@ module _ (f : ℤ → Bool) (numbers : List ℤ) (count i : ℕ) (enough : count
 
 -- ---- one term
 
-pub read-at : {lows highs : List ℤ} {z : ℤ} {e : ReadEnds} → EndsRead lows highs z e → endsSeen e ≡ endsAt lows highs (natAbs z)
-unfolding endsSeen endsAt
+pub read-at : {lows highs : List ℤ} {z : ℤ} {e : ReadEnds} → EndsRead lows highs z e → endsMeaning e ≡ endsAt lows highs (natAbs z)
+unfolding endsMeaning endsAt
 read-at read = rw (read .low-read, read .high-read)
 
 pub terms-at : (numbers : List ℤ) (count i : ℕ) → count ≤ length numbers → i + 1 < count → termsOf (drop i (take count numbers))
@@ -103,25 +103,25 @@ terms-at numbers count i enough h =
     )
 
 module _ (p : ℕ) (lows highs numbers : List ℤ) (es : Ends) (count i : ℕ) (enough : count ≤ length numbers) where
-  pub sum-end : count ≤ i → sumTold p lows highs es (termsOf (drop i (take count numbers))) ≡ makes (es ∷ [])
-  unfolding sumTold termsOf
+  pub sum-end : count ≤ i → sumYield p lows highs es (termsOf (drop i (take count numbers))) ≡ makes (es ∷ [])
+  unfolding sumYield termsOf
   sum-end h =
       let short : length (take count numbers) ≤ i = omega (arith, length-take-le count numbers enough) in
       rw (drop-of-length-le (take count numbers) short)
 
   module _ (more : i + 1 < count) {next : Ends}
       (is : next ≡ added es (scaled (getD numbers i (pos 0)) (endsAt lows highs (natAbs (getD numbers (i + 1) (pos 0)))))) where
-    sum-at : sumTold p lows highs es (termsOf (drop i (take count numbers)))
-        ≡ cond (endsInRange p next) (sumTold p lows highs next (termsOf (drop (i + 2) (take count numbers)))) (refuses 11)
-    unfolding sumTold
+    sum-at : sumYield p lows highs es (termsOf (drop i (take count numbers)))
+        ≡ cond (endsInRange p next) (sumYield p lows highs next (termsOf (drop (i + 2) (take count numbers)))) (refuses 11)
+    unfolding sumYield
     sum-at = rw (terms-at numbers count i enough more, is)
 
     pub sum-next : endsInRange p next ≡ true
-        → sumTold p lows highs es (termsOf (drop i (take count numbers))) ≡ sumTold p lows highs next
+        → sumYield p lows highs es (termsOf (drop i (take count numbers))) ≡ sumYield p lows highs next
         (termsOf (drop (i + 2) (take count numbers)))
     sum-next kept = sum-at ∙ rw kept
 
-    pub sum-leaves : endsInRange p next ≡ false → sumTold p lows highs es (termsOf (drop i (take count numbers))) ≡ refuses 11
+    pub sum-leaves : endsInRange p next ≡ false → sumYield p lows highs es (termsOf (drop i (take count numbers))) ≡ refuses 11
     sum-leaves broken = sum-at ∙ rw broken
 
 -- ends in the range are small
@@ -131,8 +131,8 @@ range-small p x most within =
     let w = between-iff (lowest p) x (highest p) .0 (≡-test (between (lowest p) x (highest p)) within) in
     bounded-more (bounded-range x (w .0) (w .1)) (omega arith)
 
-pub range-sized : (p : ℕ) (e : ReadEnds) → p ≤ greatest → endsInRange p (endsSeen e) ≡ true → BoundedEnds greatest e
-unfolding endsInRange endsSeen
+pub range-sized : (p : ℕ) (e : ReadEnds) → p ≤ greatest → endsInRange p (endsMeaning e) ≡ true → BoundedEnds greatest e
+unfolding endsInRange endsMeaning
 range-sized p e most within =
     let w = both-true (inRange p (e .low .0)) (inRange p (e .high .0)) within in
     record { low-sized = range-small p (e .low .0) most (w .0); high-sized = range-small p (e .high .0) most (w .1) }
@@ -150,24 +150,24 @@ no-fit s es [] e = e
 no-fit s es (t ∷ ts) e = rw e
 
 module _ {p values cells : ℕ} {lows highs : List ℤ} (ready : Ready p values cells lows highs) {s : Known}
-    (seen : Seen s p values cells lows highs) where
+    (meaning : Represented s p values cells lows highs) where
   sum-step : (next : Ends) (ts : List Term) (t : Bool) → endsInRange p next ≡ t
-      → (endsInRange p next ≡ true → cond (sumFits s next ts) (makes (sumEnds s next ts ∷ [])) (refuses 11) ≡ sumTold p lows highs next ts)
-      → cond (sumFits s next ts) (makes (sumEnds s next ts ∷ [])) (refuses 11) ≡ cond t (sumTold p lows highs next ts) (refuses 11)
+      → (endsInRange p next ≡ true → cond (sumFits s next ts) (makes (sumEnds s next ts ∷ [])) (refuses 11) ≡ sumYield p lows highs next ts)
+      → cond (sumFits s next ts) (makes (sumEnds s next ts ∷ [])) (refuses 11) ≡ cond t (sumYield p lows highs next ts) (refuses 11)
   sum-step next ts true e later = later e
-  sum-step next ts false e later = rw (no-fit s next ts (rw (seen .prime) e))
+  sum-step next ts false e later = rw (no-fit s next ts (rw (meaning .prime) e))
 
   -- the sum over the state is the sum over the arrays, where its names are made
   sum-over : (ns : List ℤ) → all (isMade values) (alternate (withoutFirst ns)) ≡ true → (es : Ends) → endsInRange p es ≡ true
-      → cond (sumFits s es (termsOf ns)) (makes (sumEnds s es (termsOf ns) ∷ [])) (refuses 11) ≡ sumTold p lows highs es (termsOf ns)
-  unfolding termsOf sumFits sumEnds sumTold all withoutFirst endsAt
-  sum-over [] made es within = rw (seen .prime, within)
-  sum-over (c ∷ []) made es within = rw (seen .prime, within)
+      → cond (sumFits s es (termsOf ns)) (makes (sumEnds s es (termsOf ns) ∷ [])) (refuses 11) ≡ sumYield p lows highs es (termsOf ns)
+  unfolding termsOf sumFits sumEnds sumYield all withoutFirst endsAt
+  sum-over [] made es within = rw (meaning .prime, within)
+  sum-over (c ∷ []) made es within = rw (meaning .prime, within)
   sum-over (c ∷ (v ∷ ns)) made es within =
       let w = both-true (isMade values v) (all (isMade values) (alternate (withoutFirst ns))) (rw (alternate-cons v ns) at made) in
       let next : Ends = added es (scaled c (endsAt lows highs (natAbs v))) in
-      let here : endsInRange (s .p) es ≡ true = rw (seen .prime) within in
-      rw (known-ends ready seen (natAbs v) (made-name values v (w .0) .below), here)
+      let here : endsInRange (s .p) es ≡ true = rw (meaning .prime) within in
+      rw (known-ends ready meaning (natAbs v) (made-name values v (w .0) .below), here)
       (sum-step next (termsOf ns) (endsInRange p next) refl (λ q. sum-over ns (w .1) next q))
 
   module _ (numbers : List ℤ) (count : ℕ) (some : 0 < count) where
@@ -178,33 +178,33 @@ module _ {p values cells : ℕ} {lows highs : List ℤ} (ready : Ready p values 
     sum-ranged : isRanged (s .p) sum (take count numbers) ≡ all (inRange p)
         (getD numbers 0 (pos 0) ∷ alternate (drop 1 (take count numbers)))
     unfolding isRanged all kindOf
-    sum-ranged = rw (seen .prime, number-taken count numbers 0 some, without-drop (take count numbers) 0)
+    sum-ranged = rw (meaning .prime, number-taken count numbers 0 some, without-drop (take count numbers) 0)
 
-    sum-told : toldOf s (lineWith sum (take count numbers)) ≡ cond (all (inRange p) (getD numbers 0 (pos 0) ∷ alternate (drop 1 (take count numbers))))
-        (toldUnless (earlyOf s sum (take count numbers)) (late (kindOf sum .gadget s (take count numbers)) (kindOf sum .gadget s (take count numbers) .made))) (refuses 6)
-    unfolding toldOf gadget
-    sum-told = told-by-rules s sum (take count numbers) (kindOf sum .gadget s (take count numbers) .made) sum-plain ∙ rw sum-ranged
+    sum-yield : yieldOf s (lineWith sum (take count numbers)) ≡ cond (all (inRange p) (getD numbers 0 (pos 0) ∷ alternate (drop 1 (take count numbers))))
+        (yieldUnless (earlyOf s sum (take count numbers)) (late (kindOf sum .gadget s (take count numbers)) (kindOf sum .gadget s (take count numbers) .made))) (refuses 6)
+    unfolding yieldOf gadget
+    sum-yield = yield-by-rules s sum (take count numbers) (kindOf sum .gadget s (take count numbers) .made) sum-plain ∙ rw sum-ranged
 
     pub sum-6 : all (inRange p) (getD numbers 0 (pos 0) ∷ alternate (drop 1 (take count numbers))) ≡ false
-        → toldOf s (lineWith sum (take count numbers)) ≡ refuses 6
-    sum-6 out = sum-told ∙ rw out
+        → yieldOf s (lineWith sum (take count numbers)) ≡ refuses 6
+    sum-6 out = sum-yield ∙ rw out
 
     module _ (ranged : all (inRange p) (getD numbers 0 (pos 0) ∷ alternate (drop 1 (take count numbers))) ≡ true) {n : ℕ}
         (early : n ≡ earlyBroken (all (isMade values) (alternate (drop 2 (take count numbers)))) values 1 cells 1) where
       early-too : earlyOf s sum (take count numbers) ≡ n
       unfolding kindOf sumLine
-      early-too = rw (known-count ready seen, seen .cells-are, without-drop (take count numbers) 0, without-drop (take count numbers) 1) (sym early)
+      early-too = rw (known-count ready meaning, meaning .cells-are, without-drop (take count numbers) 0, without-drop (take count numbers) 1) (sym early)
 
-      pub sum-early : (n ≡ 0 → ⊥) → toldOf s (lineWith sum (take count numbers)) ≡ refuses n
-      sum-early h = sum-told ∙ rw (ranged, early-too) (unless-broken n _ h)
+      pub sum-early : (n ≡ 0 → ⊥) → yieldOf s (lineWith sum (take count numbers)) ≡ refuses n
+      sum-early h = sum-yield ∙ rw (ranged, early-too) (unless-broken n _ h)
 
-      pub sum-late : n ≡ 0 → toldOf s (lineWith sum (take count numbers))
-          ≡ sumTold p lows highs (ends (getD numbers 0 (pos 0)) (getD numbers 0 (pos 0))) (termsOf (drop 1 (take count numbers)))
-      unfolding kindOf endsInRange toldUnless
+      pub sum-late : n ≡ 0 → yieldOf s (lineWith sum (take count numbers))
+          ≡ sumYield p lows highs (ends (getD numbers 0 (pos 0)) (getD numbers 0 (pos 0))) (termsOf (drop 1 (take count numbers)))
+      unfolding kindOf endsInRange yieldUnless
       sum-late none =
           let ns : List ℤ = take count numbers in
           let c0 : ℤ = getD numbers 0 (pos 0) in
           let first = all-first (inRange p) c0 (alternate (drop 1 ns)) ranged in
           let named = early-named (all (isMade values) (alternate (drop 2 ns))) values 1 cells 1 early none in
-          sum-told ∙ rw (ranged, early-too, none) (sum-gadget s (numberAt ns 0) (termsOf (withoutFirst ns))
+          sum-yield ∙ rw (ranged, early-too, none) (sum-gadget s (numberAt ns 0) (termsOf (withoutFirst ns))
           ∙ rw (number-taken count numbers 0 some, without-drop ns 0) (sum-over (drop 1 ns) (rw (without-drop ns 1) named) (ends c0 c0) (rw first)))

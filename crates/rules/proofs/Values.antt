@@ -11,8 +11,8 @@ use Rattle.meaning.specs.Known.{Known, Ends, ends, endsOf}
 use Rattle.meaning.specs.Refusal.{isMade}
 use Rattle.number.specs.Bounded.{Bounded}
 use Rattle.number.proofs.Bounded.{bounded-more}
-use Rattle.rules.specs.Ready.{endsFrom, greatest, Ready, Seen, greatestApart}
-use Rattle.rules.specs.Rule.{endsSeen, EndsRead, BoundedEnds, Field}
+use Rattle.rules.specs.Ready.{endsFrom, greatest, Ready, Represented, greatestApart}
+use Rattle.rules.specs.Rule.{endsMeaning, EndsRead, BoundedEnds, Field}
 use Rattle.rules.specs.declared.rule.Ends.{Ends as ReadEnds}
 use Rattle.rules.proofs.Tests.{made-name}
 
@@ -49,23 +49,23 @@ module _ {p values cells : ℕ} {lows highs : List ℤ} (ready : Ready p values 
   high-count : length (take values highs) ≡ values
   high-count = length-take-le values highs ready-highs
 
-  module _ {s : Known} (seen : Seen s p values cells lows highs) where
+  module _ {s : Known} (meaning : Represented s p values cells lows highs) where
     pub known-count : length (s .known) ≡ values
-    known-count = known-long s values lows highs (seen .known) ready-lows ready-highs
+    known-count = known-long s values lows highs (meaning .known) ready-lows ready-highs
 
     pub known-ends : (v : ℕ) → v < values → endsOf s v ≡ ends (getD lows v (pos 0)) (getD highs v (pos 0))
     unfolding endsOf
     known-ends v h =
         rw (
-          seen .known,
+          meaning .known,
           ends-at (take values lows) (take values highs) (ends (pos 0) (pos 0)) v (omega (arith, low-count)) (omega (arith, high-count)),
           getD-take values lows v (pos 0) h,
           getD-take values highs v (pos 0) h,
         )
 
     -- the ends that the code read are those of the value that z names
-    pub ends-known : {z : ℤ} {e : ReadEnds} → isMade values z ≡ true → EndsRead lows highs z e → endsOf s (natAbs z) ≡ endsSeen e
-    unfolding endsSeen
+    pub ends-known : {z : ℤ} {e : ReadEnds} → isMade values z ≡ true → EndsRead lows highs z e → endsOf s (natAbs z) ≡ endsMeaning e
+    unfolding endsMeaning
     ends-known {z} {e} made read = rw (known-ends (natAbs z) (made-name values z made .below), read .low-read, read .high-read)
 
   -- and they are small

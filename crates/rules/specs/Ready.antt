@@ -42,7 +42,7 @@ pub record Ready (p values cells : ℕ) (lows highs : List ℤ) : Type 0 where
   pub highs-small : Small values highs
 
 -- the counts and the arrays are those of state s, as far as the rules for a line ask
-pub record Seen (s : Known) (p values cells : ℕ) (lows highs : List ℤ) : Type 0 where
+pub record Represented (s : Known) (p values cells : ℕ) (lows highs : List ℤ) : Type 0 where
   pub prime : s .p ≡ p
   pub known : s .known ≡ endsFrom (take values lows) (take values highs)
   pub cells-are : s .cells ≡ cells

@@ -19,16 +19,16 @@ use Rattle.rules.specs.declared.rule.Begun.{Begun}
 use Rattle.rules.specs.declared.rule.Begun.the-variants.{Digits, Stops}
 use Rattle.rules.specs.declared.rule.Ends.{Ends}
 use Rattle.rules.specs.Ready.{greatest}
-use Rattle.rules.specs.Told.{Told, refuses, makes}
+use Rattle.rules.specs.Yield.{Yield, refuses, makes}
 
 -- a base and a digit count where rule 6 lets them through, and else refusal 6
 unfoldable pub digitsAllowed : (b k : ℤ) → Result Meant
 digitsAllowed b k = let d : Meant = record { b = b; k = k } in cond (isDigits d) (value d) (refusedBy 6)
 
 -- the same as the code has it
-unfoldable pub digitsSeen : DigitsRead → Result Meant
-digitsSeen (Of b k) = value (record { b = pos b; k = pos k })
-digitsSeen NoDigits = refusedBy 6
+unfoldable pub digitsMeaning : DigitsRead → Result Meant
+digitsMeaning (Of b k) = value (record { b = pos b; k = pos k })
+digitsMeaning NoDigits = refusedBy 6
 
 -- the first that is broken of the rules 7 to 9, or 0
 unfoldable pub earlyBroken : (named : Bool) (values new cells width : ℕ) → ℕ
@@ -45,8 +45,8 @@ begun b k ranged early = cond (isDigits (record { b = b; k = k }) && ranged) (be
 
 -- ---- known ends
 
-unfoldable pub endsSeen : Ends → KnownEnds
-endsSeen e = ends (e .low .0) (e .high .0)
+unfoldable pub endsMeaning : Ends → KnownEnds
+endsMeaning e = ends (e .low .0) (e .high .0)
 
 -- the ends that the arrays have of the value that z names
 pub record EndsRead (lows highs : List ℤ) (z : ℤ) (e : Ends) : Type 0 where
@@ -75,13 +75,13 @@ abbrev pub narrow : (p c : ℕ) → KnownEnds → (shift : ℤ) → Bool
 narrow p c es shift = leZ (es .F -ℤ shift) (pos (p - 1)) && leZ (shift +ℤ pos (c - 1) -ℤ es .E) (pos (p - 1))
 
 -- what is told of a line by this rule, where those up to 9 are kept: the ends that the line makes, or refusal 10
-abbrev pub ruleTold : Bool → KnownEnds → Told
-ruleTold kept es = cond kept (makes (es ∷ [])) (refuses 10)
+abbrev pub ruleYield : Bool → KnownEnds → Yield
+ruleYield kept es = cond kept (makes (es ∷ [])) (refuses 10)
 
 -- of a root line, where the rules up to 9 are kept, with c = b^k: "Allowed exactly when c ≥ 3 and c² ≤ M+1"
-unfoldable pub rootTold : (p c : ℕ) → Told
-rootTold p c = ruleTold (leb 3 c && leb (c * c) (half p + 1)) (ends (pos 0) (pos (c - 1)))
+unfoldable pub rootYield : (p c : ℕ) → Yield
+rootYield p c = ruleYield (leb 3 c && leb (c * c) (half p + 1)) (ends (pos 0) (pos (c - 1)))
 
 -- what is told of a span line where the rules up to 10 are kept, with the new ends of v
-unfoldable pub sharedTold : KnownEnds → Told
-sharedTold new = cond (leZ (new .E) (new .F)) (makes (new ∷ [])) (refuses 12)
+unfoldable pub sharedYield : KnownEnds → Yield
+sharedYield new = cond (leZ (new .E) (new .F)) (makes (new ∷ [])) (refuses 12)

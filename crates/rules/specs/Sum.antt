@@ -7,14 +7,14 @@ use lib.IntN.{ℤ, pos}
 use Rattle.meaning.specs.Known.{ends}
 use Rattle.meaning.specs.Known.{Ends as KnownEnds}
 use Rattle.meaning.specs.Gadget.Sum.{Term, scaled, added, endsInRange}
-use Rattle.rules.specs.Told.{Told, refuses, makes}
+use Rattle.rules.specs.Yield.{Yield, refuses, makes}
 
 unfoldable pub endsAt : (lows highs : List ℤ) → ℕ → KnownEnds
 endsAt lows highs v = ends (getD lows v (pos 0)) (getD highs v (pos 0))
 
 -- the terms that are left, with the ends so far, which lie in the range
-unfoldable pub sumTold : (p : ℕ) (lows highs : List ℤ) → KnownEnds → List Term → Told
-sumTold p lows highs es [] = makes (es ∷ [])
-sumTold p lows highs es (t ∷ ts) =
+unfoldable pub sumYield : (p : ℕ) (lows highs : List ℤ) → KnownEnds → List Term → Yield
+sumYield p lows highs es [] = makes (es ∷ [])
+sumYield p lows highs es (t ∷ ts) =
     let next = added es (scaled (t .coefficient) (endsAt lows highs (t .value))) in
-    cond (endsInRange p next) (sumTold p lows highs next ts) (refuses 11)
+    cond (endsInRange p next) (sumYield p lows highs next ts) (refuses 11)

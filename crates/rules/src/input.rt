@@ -5,13 +5,13 @@ ghost use mathlib.Core.Path.{_≡_};
 ghost use mathlib.Core.List.{[]};
 ghost use Rattle.meaning.specs.Word.{input};
 ghost use Rattle.meaning.specs.Known.{Known};
-ghost use Rattle.rules.specs.Ready.{Ready, Seen};
-ghost use Rattle.rules.specs.Told.{toldOf, madeSeen, lineWith};
+ghost use Rattle.rules.specs.Ready.{Ready, Represented};
+ghost use Rattle.rules.specs.Yield.{yieldOf, madeMeaning, lineWith};
 
 pub fn read_input(p: u32, values: usize, cells: usize, lows: &[i64], highs: &[i64]) -> Made
     requires { ⌜ Ready p values cells (now lows) (now highs) ⌝ }
-    ensures { λ r. ⌜ ((s : Known) → Seen s p values cells (now (lows .entry)) (now (highs .entry))
-        → madeSeen r ≡ toldOf s (lineWith input [])) ⌝ }
+    ensures { λ r. ⌜ ((s : Known) → Represented s p values cells (now (lows .entry)) (now (highs .entry))
+        → madeMeaning r ≡ yieldOf s (lineWith input [])) ⌝ }
 {
     let broken = early_broken(true, values, 1, cells, 1);
     if broken != 0 {

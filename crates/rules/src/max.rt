@@ -21,9 +21,9 @@ ghost use lib.IntN.{pos};
 ghost use lib.ListN.{length, take};
 ghost use Rattle.meaning.specs.Word.{max};
 ghost use Rattle.meaning.specs.Known.{Known, above, digitRule};
-ghost use Rattle.rules.specs.Ready.{Small, Ready, Seen, greatestApart, greatest};
-ghost use Rattle.rules.specs.Told.{toldOf, madeSeen, lineWith};
-ghost use Rattle.rules.specs.Rule.{ruleTold, endsSeen, greaterEnds, BoundedEnds, Field};
+ghost use Rattle.rules.specs.Ready.{Small, Ready, Represented, greatestApart, greatest};
+ghost use Rattle.rules.specs.Yield.{yieldOf, madeMeaning, lineWith};
+ghost use Rattle.rules.specs.Rule.{ruleYield, endsMeaning, greaterEnds, BoundedEnds, Field};
 
 pub fn read_max(
     numbers: &[i64],
@@ -34,8 +34,8 @@ pub fn read_max(
     highs: &[i64],
 ) -> Made
     requires { ⌜ Ready p values cells (now lows) (now highs) × (4 ≤ length (now numbers)) × Small 4 (now numbers) ⌝ }
-    ensures { λ r. ⌜ ((s : Known) → Seen s p values cells (now (lows .entry)) (now (highs .entry))
-        → madeSeen r ≡ toldOf s (lineWith max (take 4 (now (numbers .entry))))) ⌝ }
+    ensures { λ r. ⌜ ((s : Known) → Represented s p values cells (now (lows .entry)) (now (highs .entry))
+        → madeMeaning r ≡ yieldOf s (lineWith max (take 4 (now (numbers .entry))))) ⌝ }
 {
     let named = are_made(numbers, values);
     let begun = begin_line(numbers, 2, true, named, values, 1, cells, 2, 1);
@@ -52,9 +52,9 @@ pub fn read_max(
 // The ends of y, the greater of u and v, where the digit rule is kept over y - u and over y - v with shift 0: both have the same c = b^k.
 fn max_ends(p: u32, b: u64, k: u32, u: Ends, v: Ends) -> Made
     requires { ⌜ Field p × (1 ≤ b) × BoundedEnds greatest u × BoundedEnds greatest v ⌝ }
-    ensures { λ r. ⌜ madeSeen r
-        ≡ ruleTold (digitRule p b k (above (endsSeen u) (endsSeen v)) (pos 0) && digitRule p b k (above (endsSeen v) (endsSeen u)) (pos 0))
-        (greaterEnds (endsSeen u) (endsSeen v)) ⌝ }
+    ensures { λ r. ⌜ madeMeaning r
+        ≡ ruleYield (digitRule p b k (above (endsMeaning u) (endsMeaning v)) (pos 0) && digitRule p b k (above (endsMeaning v) (endsMeaning u)) (pos 0))
+        (greaterEnds (endsMeaning u) (endsMeaning v)) ⌝ }
 {
     let Power::Of(c) = capped_power(b, k, p) else {
         return Made::Breaks(10);
@@ -71,7 +71,7 @@ fn max_ends(p: u32, b: u64, k: u32, u: Ends, v: Ends) -> Made
 // The ends of y - u.
 fn above(u: Ends, v: Ends) -> Ends
     requires { ⌜ BoundedEnds greatest u × BoundedEnds greatest v ⌝ }
-    ensures { λ r. ⌜ BoundedEnds greatestApart r × (endsSeen r ≡ above (endsSeen u) (endsSeen v)) ⌝ }
+    ensures { λ r. ⌜ BoundedEnds greatestApart r × (endsMeaning r ≡ above (endsMeaning u) (endsMeaning v)) ⌝ }
 {
     let between = apart(v, u);
     Ends {

@@ -16,9 +16,9 @@ ghost use lib.ListN.{length, take};
 ghost use Rattle.meaning.specs.Word.{relu};
 ghost use Rattle.meaning.specs.Known.{Known, ends, digitRule};
 ghost use Rattle.meaning.specs.Gadget.Sign.{signShift};
-ghost use Rattle.rules.specs.Rule.{ruleTold, endsSeen, greaterEnds, BoundedEnds, Field};
-ghost use Rattle.rules.specs.Ready.{Small, Ready, Seen, greatest};
-ghost use Rattle.rules.specs.Told.{toldOf, madeSeen, lineWith};
+ghost use Rattle.rules.specs.Rule.{ruleYield, endsMeaning, greaterEnds, BoundedEnds, Field};
+ghost use Rattle.rules.specs.Ready.{Small, Ready, Represented, greatest};
+ghost use Rattle.rules.specs.Yield.{yieldOf, madeMeaning, lineWith};
 
 pub fn read_relu(
     numbers: &[i64],
@@ -29,8 +29,8 @@ pub fn read_relu(
     highs: &[i64],
 ) -> Made
     requires { ⌜ Ready p values cells (now lows) (now highs) × (3 ≤ length (now numbers)) × Small 3 (now numbers) ⌝ }
-    ensures { λ r. ⌜ ((s : Known) → Seen s p values cells (now (lows .entry)) (now (highs .entry))
-        → madeSeen r ≡ toldOf s (lineWith relu (take 3 (now (numbers .entry))))) ⌝ }
+    ensures { λ r. ⌜ ((s : Known) → Represented s p values cells (now (lows .entry)) (now (highs .entry))
+        → madeMeaning r ≡ yieldOf s (lineWith relu (take 3 (now (numbers .entry))))) ⌝ }
 {
     let named = is_made(numbers, 0, values);
     let begun = begin_line(numbers, 1, true, named, values, 1, cells, 1, 3);
@@ -46,7 +46,7 @@ pub fn read_relu(
 // The ends of the greater of 0 and the value, where the digit rule is kept.
 fn relu_ends(p: u32, b: u64, k: u32, old: Ends) -> Made
     requires { ⌜ Field p × (1 ≤ b) × (1 ≤ k) × BoundedEnds greatest old ⌝ }
-    ensures { λ r. ⌜ madeSeen r ≡ ruleTold (digitRule p b k (endsSeen old) (signShift b k)) (greaterEnds (ends (pos 0) (pos 0)) (endsSeen old)) ⌝ }
+    ensures { λ r. ⌜ madeMeaning r ≡ ruleYield (digitRule p b k (endsMeaning old) (signShift b k)) (greaterEnds (ends (pos 0) (pos 0)) (endsMeaning old)) ⌝ }
 {
     if !sign_rule(p, b, k, old) {
         return Made::Breaks(10);

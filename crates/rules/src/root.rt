@@ -10,9 +10,9 @@ ghost use Prim.Native.Nat.{_^_, _≤_};
 ghost use lib.ListN.{length, take};
 ghost use Rattle.meaning.specs.Word.{root};
 ghost use Rattle.meaning.specs.Known.{Known};
-ghost use Rattle.rules.specs.Ready.{Small, Ready, Seen};
-ghost use Rattle.rules.specs.Told.{toldOf, madeSeen, lineWith};
-ghost use Rattle.rules.specs.Rule.{rootTold, Field};
+ghost use Rattle.rules.specs.Ready.{Small, Ready, Represented};
+ghost use Rattle.rules.specs.Yield.{yieldOf, madeMeaning, lineWith};
+ghost use Rattle.rules.specs.Rule.{rootYield, Field};
 
 pub fn read_root(
     numbers: &[i64],
@@ -23,8 +23,8 @@ pub fn read_root(
     highs: &[i64],
 ) -> Made
     requires { ⌜ Ready p values cells (now lows) (now highs) × (3 ≤ length (now numbers)) × Small 3 (now numbers) ⌝ }
-    ensures { λ r. ⌜ ((s : Known) → Seen s p values cells (now (lows .entry)) (now (highs .entry))
-        → madeSeen r ≡ toldOf s (lineWith root (take 3 (now (numbers .entry))))) ⌝ }
+    ensures { λ r. ⌜ ((s : Known) → Represented s p values cells (now (lows .entry)) (now (highs .entry))
+        → madeMeaning r ≡ yieldOf s (lineWith root (take 3 (now (numbers .entry))))) ⌝ }
 {
     let named = is_made(numbers, 0, values);
     let begun = begin_line(numbers, 1, true, named, values, 1, cells, 4, 2);
@@ -37,7 +37,7 @@ pub fn read_root(
 // The ends 0..c-1, where c >= 3 and c² <= M+1, M = (p-1)/2.
 fn root_ends(p: u32, b: u64, k: u32) -> Made
     requires { ⌜ Field p × (1 ≤ b) ⌝ }
-    ensures { λ r. ⌜ madeSeen r ≡ rootTold p (b ^ k) ⌝ }
+    ensures { λ r. ⌜ madeMeaning r ≡ rootYield p (b ^ k) ⌝ }
 {
     let Power::Of(c) = capped_power(b, k, p) else {
         return Made::Breaks(10);

@@ -17,8 +17,8 @@ ghost use Rattle.meaning.specs.Number.{inRange};
 ghost use Rattle.meaning.specs.Refusal.{isMade, cellLimit, valueLimit};
 ghost use Rattle.meaning.specs.Gadget.Sign.{signShift};
 ghost use Rattle.number.specs.Bounded.{Bounded};
-ghost use Rattle.rules.specs.Told.{madeSeen, makes};
-ghost use Rattle.rules.specs.Rule.{digitsAllowed, digitsSeen, endsSeen, earlyBroken, begun, greaterEnds, narrow, Field, EndsRead, BoundedEnds};
+ghost use Rattle.rules.specs.Yield.{madeMeaning, makes};
+ghost use Rattle.rules.specs.Rule.{digitsAllowed, digitsMeaning, endsMeaning, earlyBroken, begun, greaterEnds, narrow, Field, EndsRead, BoundedEnds};
 ghost use Rattle.rules.specs.Ready.{greatestApart, greatest};
 
 // The ends of the value that a line makes, or the number of the first rule that it breaks.
@@ -40,7 +40,7 @@ pub struct Ends {
 }
 
 pub fn made_of(e: Ends) -> Made
-    ensures { λ r. ⌜ madeSeen r ≡ makes (endsSeen e ∷ []) ⌝ }
+    ensures { λ r. ⌜ madeMeaning r ≡ makes (endsMeaning e ∷ []) ⌝ }
 {
     Made::EndsOf(e.low.0, e.high.0)
 }
@@ -50,7 +50,7 @@ pub fn made_of(e: Ends) -> Made
 // The base at a place and the digit count after it.
 pub fn digits_at(numbers: &[i64], at: usize) -> Digits
     requires { ⌜ at + 1 < length (now numbers) ⌝ }
-    ensures { λ r. ⌜ digitsSeen r ≡ digitsAllowed (getD (now (numbers .entry)) at (pos 0)) (getD (now (numbers .entry)) (at + 1) (pos 0)) ⌝ }
+    ensures { λ r. ⌜ digitsMeaning r ≡ digitsAllowed (getD (now (numbers .entry)) at (pos 0)) (getD (now (numbers .entry)) (at + 1) (pos 0)) ⌝ }
 {
     let b = numbers[at];
     let k = numbers[at + 1];
@@ -59,7 +59,7 @@ pub fn digits_at(numbers: &[i64], at: usize) -> Digits
 
 // b and k, where 2 <= b and 1 <= k <= 31.
 fn digits_of(b: i64, k: i64) -> Digits
-    ensures { λ r. ⌜ digitsSeen r ≡ digitsAllowed b k ⌝ }
+    ensures { λ r. ⌜ digitsMeaning r ≡ digitsAllowed b k ⌝ }
 {
     if b < 2 {
         return Digits::NoDigits;
@@ -177,7 +177,7 @@ pub fn ends_named(numbers: &[i64], at: usize, values: usize, lows: &[i64], highs
 // The ends of the difference of two values.
 pub fn apart(u: Ends, v: Ends) -> Ends
     requires { ⌜ BoundedEnds greatest u × BoundedEnds greatest v ⌝ }
-    ensures { λ r. ⌜ BoundedEnds greatestApart r × (endsSeen r ≡ apart (endsSeen u) (endsSeen v)) ⌝ }
+    ensures { λ r. ⌜ BoundedEnds greatestApart r × (endsMeaning r ≡ apart (endsMeaning u) (endsMeaning v)) ⌝ }
 {
     Ends {
         low: whole_difference(u.low, v.high),
@@ -187,7 +187,7 @@ pub fn apart(u: Ends, v: Ends) -> Ends
 
 // The ends of the greater of two values.
 pub fn greater(u: Ends, v: Ends) -> Ends
-    ensures { λ r. ⌜ endsSeen r ≡ greaterEnds (endsSeen u) (endsSeen v) ⌝ }
+    ensures { λ r. ⌜ endsMeaning r ≡ greaterEnds (endsMeaning u) (endsMeaning v) ⌝ }
 {
     Ends {
         low: larger(u.low, v.low),
@@ -201,7 +201,7 @@ pub fn greater(u: Ends, v: Ends) -> Ends
 // nothing is divided. The product fits: part is 1, or b is at most part, which is at most p.
 pub fn sign_rule(p: u32, b: u64, k: u32, e: Ends) -> bool
     requires { ⌜ Field p × (1 ≤ b) × (1 ≤ k) × BoundedEnds greatestApart e ⌝ }
-    ensures { λ r. ⌜ r ≡ digitRule p b k (endsSeen e) (signShift b k) ⌝ }
+    ensures { λ r. ⌜ r ≡ digitRule p b k (endsMeaning e) (signShift b k) ⌝ }
 {
     let Power::Of(part) = capped_power(b, k - 1, p) else {
         return false;
@@ -218,7 +218,7 @@ pub fn sign_rule(p: u32, b: u64, k: u32, e: Ends) -> bool
 // The digit rule where c = b^k is at most p: F - L and L + c - 1 - E are at most p - 1.
 pub fn is_narrow(p: u32, c: u64, e: Ends, shift: i64) -> bool
     requires { ⌜ Field p × (1 ≤ c) × (c ≤ p) × BoundedEnds greatestApart e × Bounded greatest shift ⌝ }
-    ensures { λ r. ⌜ r ≡ narrow p c (endsSeen e) shift ⌝ }
+    ensures { λ r. ⌜ r ≡ narrow p c (endsMeaning e) shift ⌝ }
 {
     let last = (p - 1) as i64;
     let above = e.high.0 - shift;

@@ -21,9 +21,9 @@ ghost use Rattle.meaning.specs.Word.{span};
 ghost use Rattle.meaning.specs.Known.{Known, ends, larger, smaller, digitRule};
 ghost use Rattle.meaning.specs.Gadget.Span.{shared};
 ghost use Rattle.number.specs.Bounded.{Bounded};
-ghost use Rattle.rules.specs.Ready.{Small, Ready, Seen, greatest};
-ghost use Rattle.rules.specs.Told.{refuses, spanTold, madeSeen, lineWith};
-ghost use Rattle.rules.specs.Rule.{endsSeen, BoundedEnds, Field, sharedTold};
+ghost use Rattle.rules.specs.Ready.{Small, Ready, Represented, greatest};
+ghost use Rattle.rules.specs.Yield.{refuses, spanYield, madeMeaning, lineWith};
+ghost use Rattle.rules.specs.Rule.{endsMeaning, BoundedEnds, Field, sharedYield};
 
 pub fn read_span(
     numbers: &[i64],
@@ -34,8 +34,8 @@ pub fn read_span(
     highs: &[i64],
 ) -> Made
     requires { ⌜ Ready p values cells (now lows) (now highs) × (4 ≤ length (now numbers)) × Small 4 (now numbers) ⌝ }
-    ensures { λ r. ⌜ ((s : Known) → Seen s p values cells (now (lows .entry)) (now (highs .entry))
-        → madeSeen r ≡ spanTold s (lineWith span (take 4 (now (numbers .entry))))) ⌝ }
+    ensures { λ r. ⌜ ((s : Known) → Represented s p values cells (now (lows .entry)) (now (highs .entry))
+        → madeMeaning r ≡ spanYield s (lineWith span (take 4 (now (numbers .entry))))) ⌝ }
 {
     let ranged = is_ranged(numbers, 3, p);
     let named = is_made(numbers, 0, values);
@@ -53,8 +53,8 @@ pub fn read_span(
 // The new ends, where the digit rule is kept.
 fn span_ends(p: u32, b: u64, k: u32, old: Ends, shift: i64) -> Made
     requires { ⌜ Field p × (1 ≤ b) × BoundedEnds greatest old × Bounded greatest shift ⌝ }
-    ensures { λ r. ⌜ madeSeen r
-        ≡ cond (digitRule p b k (endsSeen old) shift) (sharedTold (shared b k shift (endsSeen old))) (refuses 10) ⌝ }
+    ensures { λ r. ⌜ madeMeaning r
+        ≡ cond (digitRule p b k (endsMeaning old) shift) (sharedYield (shared b k shift (endsMeaning old))) (refuses 10) ⌝ }
 {
     let Power::Of(c) = capped_power(b, k, p) else {
         return Made::Breaks(10);
@@ -69,7 +69,7 @@ fn span_ends(p: u32, b: u64, k: u32, old: Ends, shift: i64) -> Made
 // What the old ends and L..L+c-1 share, where they share a number.
 fn shared_ends(old: Ends, shift: i64, last: u64) -> Made
     requires { ⌜ (last ≤ greatest) × Bounded greatest shift ⌝ }
-    ensures { λ r. ⌜ madeSeen r ≡ sharedTold (ends (larger (old .low .0) shift) (smaller (old .high .0) (shift +ℤ pos last))) ⌝ }
+    ensures { λ r. ⌜ madeMeaning r ≡ sharedYield (ends (larger (old .low .0) shift) (smaller (old .high .0) (shift +ℤ pos last))) ⌝ }
 {
     let top = shift + last as i64;
     let low = larger(old.low, Whole(shift));

@@ -24,10 +24,10 @@ ghost use Rattle.meaning.specs.Known.{Known, ends};
 ghost use Rattle.meaning.specs.Refusal.{all, isMade, valueLimit};
 ghost use Rattle.meaning.specs.Gadget.Sum.{termsOf, scaled, added, endsInRange};
 ghost use Rattle.number.specs.Bounded.{Bounded};
-ghost use Rattle.rules.specs.Ready.{Small, Ready, Seen, greatestProduct, greatest};
-ghost use Rattle.rules.specs.Told.{toldOf, madeSeen, lineWith};
-ghost use Rattle.rules.specs.Rule.{endsSeen, BoundedEnds};
-ghost use Rattle.rules.specs.Sum.{sumTold};
+ghost use Rattle.rules.specs.Ready.{Small, Ready, Represented, greatestProduct, greatest};
+ghost use Rattle.rules.specs.Yield.{yieldOf, madeMeaning, lineWith};
+ghost use Rattle.rules.specs.Rule.{endsMeaning, BoundedEnds};
+ghost use Rattle.rules.specs.Sum.{sumYield};
 
 // c0, then count / 2 pairs of a coefficient and a name.
 pub fn read_sum(
@@ -41,8 +41,8 @@ pub fn read_sum(
 ) -> Made
     requires { ⌜ Ready p values cells (now lows) (now highs) × (count ≤ length (now numbers)) × (count ≤ mostNumbers)
         × (count % 2 ≡ 1) × Small count (now numbers) ⌝ }
-    ensures { λ r. ⌜ ((s : Known) → Seen s p values cells (now (lows .entry)) (now (highs .entry))
-        → madeSeen r ≡ toldOf s (lineWith sum (take count (now (numbers .entry))))) ⌝ }
+    ensures { λ r. ⌜ ((s : Known) → Represented s p values cells (now (lows .entry)) (now (highs .entry))
+        → madeMeaning r ≡ yieldOf s (lineWith sum (take count (now (numbers .entry))))) ⌝ }
 {
     if !coefficients_ranged(numbers, count, p) {
         return Made::Breaks(6);
@@ -102,7 +102,7 @@ fn sum_ends(
     requires { ⌜ Ready p values cells (now lows) (now highs) × (count ≤ length (now numbers)) × (count ≤ mostNumbers)
         × (count % 2 ≡ 1) × Small count (now numbers) × (inRange p (getD (now numbers) 0 (pos 0)) ≡ true)
         × (all (isMade values) (alternate (drop 2 (take count (now numbers)))) ≡ true) ⌝ }
-    ensures { λ r. ⌜ madeSeen r ≡ sumTold p (now (lows .entry)) (now (highs .entry))
+    ensures { λ r. ⌜ madeMeaning r ≡ sumYield p (now (lows .entry)) (now (highs .entry))
         (ends (getD (now (numbers .entry)) 0 (pos 0)) (getD (now (numbers .entry)) 0 (pos 0)))
         (termsOf (drop 1 (take count (now (numbers .entry))))) ⌝ }
 {
@@ -123,7 +123,7 @@ fn sum_ends(
 // The ends of c0.
 fn constant(numbers: &[i64]) -> Ends
     requires { ⌜ 0 < length (now numbers) ⌝ }
-    ensures { λ r. ⌜ endsSeen r ≡ ends (getD (now (numbers .entry)) 0 (pos 0)) (getD (now (numbers .entry)) 0 (pos 0)) ⌝ }
+    ensures { λ r. ⌜ endsMeaning r ≡ ends (getD (now (numbers .entry)) 0 (pos 0)) (getD (now (numbers .entry)) 0 (pos 0)) ⌝ }
 {
     let c0 = Whole(numbers[0]);
     Ends { low: c0, high: c0 }
@@ -132,7 +132,7 @@ fn constant(numbers: &[i64]) -> Ends
 // The ends of c times a value.
 fn scaled(c: i64, e: Ends) -> Ends
     requires { ⌜ Bounded greatest c × BoundedEnds greatest e ⌝ }
-    ensures { λ r. ⌜ BoundedEnds greatestProduct r × (endsSeen r ≡ scaled c (endsSeen e)) ⌝ }
+    ensures { λ r. ⌜ BoundedEnds greatestProduct r × (endsMeaning r ≡ scaled c (endsMeaning e)) ⌝ }
 {
     let one = whole_product(Whole(c), e.low);
     let other = whole_product(Whole(c), e.high);
@@ -144,7 +144,7 @@ fn scaled(c: i64, e: Ends) -> Ends
 
 fn plus(a: Ends, b: Ends) -> Ends
     requires { ⌜ BoundedEnds greatest a × BoundedEnds greatestProduct b ⌝ }
-    ensures { λ r. ⌜ endsSeen r ≡ added (endsSeen a) (endsSeen b) ⌝ }
+    ensures { λ r. ⌜ endsMeaning r ≡ added (endsMeaning a) (endsMeaning b) ⌝ }
 {
     Ends {
         low: whole_sum(a.low, b.low),
@@ -155,7 +155,7 @@ fn plus(a: Ends, b: Ends) -> Ends
 // Whether both ends lie in -M..M.
 fn is_within(p: u32, e: Ends) -> bool
     requires { ⌜ 3 ≤ p ⌝ }
-    ensures { λ r. ⌜ r ≡ endsInRange p (endsSeen e) ⌝ }
+    ensures { λ r. ⌜ r ≡ endsInRange p (endsMeaning e) ⌝ }
 {
     if in_range(e.low, p) {
         return in_range(e.high, p);

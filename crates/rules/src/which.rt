@@ -14,9 +14,9 @@ ghost use lib.ListN.{length, take};
 ghost use Rattle.meaning.specs.Word.{which};
 ghost use Rattle.meaning.specs.Known.{Known, ends, apart, digitRule};
 ghost use Rattle.meaning.specs.Gadget.Sign.{signShift};
-ghost use Rattle.rules.specs.Rule.{ruleTold, endsSeen, BoundedEnds, Field};
-ghost use Rattle.rules.specs.Ready.{Small, Ready, Seen, greatest};
-ghost use Rattle.rules.specs.Told.{toldOf, madeSeen, lineWith};
+ghost use Rattle.rules.specs.Rule.{ruleYield, endsMeaning, BoundedEnds, Field};
+ghost use Rattle.rules.specs.Ready.{Small, Ready, Represented, greatest};
+ghost use Rattle.rules.specs.Yield.{yieldOf, madeMeaning, lineWith};
 
 pub fn read_which(
     numbers: &[i64],
@@ -27,8 +27,8 @@ pub fn read_which(
     highs: &[i64],
 ) -> Made
     requires { ⌜ Ready p values cells (now lows) (now highs) × (4 ≤ length (now numbers)) × Small 4 (now numbers) ⌝ }
-    ensures { λ r. ⌜ ((s : Known) → Seen s p values cells (now (lows .entry)) (now (highs .entry))
-        → madeSeen r ≡ toldOf s (lineWith which (take 4 (now (numbers .entry))))) ⌝ }
+    ensures { λ r. ⌜ ((s : Known) → Represented s p values cells (now (lows .entry)) (now (highs .entry))
+        → madeMeaning r ≡ yieldOf s (lineWith which (take 4 (now (numbers .entry))))) ⌝ }
 {
     let named = are_made(numbers, values);
     let begun = begin_line(numbers, 2, true, named, values, 1, cells, 1, 3);
@@ -45,7 +45,7 @@ pub fn read_which(
 // The ends 0..1, where the digit rule is kept over u - v.
 fn which_ends(p: u32, b: u64, k: u32, u: Ends, v: Ends) -> Made
     requires { ⌜ Field p × (1 ≤ b) × (1 ≤ k) × BoundedEnds greatest u × BoundedEnds greatest v ⌝ }
-    ensures { λ r. ⌜ madeSeen r ≡ ruleTold (digitRule p b k (apart (endsSeen u) (endsSeen v)) (signShift b k)) (ends (pos 0) (pos 1)) ⌝ }
+    ensures { λ r. ⌜ madeMeaning r ≡ ruleYield (digitRule p b k (apart (endsMeaning u) (endsMeaning v)) (signShift b k)) (ends (pos 0) (pos 1)) ⌝ }
 {
     if !sign_rule(p, b, k, apart(u, v)) {
         return Made::Breaks(10);

@@ -24,17 +24,17 @@ use Rattle.meaning.proofs.Results.{refusal-none, refusal-place}
 use Rattle.text.specs.Word.{wordOf}
 use Rattle.reader.specs.declared.state.Counts.{Counts}
 use Rattle.reader.proofs.Steps.{few}
-use Rattle.groups.specs.Rows.{rowsSeen, firstRefusal, firstOf}
+use Rattle.groups.specs.Rows.{rowsMeaning, firstRefusal, firstOf}
 use Rattle.groups.specs.declared.rows.Rows.{Rows}
 use Rattle.groups.specs.declared.rows.Rows.the-variants.{AllHold, Fails}
 use Rattle.groups.proofs.RowsFirst.{first-append}
-use Rattle.table.specs.LineRows.{RowsAsked}
+use Rattle.table.specs.LineRows.{RowsGiven}
 use Rattle.service.specs.Walk.{Stands, Placed, ListRead, AtLine, Took, taken}
 use Rattle.service.specs.declared.walk.Taken.{Taken}
-use Rattle.service.specs.Check.{cellsSeen, TableAsked, rowsReply}
+use Rattle.service.specs.Check.{cellsMeaning, TableGiven, rowsReply}
 use Rattle.service.specs.declared.checking.Cells.{Cells}
 use Rattle.service.specs.declared.checking.Cells.the-variants.{AllBelow, Large}
-use Rattle.service.proofs.Listed.{same-lines, same-last}
+use Rattle.service.proofs.ReadList.{same-lines, same-last}
 use Rattle.service.proofs.Standing.{stands-first, nothing-left, line-kept, prime-here, cells-inside}
 use Rattle.service.proofs.Places.{placed-first, place-inside}
 use Rattle.service.proofs.Scan.{first-from, none-from, found-inside}
@@ -62,14 +62,14 @@ all-below p t e = each t (λ i h. ltb-iff (getD t i 0) p .0 (passed i h))
     each [] h = tt
     each (x ∷ xs) h = (h 0 (omega arith), each xs (λ i k. h (suc i) (omega arith)))
 
-module _ (t : List ℕ) (p : ℕ) (x : Cells) (told : cellsSeen x ≡ refusalAt 14 (firstFail (isCell p) 0 t)) where
+module _ (t : List ℕ) (p : ℕ) (x : Cells) (yields : cellsMeaning x ≡ refusalAt 14 (firstFail (isCell p) 0 t)) where
   pub large-found : (i : ℕ) → x ≡ Large i → firstFail (isCell p) 0 t ≡ some i
-  unfolding cellsSeen
-  large-found i is = refusal-place 14 _ (sym told ∙ ap cellsSeen is)
+  unfolding cellsMeaning
+  large-found i is = refusal-place 14 _ (sym yields ∙ ap cellsMeaning is)
 
   pub none-large : x ≡ AllBelow → firstFail (isCell p) 0 t ≡ none
-  unfolding cellsSeen
-  none-large is = refusal-none 14 _ (sym told ∙ ap cellsSeen is)
+  unfolding cellsMeaning
+  none-large is = refusal-none 14 _ (sym yields ∙ ap cellsMeaning is)
 
 -- ---- the replies
 
@@ -99,20 +99,20 @@ module _ (list t : List ℕ) where
 -- ---- the walk over the rows
 
 pub record Checking (list table : List ℕ) (p : ℕ) (numbers : List ℤ) (places : List ℕ) (c : Counts) (at : ℕ) : Type 0 where
-  pub asked : TableAsked list table p
+  pub given : TableGiven list table p
   pub number : ℕ
   pub state : Known
   pub left : List Line
-  pub stands : Stands list (asked .listed .last) state left c at number
+  pub stands : Stands list (given .listed .last) state left c at number
   pub numbers-long : length numbers ≡ mostNumbers
   pub placed : Placed state places
-  pub rows-left : firstFail (holds p table) 0 (rowsOf (asked .listed .lines)) ≡ firstFail (holds p table) (c .rows) (rowsFrom state left)
+  pub rows-left : firstFail (holds p table) 0 (rowsOf (given .listed .lines)) ≡ firstFail (holds p table) (c .rows) (rowsFrom state left)
 
-pub checking-first : (list table : List ℕ) (p : ℕ) (numbers : List ℤ) (places : List ℕ) → length numbers ≡ mostNumbers → length places ≡ valueLimit → TableAsked list table p
+pub checking-first : (list table : List ℕ) (p : ℕ) (numbers : List ℤ) (places : List ℕ) → length numbers ≡ mostNumbers → length places ≡ valueLimit → TableGiven list table p
     → Checking list table p numbers places (record { values = 0; inputs = 0; cells = 0; rows = 0 }) 0
 unfolding rowsOf
 checking-first list table p numbers places h k a = record {
-  asked = a;
+  given = a;
   number = 0;
   state = fresh;
   left = a .listed .lines;
@@ -131,27 +131,27 @@ module _ {list table : List ℕ} {p : ℕ} {numbers : List ℤ} {places : List �
   test = holds p table
 
   -- whatever is found in the rows is replied
-  found-replied : (o : Option ℕ) → firstFail test 0 (rowsOf (w .asked .listed .lines)) ≡ o → (m : ListRead list) → replied o ≡ rowsReply (m .last) (m .lines) table
+  found-replied : (o : Option ℕ) → firstFail test 0 (rowsOf (w .given .listed .lines)) ≡ o → (m : ListRead list) → replied o ≡ rowsReply (m .last) (m .lines) table
   unfolding rowsReply
   found-replied o e m =
       ap replied (sym e)
       ∙ ap₂ (λ (q : ℕ) (ls : List Line). replied (firstFail (holds q table) 0 (rowsOf ls)))
-      (sym (w .asked .prime) ∙ ap (λ (z : Known). z .p) (same-last (w .asked .listed) m)) (same-lines (w .asked .listed) m)
+      (sym (w .given .prime) ∙ ap (λ (z : Known). z .p) (same-last (w .given .listed) m)) (same-lines (w .given .listed) m)
 
   pub checking-end : length list ≤ at → (m : ListRead list) → reply 0 0 ≡ rowsReply (m .last) (m .lines) table
   unfolding rowsFrom firstFail onSome
   checking-end h m = found-replied none (w .rows-left ∙ rw (nothing-left (w .stands) h) refl) m
 
   module _ (l : Line) (rest : List Line) (left-is : w .left ≡ l ∷ rest) where
-    rows-here : firstFail test 0 (rowsOf (w .asked .listed .lines))
+    rows-here : firstFail test 0 (rowsOf (w .given .listed .lines))
         ≡ firstOf (firstFail test (c .rows) (gadget (w .state) l .rows)) (firstFail test (c .rows + length (gadget (w .state) l .rows)) (rowsFrom (after (w .state) l) rest))
     unfolding rowsFrom
     rows-here = w .rows-left ∙ rw left-is (first-append test (c .rows) (gadget (w .state) l .rows) (rowsFrom (after (w .state) l) rest))
 
-    module _ (r : Rows) (told : rowsSeen r ≡ firstRefusal test 0 (gadget (w .state) l .rows)) where
+    module _ (r : Rows) (yields : rowsMeaning r ≡ firstRefusal test 0 (gadget (w .state) l .rows)) where
       fails-at : (i : ℕ) → r ≡ Fails i → firstFail test 0 (gadget (w .state) l .rows) ≡ some i
-      unfolding rowsSeen
-      fails-at i is = refusal-place 15 (firstFail test 0 (gadget (w .state) l .rows)) (sym told ∙ ap rowsSeen is)
+      unfolding rowsMeaning
+      fails-at i is = refusal-place 15 (firstFail test 0 (gadget (w .state) l .rows)) (sym yields ∙ ap rowsMeaning is)
 
       pub row-inside : (i : ℕ) → r ≡ Fails i → i < length (gadget (w .state) l .rows)
       row-inside i is = found-inside test (among 0 0) (gadget (w .state) l .rows) i (fails-at i is)
@@ -162,17 +162,17 @@ module _ {list table : List ℕ} {p : ℕ} {numbers : List ℤ} {places : List �
           found-replied (some (c .rows + i)) (rows-here ∙ rw (first-from test (among 0 0) (gadget (w .state) l .rows) (c .rows) i (fails-at i is)) refl) m
 
       none-fails : r ≡ AllHold → firstFail test (c .rows) (gadget (w .state) l .rows) ≡ none
-      unfolding rowsSeen
+      unfolding rowsMeaning
       none-fails is =
           none-from test (among 0 0) (gadget (w .state) l .rows) (c .rows)
-          (refusal-none 15 (firstFail test 0 (gadget (w .state) l .rows)) (sym told ∙ ap rowsSeen is))
+          (refusal-none 15 (firstFail test 0 (gadget (w .state) l .rows)) (sym yields ∙ ap rowsMeaning is))
 
       pub checking-next : r ≡ AllHold → {next : Counts} {at′ : ℕ} (numbers′ : List ℤ) (places′ : List ℕ)
-          → Stands list (w .asked .listed .last) (after (w .state) l) rest next at′ (w .number + 1) → length numbers′ ≡ mostNumbers → Placed (after (w .state) l) places′
+          → Stands list (w .given .listed .last) (after (w .state) l) rest next at′ (w .number + 1) → length numbers′ ≡ mostNumbers → Placed (after (w .state) l) places′
           → Checking list table p numbers′ places′ next at′
       unfolding firstOf after
       checking-next is {next} numbers′ places′ stands long placed = record {
-        asked = w .asked;
+        given = w .given;
         number = w .number + 1;
         state = after (w .state) l;
         left = rest;
@@ -198,14 +198,14 @@ module _ {list table : List ℕ} {p : ℕ} {numbers : List ℤ} {places : List �
   -- ---- what the rows of a line are asked with
 
   abbrev pub at-line : at < length list → AtLine list c at
-  at-line inside = record { listed = w .asked .listed; number = w .number; state = w .state; left = w .left; stands = w .stands; inside = inside }
+  at-line inside = record { listed = w .given .listed; number = w .number; state = w .state; left = w .left; stands = w .stands; inside = inside }
 
   module _ (inside : at < length list) {numbers′ : List ℤ} {t : Taken} (took : Took (at-line inside) numbers′ t) where
     pub room-here : c .cells + gadget (w .state) (taken numbers′ t) .width ≤ length table
     room-here = omega (
       arith,
       cells-inside took,
-      w .asked .long,
+      w .given .long,
       w .stands .counted .cells-are,
     )
 
@@ -217,11 +217,11 @@ module _ {list table : List ℕ} {p : ℕ} {numbers : List ℤ} {places : List �
       room-here,
     )
 
-    abbrev pub rows-asked : RowsAsked p (wordOf (t .word)) numbers′ (t .count) table (c .cells) places
-    rows-asked = record {
+    abbrev pub rows-given : RowsGiven p (wordOf (t .word)) numbers′ (t .count) table (c .cells) places
+    rows-given = record {
       kept = line-kept took;
-      prime = λ plain. prime-here took plain ∙ w .asked .prime;
-      below = w .asked .below;
+      prime = λ plain. prime-here took plain ∙ w .given .prime;
+      below = w .given .below;
       cells-are = w .stands .counted .cells-are;
       room = room-here;
       places-long = w .placed .long;

@@ -22,7 +22,7 @@ use Rattle.meaning.proofs.Lists.{all-pass}
 use Rattle.meaning.proofs.Accepted.{refused-not-zero, by-reading, zero-accepts, zero-makes}
 use Rattle.meaning.proofs.Rows.{checks-rows}
 use Rattle.meaning.proofs.TrueTables.{accepts-true-tables, makes-the-only}
-use Rattle.service.specs.Reply.{replySeen}
+use Rattle.service.specs.Reply.{replyMeaning}
 use Rattle.service.specs.Claims.{AcceptedByNumber, RowsAreChecked, OnlyTrueTablesPass, NothingPassesUnread, MakesTrueTables, MadeTablesPass, RefusedMakingChangesNothing}
 
 -- ---- the list
@@ -41,7 +41,7 @@ read-once e = (
 -- ---- accepted
 
 pub accepted-by-number : AcceptedByNumber
-unfolding replySeen
+unfolding replyMeaning
 accepted-by-number = (
   λ list table r promise. (λ e. promise ∙ zero-accepts list table (sym (ap (λ (q : Meant). q .number) promise) ∙ e), number-of),
   λ list inputs table r after promise. (
@@ -139,9 +139,9 @@ pub made-tables-pass : MadeTablesPass
 made-tables-pass list inputs table r after promise accepted = by (make-outcome list inputs table)
   where
     by : Come list inputs table (makeReply list inputs table)
-        → ((checked : _) → replySeen checked ≡ checkReply list after → replySeen checked ≡ reply 0 0)
-        × ((ls : List Line) (s : Known) → reading list ≡ read ls s → (other : List ℕ) (checked : _) → replySeen checked ≡ checkReply list other
-        → replySeen checked ≡ reply 0 0 → inputsOf s ls other ≡ inputs → other ≡ after)
+        → ((checked : _) → replyMeaning checked ≡ checkReply list after → replyMeaning checked ≡ reply 0 0)
+        × ((ls : List Line) (s : Known) → reading list ≡ read ls s → (other : List ℕ) (checked : _) → replyMeaning checked ≡ checkReply list other
+        → replyMeaning checked ≡ reply 0 0 → inputsOf s ls other ≡ inputs → other ≡ after)
     by (inl h) = absurd (omega (arith, h .0, number-of (sym (promise .replied) ∙ accepted)))
     by (inr h) =
         let m = makes-the-only list (h .0) (h .1) inputs table (h .2) (h .4) (h .3) .0 (h .5 .0) (h .5 .1) (h .5 .2) in

@@ -16,25 +16,25 @@ use Rattle.meaning.specs.Claims.{Column}
 use Rattle.meaning.proofs.Lists.{all-pass}
 use Rattle.meaning.proofs.Results.{refusal-none, refusal-place}
 use Rattle.service.specs.Walk.{ListRead}
-use Rattle.service.specs.Reply.{replySeen, Makes}
+use Rattle.service.specs.Reply.{replyMeaning, Makes}
 use Rattle.service.specs.declared.reply.Reply.{Reply}
-use Rattle.service.specs.Make.{inputsSeen, WorkAsked, WorkDone, WriteAsked}
+use Rattle.service.specs.Make.{inputsMeaning, WorkGiven, WorkingYield, WriteGiven}
 use Rattle.service.specs.declared.making.Inputs.{Inputs}
 use Rattle.service.specs.declared.making.Inputs.the-variants.{AllInRange, Outside}
 use Rattle.service.specs.declared.working.Working.{Working}
 use Rattle.service.specs.declared.working.Working.the-variants.{AllTrue, FalseAt}
-use Rattle.service.proofs.Listed.{same-lines}
+use Rattle.service.proofs.ReadList.{same-lines}
 
 -- ---- the inputs
 
-module _ (xs : List ℤ) (p : ℕ) (r : Inputs) (told : inputsSeen r ≡ refusalAt 17 (firstFail (inRange p) 0 xs)) where
+module _ (xs : List ℤ) (p : ℕ) (r : Inputs) (yields : inputsMeaning r ≡ refusalAt 17 (firstFail (inRange p) 0 xs)) where
   pub outside-found : (i : ℕ) → r ≡ Outside i → firstFail (inRange p) 0 xs ≡ some i
-  unfolding inputsSeen
-  outside-found i is = refusal-place 17 _ (sym told ∙ ap inputsSeen is)
+  unfolding inputsMeaning
+  outside-found i is = refusal-place 17 _ (sym yields ∙ ap inputsMeaning is)
 
   pub none-outside : r ≡ AllInRange → firstFail (inRange p) 0 xs ≡ none
-  unfolding inputsSeen
-  none-outside is = refusal-none 17 _ (sym told ∙ ap inputsSeen is)
+  unfolding inputsMeaning
+  none-outside is = refusal-none 17 _ (sym yields ∙ ap inputsMeaning is)
 
 pub column-of : (s : Known) (xs : List ℤ) → length xs ≡ s .inputs → firstFail (inRange (s .p)) 0 xs ≡ none → Column s xs
 column-of s xs count e = record { count = count; within = all-pass (inRange (s .p)) (pos 0) 0 xs .0 e }
@@ -70,25 +70,25 @@ module _ (list : List ℕ) (xs : List ℤ) (t : List ℕ) where
   make-read l = rw (l .is-read) refl
 
 -- a reply and a table, told together, keep the promise of `make`
-pub makes-by : {list : List ℕ} {xs : List ℤ} {t after : List ℕ} {r : Reply} → making (replySeen r) after ≡ makeReply list xs t → Makes list xs t r after
+pub makes-by : {list : List ℕ} {xs : List ℤ} {t after : List ℕ} {r : Reply} → making (replyMeaning r) after ≡ makeReply list xs t → Makes list xs t r after
 makes-by e = record { replied = ap (λ (q : Making). q .answer) e; left = ap (λ (q : Making). q .table) e }
 
 -- ---- the lines, worked
 
-module _ (ls : List Line) (s : Known) (xs values : List ℤ) (x : Working) (done : WorkDone ls s xs values x) where
+module _ (ls : List Line) (s : Known) (xs values : List ℤ) (x : Working) (done : WorkingYield ls s xs values x) where
   pub false-made : (n : ℕ) (t : List ℕ) → x ≡ FalseAt n → making (reply 18 n) t ≡ filled (work ls xs) t
-  unfolding WorkDone
+  unfolding WorkingYield
   false-made n t is =
-      let worked : (t : List ℕ) → filled (work ls xs) t ≡ making (reply 18 n) t = subst (WorkDone ls s xs values) is done in
+      let worked : (t : List ℕ) → filled (work ls xs) t ≡ making (reply 18 n) t = subst (WorkingYield ls s xs values) is done in
       sym (worked t)
 
   all-worked : x ≡ AllTrue → (cells : List ℕ) × (work ls xs ≡ true-table (take (length (s .known)) values) cells)
-  unfolding WorkDone
-  all-worked is = subst (WorkDone ls s xs values) is done
+  unfolding WorkingYield
+  all-worked is = subst (WorkingYield ls s xs values) is done
 
 -- what writing is asked with, once every statement is found true
-module _ (list table : List ℕ) (p : ℕ) (xs values : List ℤ) (a : WorkAsked list xs) (prime : a .listed .last .p ≡ p) (long : length table ≡ a .listed .last .cells)
-    (values-long : length values ≡ valueLimit) (x : Working) (done : WorkDone (a .listed .lines) (a .listed .last) xs values x) (is : x ≡ AllTrue) where
+module _ (list table : List ℕ) (p : ℕ) (xs values : List ℤ) (a : WorkGiven list xs) (prime : a .listed .last .p ≡ p) (long : length table ≡ a .listed .last .cells)
+    (values-long : length values ≡ valueLimit) (x : Working) (done : WorkingYield (a .listed .lines) (a .listed .last) xs values x) (is : x ≡ AllTrue) where
   pub written-cells : List ℕ
   written-cells = all-worked (a .listed .lines) (a .listed .last) xs values x done is .0
 
@@ -96,10 +96,10 @@ module _ (list table : List ℕ) (p : ℕ) (xs values : List ℤ) (a : WorkAsked
   unfolding written-cells
   written-worked = all-worked (a .listed .lines) (a .listed .last) xs values x done is .1
 
-  abbrev pub write-asked : WriteAsked list p values table
-  write-asked = record {
+  abbrev pub write-given : WriteGiven list p values table
+  write-given = record {
     inputs = xs;
-    asked = a;
+    given = a;
     prime = prime;
     values-long = values-long;
     cells = written-cells;

@@ -16,7 +16,7 @@ use Rattle.reader.specs.declared.state.Counts.{Counts}
 use Rattle.service.specs.Walk.{Stands, ListRead, AtLine}
 use Rattle.service.specs.Show.{IsStretch}
 use Rattle.service.specs.declared.showing.Stretch.{Stretch}
-use Rattle.service.proofs.Listed.{same-lines, same-last}
+use Rattle.service.proofs.ReadList.{same-lines, same-last}
 use Rattle.service.proofs.Standing.{stands-first, nothing-left}
 use Rattle.meaning.specs.Word.{mostNumbers}
 

@@ -28,18 +28,18 @@ use Rattle.text.specs.declared.Word.{Word}
 use Rattle.text.specs.declared.Parsed.{Parsed}
 use Rattle.text.specs.declared.Parsed.the-variants.{NoLine}
 use Rattle.text.specs.declared.Parsed.the-variants.{Line as Spelt}
-use Rattle.text.proofs.Answers.{no-line-seen, line-seen, line-most, line-counted, line-small, line-next}
+use Rattle.text.proofs.Answers.{no-line-meaning, line-meaning, line-most, line-counted, line-small, line-next}
 use Rattle.text.proofs.Places.{lines-none}
 use Rattle.text.proofs.Ends.{in-line, lines-at}
 use Rattle.rules.specs.Ready.{greatest, Small}
-use Rattle.rules.specs.Told.{lineWith}
+use Rattle.rules.specs.Yield.{lineWith}
 use Rattle.reader.specs.Size.{Adds}
 use Rattle.reader.specs.declared.state.Counts.{Counts}
 use Rattle.reader.proofs.Steps.{few}
 use Rattle.table.specs.Line.{KeptLine}
 use Rattle.service.specs.Walk.{CountsOf, Few, Stands, AtLine, Took, taken}
 use Rattle.service.specs.declared.walk.Taken.{Taken}
-use Rattle.service.proofs.Listed.{read-ended}
+use Rattle.service.proofs.ReadList.{read-ended}
 
 -- ---- the lines that are left
 
@@ -120,7 +120,7 @@ module _ {list : List ℕ} {last s : Known} {left : List Line} {c : Counts} {at 
 
     -- the bytes spell a line, as the list was read
     line-there : r ≡ NoLine → ⊥
-    line-there is = Option·none-ne-some _ (sym (no-line-seen parsed is) ∙ next .3)
+    line-there is = Option·none-ne-some _ (sym (no-line-meaning parsed is) ∙ next .3)
 
     module _ {word : Word} {count place : ℕ} (is : r ≡ Spelt word count place) where
       abbrev line : Line
@@ -128,7 +128,7 @@ module _ {list : List ℕ} {last s : Known} {left : List Line} {c : Counts} {at 
 
       left-is : left ≡ line ∷ rest
       unfolding rest
-      left-is = next .2 ∙ ap (λ (l : Line). l ∷ rest) (Option·some-injective _ _ (sym (next .3) ∙ line-seen parsed is))
+      left-is = next .2 ∙ ap (λ (l : Line). l ∷ rest) (Option·some-injective _ _ (sym (next .3) ∙ line-meaning parsed is))
 
       kept-here : Kept n s (line ∷ rest) last
       kept-here = subst (λ (ls : List Line). Kept n s ls last) left-is (stands .kept)
@@ -183,12 +183,12 @@ module _ {list : List ℕ} {c : Counts} {at : ℕ} (a : AtLine list c at) {befor
       → CountsOf (after s (lineWith (wordOf word) (take k numbers))) d)
       → d .values ≤ c .values + 1
       → Took a numbers (record { word = word; count = count; counts = d; next = place })
-  took {count = count} is after-it d told more = let e = line-next list at after-it is in rw e (record {
+  took {count = count} is after-it d yields more = let e = line-next list at after-it is in rw e (record {
     rest = rest (a .stands) ended (a .inside) parsed long;
     left-is = left-is (a .stands) ended (a .inside) parsed long is;
     kept = kept-here (a .stands) ended (a .inside) parsed long is;
     next = stands-next (a .stands) ended (a .inside) parsed long is d
-        (told _ count _ (line-counted parsed is) (keeps (a .stands) ended (a .inside) parsed long is) (a .stands .counted));
+        (yields _ count _ (line-counted parsed is) (keeps (a .stands) ended (a .inside) parsed long is) (a .stands .counted));
     one-more = more;
     further = omega arith;
     long = parsed .left .kept ∙ long;

@@ -28,15 +28,15 @@ use Rattle.meaning.proofs.Working.{inputs-grow}
 use Rattle.text.specs.Word.{wordOf}
 use Rattle.reader.specs.declared.state.Counts.{Counts}
 use Rattle.reader.proofs.Steps.{few}
-use Rattle.groups.specs.Cells.{workedSeen}
+use Rattle.groups.specs.Cells.{workedMeaning}
 use Rattle.groups.specs.declared.value.Worked.{Worked}
 use Rattle.groups.specs.declared.value.Worked.the-variants.{Value, NoValue, False}
-use Rattle.table.specs.LineValues.{ValuesAsked}
+use Rattle.table.specs.LineValues.{ValuesGiven}
 use Rattle.service.specs.Walk.{Stands, ListRead, AtLine, Took}
 use Rattle.service.specs.declared.walk.Taken.{Taken}
-use Rattle.service.specs.Make.{withValue, isTrue, WorkAsked, WorkDone}
+use Rattle.service.specs.Make.{withValue, isTrue, WorkGiven, WorkingYield}
 use Rattle.service.specs.declared.working.Working.the-variants.{AllTrue, FalseAt}
-use Rattle.service.proofs.Listed.{same-lines, same-last}
+use Rattle.service.proofs.ReadList.{same-lines, same-last}
 use Rattle.service.proofs.Standing.{stands-first, nothing-left, known-last, line-kept}
 use Rattle.meaning.specs.Word.{mostNumbers}
 
@@ -49,9 +49,9 @@ not-refused : {xs : List ℤ} {n : ℕ} → _≡_ {A = Result (List ℤ)} (value
 not-refused e = let z : _≡_ {A = ℕ} 0 1 = cc in omega arith
 
 -- with those before it, it is among the first values
-pub value-taken : (values : List ℤ) (at : ℕ) (r : Worked) (ys : List ℤ) → workedSeen r ≡ value ys → at + length ys ≤ length values
+pub value-taken : (values : List ℤ) (at : ℕ) (r : Worked) (ys : List ℤ) → workedMeaning r ≡ value ys → at + length ys ≤ length values
     → take (at + length ys) (withValue values at r) ≡ take at values ++ ys
-unfolding workedSeen withValue
+unfolding workedMeaning withValue
 value-taken values at (Value z) ys e h =
     let is : z ∷ [] ≡ ys = same-values e in
     let one : length ys ≡ 1 = sym (ap (λ (q : List ℤ). length q) is) in
@@ -67,13 +67,13 @@ values-kept values at False = refl
 
 -- ---- what working a line answers
 
-module _ (r : Worked) (statement : Bool) (ys : List ℤ) (told : workedSeen r ≡ cond statement (value ys) (refusedBy 18)) where
+module _ (r : Worked) (statement : Bool) (ys : List ℤ) (yields : workedMeaning r ≡ cond statement (value ys) (refusedBy 18)) where
   -- it is true exactly where the statement is
   true-is : isTrue r ≡ statement
-  unfolding workedSeen isTrue
-  true-is = by r statement told
+  unfolding workedMeaning isTrue
+  true-is = by r statement yields
     where
-      by : (x : Worked) (t : Bool) → workedSeen x ≡ cond t (value ys) (refusedBy 18) → isTrue x ≡ t
+      by : (x : Worked) (t : Bool) → workedMeaning x ≡ cond t (value ys) (refusedBy 18) → isTrue x ≡ t
       by (Value z) true e = refl
       by (Value z) false e = absurd (not-refused e)
       by NoValue true e = refl
@@ -81,8 +81,8 @@ module _ (r : Worked) (statement : Bool) (ys : List ℤ) (told : workedSeen r �
       by False true e = absurd (not-refused (sym e))
       by False false e = refl
 
-  made-told : isTrue r ≡ true → workedSeen r ≡ value ys
-  made-told e = told ∙ rw (sym true-is ∙ e) refl
+  made-yield : isTrue r ≡ true → workedMeaning r ≡ value ys
+  made-yield e = yields ∙ rw (sym true-is ∙ e) refl
 
 -- ---- cells in front of cells
 
@@ -95,15 +95,15 @@ cells-joined cs ds (true-table vs es) = ap (true-table vs) (sym (append-assoc cs
 
 -- the values of the lines before this one stand in the array
 pub record WorkingOn (list : List ℕ) (inputs numbers values : List ℤ) (c : Counts) (at n : ℕ) : Type 0 where
-  pub asked : WorkAsked list inputs
+  pub given : WorkGiven list inputs
   pub state : Known
   pub left : List Line
-  pub stands : Stands list (asked .listed .last) state left c at n
+  pub stands : Stands list (given .listed .last) state left c at n
   pub numbers-long : length numbers ≡ mostNumbers
   pub values-long : length values ≡ valueLimit
   pub within : Within (state .known) (take (length (state .known)) values)
   pub cells : List ℕ
-  pub so-far : work (asked .listed .lines) inputs
+  pub so-far : work (given .listed .lines) inputs
       ≡ withCells cells (workFrom n state (take (length (state .known)) values) (drop (c .inputs) inputs) left)
 
 nothing-before : (w : Meant) → w ≡ withCells [] w
@@ -111,11 +111,11 @@ unfolding withCells
 nothing-before (false-at n) = refl
 nothing-before (true-table vs cs) = refl
 
-pub working-first : (list : List ℕ) (inputs numbers values : List ℤ) → length numbers ≡ mostNumbers → length values ≡ valueLimit → WorkAsked list inputs
+pub working-first : (list : List ℕ) (inputs numbers values : List ℤ) → length numbers ≡ mostNumbers → length values ≡ valueLimit → WorkGiven list inputs
     → WorkingOn list inputs numbers values (record { values = 0; inputs = 0; cells = 0; rows = 0 }) 0 0
 unfolding work fresh
 working-first list inputs numbers values h k a = record {
-  asked = a;
+  given = a;
   state = fresh;
   left = a .listed .lines;
   stands = stands-first list (a .listed .lines) (a .listed .last) (a .listed .is-read) (a .listed .p-most);
@@ -136,22 +136,22 @@ module _ {list : List ℕ} {inputs numbers values : List ℤ} {c : Counts} {at n
   next-is : getD (drop (c .inputs) inputs) 0 (pos 0) ≡ next
   next-is = getD-drop (c .inputs) inputs 0 (pos 0) ∙ ap (λ (i : ℕ). getD inputs i (pos 0)) (add-zero (c .inputs))
 
-  pub working-end : length list ≤ at → (m : ListRead list) → WorkDone (m .lines) (m .last) inputs values AllTrue
-  unfolding WorkDone workFrom withCells
+  pub working-end : length list ≤ at → (m : ListRead list) → WorkingYield (m .lines) (m .last) inputs values AllTrue
+  unfolding WorkingYield workFrom withCells
   working-end h m = (
     w .cells ++ [],
-    ap (λ (ls : List Line). work ls inputs) (sym (same-lines (w .asked .listed) m)) ∙ w .so-far ∙ rw (nothing-left (w .stands) h)
-        (ap (λ (z : Known). true-table (take (length (z .known)) values) (w .cells ++ [])) (known-last (w .stands) h ∙ same-last (w .asked .listed) m)),
+    ap (λ (ls : List Line). work ls inputs) (sym (same-lines (w .given .listed) m)) ∙ w .so-far ∙ rw (nothing-left (w .stands) h)
+        (ap (λ (z : Known). true-table (take (length (z .known)) values) (w .cells ++ [])) (known-last (w .stands) h ∙ same-last (w .given .listed) m)),
   )
 
   -- ---- what a line is worked with
 
   abbrev pub at-line : at < length list → AtLine list c at
-  at-line inside = record { listed = w .asked .listed; number = n; state = w .state; left = w .left; stands = w .stands; inside = inside }
+  at-line inside = record { listed = w .given .listed; number = n; state = w .state; left = w .left; stands = w .stands; inside = inside }
 
   module _ (inside : at < length list) {numbers′ : List ℤ} {t : Taken} (took : Took (at-line inside) numbers′ t) where
-    abbrev pub values-asked : ValuesAsked (wordOf (t .word)) numbers′ (t .count) values
-    values-asked = record {
+    abbrev pub values-given : ValuesGiven (wordOf (t .word)) numbers′ (t .count) values
+    values-given = record {
       kept = line-kept took;
       values-long = w .values-long;
       within = w .within;
@@ -160,7 +160,7 @@ module _ {list : List ℕ} {inputs numbers values : List ℤ} {c : Counts} {at n
   -- ---- what the line's working then tells
 
   module _ (l : Line) (rest : List Line) (left-is : w .left ≡ l ∷ rest) (r : Worked)
-      (told : workedSeen r ≡ cond (gadget (w .state) l .statement before) (value (gadget (w .state) l .values before next)) (refusedBy 18)) where
+      (yields : workedMeaning r ≡ cond (gadget (w .state) l .statement before) (value (gadget (w .state) l .values before next)) (refusedBy 18)) where
     abbrev g : Gadget
     g = gadget (w .state) l
 
@@ -168,30 +168,30 @@ module _ {list : List ℕ} {inputs numbers values : List ℤ} {c : Counts} {at n
     later = workFrom (suc n) (after (w .state) l) (before ++ g .values before next) (drop (g .inputs) (drop (c .inputs) inputs)) rest
 
     -- working from this line on
-    from-here : work (w .asked .listed .lines) inputs ≡ withCells (w .cells) (cond (g .statement before) (withCells (g .cells before next) later) (false-at n))
+    from-here : work (w .given .listed .lines) inputs ≡ withCells (w .cells) (cond (g .statement before) (withCells (g .cells before next) later) (false-at n))
     unfolding workFrom
     from-here = w .so-far ∙ rw (left-is, next-is) refl
 
-    pub working-false : isTrue r ≡ false → (m : ListRead list) (final : List ℤ) → WorkDone (m .lines) (m .last) inputs final (FalseAt n)
-    unfolding WorkDone withCells filled
+    pub working-false : isTrue r ≡ false → (m : ListRead list) (final : List ℤ) → WorkingYield (m .lines) (m .last) inputs final (FalseAt n)
+    unfolding WorkingYield withCells filled
     working-false is m final t =
         let false-here : work (m .lines) inputs ≡ false-at n =
-        ap (λ (ls : List Line). work ls inputs) (sym (same-lines (w .asked .listed) m)) ∙ from-here
-        ∙ rw (sym (true-is r (g .statement before) (g .values before next) told) ∙ is) refl in
+        ap (λ (ls : List Line). work ls inputs) (sym (same-lines (w .given .listed) m)) ∙ from-here
+        ∙ rw (sym (true-is r (g .statement before) (g .values before next) yields) ∙ is) refl in
         ap (λ (x : Meant). filled x t) false-here
 
-    module _ (true-here : isTrue r ≡ true) (kept : Kept n (w .state) (l ∷ rest) (w .asked .listed .last)) where
+    module _ (true-here : isTrue r ≡ true) (kept : Kept n (w .state) (l ∷ rest) (w .given .listed .last)) where
       statement-true : g .statement before ≡ true
-      statement-true = sym (true-is r (g .statement before) (g .values before next) told) ∙ true-here
+      statement-true = sym (true-is r (g .statement before) (g .values before next) yields) ∙ true-here
 
       holds : T (g .statement before)
       holds = ≡-test (g .statement before) statement-true
 
-      made : workedSeen r ≡ value (g .values before next)
-      made = made-told r (g .statement before) (g .values before next) told true-here
+      made : workedMeaning r ≡ value (g .values before next)
+      made = made-yield r (g .statement before) (g .values before next) yields true-here
 
-      law : Law (w .asked .listed .last .p) (w .state) g
-      law = first-law l rest n (w .state) (w .asked .listed .last) kept (w .stands .sound)
+      law : Law (w .given .listed .last .p) (w .state) g
+      law = first-law l rest n (w .state) (w .given .listed .last) kept (w .stands .sound)
 
       -- there is room for the values of the line
       room : length (w .state .known) + length (g .values before next) ≤ valueLimit
@@ -202,9 +202,9 @@ module _ {list : List ℕ} {inputs numbers values : List ℤ} {c : Counts} {at n
       )
 
       pub value-inside : (z : ℤ) → r ≡ Value z → c .values < length values
-      unfolding workedSeen
+      unfolding workedMeaning
       value-inside z is =
-          let one : length (g .values before next) ≡ 1 = sym (ap (λ (q : List ℤ). length q) (same-values (sym (ap workedSeen is) ∙ made))) in
+          let one : length (g .values before next) ≡ 1 = sym (ap (λ (q : List ℤ). length q) (same-values (sym (ap workedMeaning is) ∙ made))) in
           omega (arith, room, w .values-long, w .stands .counted .values-are)
 
       -- the values after the line
@@ -221,21 +221,21 @@ module _ {list : List ℕ} {inputs numbers values : List ℤ} {c : Counts} {at n
           ∙ value-taken values (c .values) r (g .values before next) made (omega (arith, room, w .values-long, w .stands .counted .values-are))
           ∙ ap (λ (i : ℕ). take i values ++ g .values before next) (sym (w .stands .counted .values-are))
 
-      in-range : 1 ≤ g .inputs → T (inRange (w .asked .listed .last .p) next)
+      in-range : 1 ≤ g .inputs → T (inRange (w .given .listed .last .p) next)
       unfolding after
-      in-range i = w .asked .column .within (c .inputs) (omega (
+      in-range i = w .given .column .within (c .inputs) (omega (
         arith,
-        inputs-grow rest (suc n) (after (w .state) l) (w .asked .listed .last) (kept .1),
-        w .asked .column .count,
+        inputs-grow rest (suc n) (after (w .state) l) (w .given .listed .last) (kept .1),
+        w .given .column .count,
         w .stands .counted .inputs-are,
       ))
 
       pub working-next : {d : Counts} {at′ : ℕ} (numbers′ : List ℤ)
-          → Stands list (w .asked .listed .last) (after (w .state) l) rest d at′ (n + 1) → length numbers′ ≡ mostNumbers
+          → Stands list (w .given .listed .last) (after (w .state) l) rest d at′ (n + 1) → length numbers′ ≡ mostNumbers
           → WorkingOn list inputs numbers′ values′ d at′ (n + 1)
       unfolding after
       working-next {d} numbers′ stands long = record {
-        asked = w .asked;
+        given = w .given;
         state = after (w .state) l;
         left = rest;
         stands = stands;

@@ -34,11 +34,11 @@ use Rattle.meaning.proofs.Working.{inputs-grow}
 use Rattle.text.specs.Word.{wordOf}
 use Rattle.reader.specs.declared.state.Counts.{Counts}
 use Rattle.reader.proofs.Steps.{few}
-use Rattle.table.specs.LineValues.{CellsAsked}
+use Rattle.table.specs.LineValues.{CellsGiven}
 use Rattle.service.specs.Walk.{Stands, AtLine, Took, taken}
 use Rattle.service.specs.declared.walk.Taken.{Taken}
-use Rattle.service.specs.Make.{WriteAsked}
-use Rattle.service.proofs.Listed.{same-lines, same-last}
+use Rattle.service.specs.Make.{WriteGiven}
+use Rattle.service.proofs.ReadList.{same-lines, same-last}
 use Rattle.service.proofs.Standing.{stands-first, nothing-left, known-last, line-kept, prime-here, cells-inside}
 use Rattle.meaning.specs.Refusal.{valueLimit}
 use Rattle.meaning.proofs.Part.{written-after}
@@ -143,30 +143,30 @@ next-values values ys n h e =
 
 -- the cells of the lines before this one are written
 pub record Writing (list : List ℕ) (p : ℕ) (values : List ℤ) (before table : List ℕ) (numbers : List ℤ) (c : Counts) (at : ℕ) : Type 0 where
-  pub asked : WriteAsked list p values before
+  pub given : WriteGiven list p values before
   pub number : ℕ
   pub state : Known
   pub left : List Line
-  pub stands : Stands list (asked .asked .listed .last) state left c at number
+  pub stands : Stands list (given .given .listed .last) state left c at number
   pub numbers-long : length numbers ≡ mostNumbers
   pub within : Within (state .known) (take (length (state .known)) values)
   pub done : List ℕ
   pub done-long : length done ≡ c .cells
   pub table-is : table ≡ done ++ drop (c .cells) before
   pub to-come : List ℕ
-  pub left-worked : workFrom number state (take (length (state .known)) values) (drop (c .inputs) (asked .inputs)) left
-      ≡ true-table (take (length (asked .asked .listed .last .known)) values) to-come
-  pub all-cells : done ++ to-come ≡ asked .cells
+  pub left-worked : workFrom number state (take (length (state .known)) values) (drop (c .inputs) (given .inputs)) left
+      ≡ true-table (take (length (given .given .listed .last .known)) values) to-come
+  pub all-cells : done ++ to-come ≡ given .cells
 
-pub writing-first : (list : List ℕ) (p : ℕ) (values : List ℤ) (before : List ℕ) (numbers : List ℤ) → length numbers ≡ mostNumbers → WriteAsked list p values before
+pub writing-first : (list : List ℕ) (p : ℕ) (values : List ℤ) (before : List ℕ) (numbers : List ℤ) → length numbers ≡ mostNumbers → WriteGiven list p values before
     → Writing list p values before before numbers (record { values = 0; inputs = 0; cells = 0; rows = 0 }) 0
 unfolding work fresh
 writing-first list p values before numbers h a = record {
-  asked = a;
+  given = a;
   number = 0;
   state = fresh;
-  left = a .asked .listed .lines;
-  stands = stands-first list (a .asked .listed .lines) (a .asked .listed .last) (a .asked .listed .is-read) (a .asked .listed .p-most);
+  left = a .given .listed .lines;
+  stands = stands-first list (a .given .listed .lines) (a .given .listed .last) (a .given .listed .is-read) (a .given .listed .p-most);
   numbers-long = h;
   within = tt;
   done = [];
@@ -180,7 +180,7 @@ writing-first list p values before numbers h a = record {
 module _ {list : List ℕ} {p : ℕ} {values : List ℤ} {before table : List ℕ} {numbers : List ℤ} {c : Counts} {at : ℕ}
     (w : Writing list p values before table numbers c at) where
   abbrev last : Known
-  last = w .asked .asked .listed .last
+  last = w .given .given .listed .last
 
   pub table-long : length table ≡ last .cells
   table-long = omega (
@@ -189,22 +189,22 @@ module _ {list : List ℕ} {p : ℕ} {values : List ℤ} {before table : List �
     length-append (w .done) (drop (c .cells) before),
     length-drop (c .cells) before,
     w .done-long,
-    w .asked .long,
+    w .given .long,
     w .stands .counted .cells-are,
     cells-grow (w .left) (w .number) (w .state) last (w .stands .kept),
   )
 
   -- every cell is written
-  pub writing-end : length list ≤ at → (b : WriteAsked list p values before) → table ≡ b .cells
+  pub writing-end : length list ≤ at → (b : WriteGiven list p values before) → table ≡ b .cells
   unfolding workFrom work
   writing-end h b =
-      let l = w .asked .asked .listed in
+      let l = w .given .given .listed in
       let ended : true-table (take (length (w .state .known)) values) [] ≡ true-table (take (length (last .known)) values) (w .to-come) =
-      ap (workFrom (w .number) (w .state) (take (length (w .state .known)) values) (drop (c .inputs) (w .asked .inputs))) (sym (nothing-left (w .stands) h)) ∙ w .left-worked in
-      let all-done : length before ≤ c .cells = omega (arith, w .asked .long, ap (λ (z : Known). z .cells) (known-last (w .stands) h), w .stands .counted .cells-are) in
-      let same = same-cells (l .lines) 0 fresh [] (w .asked .inputs) (b .inputs) (take (length (last .known)) values) (w .asked .cells) (b .cells) (w .asked .worked)
-      (ap (λ (ls : List Line). work ls (b .inputs)) (same-lines l (b .asked .listed)) ∙ b .worked
-      ∙ ap (λ (z : Known). true-table (take (length (z .known)) values) (b .cells)) (same-last (b .asked .listed) l)) in
+      ap (workFrom (w .number) (w .state) (take (length (w .state .known)) values) (drop (c .inputs) (w .given .inputs))) (sym (nothing-left (w .stands) h)) ∙ w .left-worked in
+      let all-done : length before ≤ c .cells = omega (arith, w .given .long, ap (λ (z : Known). z .cells) (known-last (w .stands) h), w .stands .counted .cells-are) in
+      let same = same-cells (l .lines) 0 fresh [] (w .given .inputs) (b .inputs) (take (length (last .known)) values) (w .given .cells) (b .cells) (w .given .worked)
+      (ap (λ (ls : List Line). work ls (b .inputs)) (same-lines l (b .given .listed)) ∙ b .worked
+      ∙ ap (λ (z : Known). true-table (take (length (z .known)) values) (b .cells)) (same-last (b .given .listed) l)) in
       w .table-is ∙ ap (λ (q : List ℕ). w .done ++ q) (drop-of-length-le before all-done ∙ ap cellsIn ended) ∙ w .all-cells ∙ same
 
   -- ---- what the cells of a line are asked with
@@ -214,7 +214,7 @@ module _ {list : List ℕ} {p : ℕ} {values : List ℤ} {before table : List �
   part = take (length table - c .cells) (drop (c .cells) table)
 
   abbrev pub at-line : at < length list → AtLine list c at
-  at-line inside = record { listed = w .asked .asked .listed; number = w .number; state = w .state; left = w .left; stands = w .stands; inside = inside }
+  at-line inside = record { listed = w .given .given .listed; number = w .number; state = w .state; left = w .left; stands = w .stands; inside = inside }
 
   module _ (inside : at < length list) {numbers′ : List ℤ} {t : Taken} (took : Took (at-line inside) numbers′ t) where
     pub first-inside : c .cells ≤ length table
@@ -235,14 +235,14 @@ module _ {list : List ℕ} {p : ℕ} {values : List ℤ} {before table : List �
       length-drop (c .cells) table,
     )
 
-    abbrev pub cells-asked : CellsAsked p (wordOf (t .word)) numbers′ (t .count) values (c .values) part
-    cells-asked = record {
-      asked = record {
+    abbrev pub cells-given : CellsGiven p (wordOf (t .word)) numbers′ (t .count) values (c .values) part
+    cells-given = record {
+      given = record {
         kept = line-kept took;
-        values-long = w .asked .values-long;
+        values-long = w .given .values-long;
         within = w .within;
       };
-      prime = λ plain. prime-here took plain ∙ w .asked .prime;
+      prime = λ plain. prime-here took plain ∙ w .given .prime;
       known-are = w .stands .counted .values-are;
       room = room-here;
     }
@@ -260,13 +260,13 @@ module _ {list : List ℕ} {p : ℕ} {values : List ℤ} {before table : List �
     known-values = take known values
 
     pub next : ℤ
-    next = getD (drop (c .inputs) (w .asked .inputs)) 0 (pos 0)
+    next = getD (drop (c .inputs) (w .given .inputs)) 0 (pos 0)
 
     abbrev all-values : List ℤ
     all-values = take (length (last .known)) values
 
     abbrev later : Worked
-    later = workFrom (suc (w .number)) (after (w .state) l) (known-values ++ here .values known-values next) (drop (here .inputs) (drop (c .inputs) (w .asked .inputs))) rest
+    later = workFrom (suc (w .number)) (after (w .state) l) (known-values ++ here .values known-values next) (drop (here .inputs) (drop (c .inputs) (w .given .inputs))) rest
 
     law : Law (last .p) (w .state) here
     law = first-law l rest (w .number) (w .state) last kept (w .stands .sound)
@@ -275,19 +275,19 @@ module _ {list : List ℕ} {p : ℕ} {values : List ℤ} {before table : List �
     parted : T (here .statement known-values) × ((es : List ℕ) × (later ≡ true-table all-values es) × (here .cells known-values next ++ es ≡ w .to-come))
     unfolding workFrom next
     parted = split-worked (here .statement known-values) (w .number) (here .cells known-values next) later all-values (w .to-come)
-        (ap (workFrom (w .number) (w .state) known-values (drop (c .inputs) (w .asked .inputs))) (sym left-is) ∙ w .left-worked)
+        (ap (workFrom (w .number) (w .state) known-values (drop (c .inputs) (w .given .inputs))) (sym left-is) ∙ w .left-worked)
 
     few-known : known ≤ valueLimit
     few-known = omega (arith, w .stands .counted .values-are, w .stands .few .values-most)
 
     known-long : length known-values ≡ known
-    known-long = length-take-le known values (omega (arith, few-known, w .asked .values-long))
+    known-long = length-take-le known values (omega (arith, few-known, w .given .values-long))
 
     -- with the line's own, the values before it are the first of the array
     values-taken : take (known + length (here .values known-values next)) values ≡ known-values ++ here .values known-values next
     values-taken =
         let ys = here .values known-values next in
-        let more = values-extended rest (suc (w .number)) (after (w .state) l) (known-values ++ ys) (drop (here .inputs) (drop (c .inputs) (w .asked .inputs))) all-values (parted .1 .0) (parted .1 .1) in
+        let more = values-extended rest (suc (w .number)) (after (w .state) l) (known-values ++ ys) (drop (here .inputs) (drop (c .inputs) (w .given .inputs))) all-values (parted .1 .0) (parted .1 .1) in
         let long : length (known-values ++ ys) ≡ known + length ys = length-append known-values ys ∙ ap (λ (i : ℕ). i + length ys) known-long in
         let enough : known + length ys ≤ length (last .known) = omega (
           arith,
@@ -312,15 +312,15 @@ module _ {list : List ℕ} {p : ℕ} {values : List ℤ} {before table : List �
     pub made-stand : here .values (take (c .values) values) next ≡ take (length (here .made)) (drop (c .values) values)
     made-stand =
         ap (λ (i : ℕ). here .values (take i values) next) (sym (w .stands .counted .values-are))
-        ∙ sym (next-values values (here .values known-values next) known (omega (arith, few-known, w .asked .values-long)) values-taken)
+        ∙ sym (next-values values (here .values known-values next) known (omega (arith, few-known, w .given .values-long)) values-taken)
         ∙ ap₂ (λ (i j : ℕ). take i (drop j values)) (law .values-count known-values next) (w .stands .counted .values-are)
 
     in-range : 1 ≤ here .inputs → T (inRange (last .p) next)
     unfolding after next
-    in-range i = rw (getD-drop (c .inputs) (w .asked .inputs) 0 (pos 0), add-zero (c .inputs)) (w .asked .asked .column .within (c .inputs) (omega (
+    in-range i = rw (getD-drop (c .inputs) (w .given .inputs) 0 (pos 0), add-zero (c .inputs)) (w .given .given .column .within (c .inputs) (omega (
       arith,
       inputs-grow rest (suc (w .number)) (after (w .state) l) last (kept .1),
-      w .asked .asked .column .count,
+      w .given .given .column .count,
       w .stands .counted .inputs-are,
     )))
 
@@ -330,7 +330,7 @@ module _ {list : List ℕ} {p : ℕ} {values : List ℤ} {before table : List �
         → Writing list p values before (putMid (c .cells) (length table - c .cells) table written) numbers′ d at′
     unfolding after
     writing-next {d} numbers′ written written-is stands long = record {
-      asked = w .asked;
+      given = w .given;
       number = w .number + 1;
       state = after (w .state) l;
       left = rest;
@@ -343,7 +343,7 @@ module _ {list : List ℕ} {p : ℕ} {values : List ℤ} {before table : List �
           (rw (w .stands .counted .values-are) written-is)
           (sym cells-after);
       to-come = parted .1 .0;
-      left-worked = rw (add-one (w .number), after-values, ← inputs-after, ← drop-drop (here .inputs) (c .inputs) (w .asked .inputs)) (parted .1 .1);
+      left-worked = rw (add-one (w .number), after-values, ← inputs-after, ← drop-drop (here .inputs) (c .inputs) (w .given .inputs)) (parted .1 .1);
       all-cells = append-assoc (w .done) (here .cells known-values next) (parted .1 .0) ∙ ap (λ (q : List ℕ). w .done ++ q) (parted .1 .2) ∙ w .all-cells;
     }
       where

@@ -15,12 +15,12 @@ use Rattle.service.specs.declared.checking.Cells.{Cells}
 use Rattle.service.specs.declared.checking.Cells.the-variants.{AllBelow, Large}
 
 -- the refusal at the first cell of p or more. FORMAT 10.14
-unfoldable pub cellsSeen : Cells → Option Reply
-cellsSeen AllBelow = none
-cellsSeen (Large i) = some (reply 14 i)
+unfoldable pub cellsMeaning : Cells → Option Reply
+cellsMeaning AllBelow = none
+cellsMeaning (Large i) = some (reply 14 i)
 
 -- a table of the list's length with all cells below p. FORMAT 8.8
-pub record TableAsked (list table : List ℕ) (p : ℕ) : Type 0 where
+pub record TableGiven (list table : List ℕ) (p : ℕ) : Type 0 where
   pub listed : ListRead list
   pub prime : listed .last .p ≡ p
   pub long : listed .last .cells ≡ length table

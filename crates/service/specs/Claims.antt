@@ -13,12 +13,12 @@ use Rattle.meaning.specs.Refusal.{read, reading}
 use Rattle.meaning.specs.Work.{false-at, true-table, work}
 use Rattle.meaning.specs.Reply.{reply}
 use Rattle.meaning.specs.Claims.{WellFormed, Holds, Column, inputsOf, valuesOf}
-use Rattle.service.specs.Reply.{replySeen, Checks, Makes}
+use Rattle.service.specs.Reply.{replyMeaning, Checks, Makes}
 use Rattle.service.specs.declared.reply.Reply.{Reply}
 
 -- the reply 0, 0. FORMAT 9.3
 abbrev pub Accepts : Reply → Type 0
-Accepts r = replySeen r ≡ reply 0 0
+Accepts r = replyMeaning r ≡ reply 0 0
 
 -- the number alone tells it, of a check and of a making: by it the desk counts, and a caller by the C ABI knows. FORMAT 9.3
 abbrev pub AcceptedByNumber : Type 0
@@ -33,8 +33,8 @@ abbrev pub RowsAreChecked : Type 0
 RowsAreChecked =
     (list : List ℕ) (ls : List Line) (s : Known) (table : List ℕ) (r : Reply) → Checks list table r → reading list ≡ read ls s → WellFormed s table →
     (Accepts r ↔ ((i : ℕ) → i < s .rows → Holds s ls table i))
-    × ((row : ℕ) → replySeen r ≡ reply 15 row ↔ ((row < s .rows) × (¬ Holds s ls table row) × ((i : ℕ) → i < row → Holds s ls table i)))
-    × (Accepts r ⊎ ((row : ℕ) × (replySeen r ≡ reply 15 row)))
+    × ((row : ℕ) → replyMeaning r ≡ reply 15 row ↔ ((row < s .rows) × (¬ Holds s ls table row) × ((i : ℕ) → i < row → Holds s ls table i)))
+    × (Accepts r ⊎ ((row : ℕ) × (replyMeaning r ≡ reply 15 row)))
 
 -- ---- true tables
 
@@ -59,7 +59,7 @@ MakesTrueTables =
     Makes list inputs table r after → reading list ≡ read ls s → Column s inputs → length table ≡ s .cells →
     ((values : List ℤ) (cells : List ℕ) → work ls inputs ≡ true-table values cells →
     Accepts r × (after ≡ cells) × (inputsOf s ls after ≡ inputs) × (valuesOf s after ≡ values))
-    × ((line : ℕ) → work ls inputs ≡ false-at line → (replySeen r ≡ reply 18 line) × (after ≡ table)
+    × ((line : ℕ) → work ls inputs ≡ false-at line → (replyMeaning r ≡ reply 18 line) × (after ≡ table)
     × ((other : List ℕ) (checked : Reply) → Checks list other checked → inputsOf s ls other ≡ inputs → ¬ Accepts checked))
 
 -- what the maker wrote passes, and no other table with these inputs does. FORMAT 8.13

@@ -1,5 +1,5 @@
--- What the contracts of the calls cite: what holds before each line of a list that was read (Walk), how replies are read (Reply, Show), what
--- checking and making are asked with (Check, Make); and what is claimed of the replies (Claims).
+-- What the calls promise and what the walks below them are given (`..Given`) and yield (`..Yield`); `..Meaning` reads an enum or a struct of the code as a value of the definitions.
+-- Last stand the claims about the code's own replies.
 pub mod Walk
 pub mod Reply
 pub mod Show

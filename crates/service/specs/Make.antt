@@ -21,9 +21,9 @@ use Rattle.service.specs.declared.working.Working.the-variants.{AllTrue,
 use Rattle.meaning.specs.Refusal.{valueLimit}
 
 -- the refusal at the first input outside the signed range. FORMAT 10.17
-unfoldable pub inputsSeen : Inputs → Option Reply
-inputsSeen AllInRange = none
-inputsSeen (Outside i) = some (reply 17 i)
+unfoldable pub inputsMeaning : Inputs → Option Reply
+inputsMeaning AllInRange = none
+inputsMeaning (Outside i) = some (reply 17 i)
 
 -- the values with the one that a line makes, where it makes one
 unfoldable pub withValue : List ℤ → ℕ → Worked → List ℤ
@@ -37,22 +37,22 @@ isTrue NoValue = true
 isTrue False = false
 
 -- a column of inputs for a list that was read. FORMAT 8.2
-pub record WorkAsked (list : List ℕ) (inputs : List ℤ) : Type 0 where
+pub record WorkGiven (list : List ℕ) (inputs : List ℤ) : Type 0 where
   pub listed : ListRead list
   pub column : Column (listed .last) inputs
 
 -- the refusal at the first line whose statement is false, which leaves any table as it was; or none is false, and the values stand in the array.
 -- FORMAT 10.18, 8.5
-unfoldable pub WorkDone : List Line → Known → (inputs values : List ℤ) → Working → Type 0
-WorkDone ls s xs values (FalseAt n) = (t : List ℕ) → filled (work ls xs) t ≡ making (reply 18 n) t
-WorkDone ls s xs values AllTrue = (cells : List ℕ) × (work ls xs ≡ true-table (take (length (s .known)) values) cells)
+unfoldable pub WorkingYield : List Line → Known → (inputs values : List ℤ) → Working → Type 0
+WorkingYield ls s xs values (FalseAt n) = (t : List ℕ) → filled (work ls xs) t ≡ making (reply 18 n) t
+WorkingYield ls s xs values AllTrue = (cells : List ℕ) × (work ls xs ≡ true-table (take (length (s .known)) values) cells)
 
 -- the values of a column whose statements are true, and a table of the list's length
-pub record WriteAsked (list : List ℕ) (p : ℕ) (values : List ℤ) (table : List ℕ) : Type 0 where
+pub record WriteGiven (list : List ℕ) (p : ℕ) (values : List ℤ) (table : List ℕ) : Type 0 where
   pub inputs : List ℤ
-  pub asked : WorkAsked list inputs
-  pub prime : asked .listed .last .p ≡ p
+  pub given : WorkGiven list inputs
+  pub prime : given .listed .last .p ≡ p
   pub values-long : length values ≡ valueLimit
   pub cells : List ℕ
-  pub worked : work (asked .listed .lines) inputs ≡ true-table (take (length (asked .listed .last .known)) values) cells
-  pub long : length table ≡ asked .listed .last .cells
+  pub worked : work (given .listed .lines) inputs ≡ true-table (take (length (given .listed .last .known)) values) cells
+  pub long : length table ≡ given .listed .last .cells

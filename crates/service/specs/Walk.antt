@@ -18,7 +18,7 @@ use Rattle.meaning.specs.Number.{OddPrime}
 use Rattle.text.specs.Place.{linesFrom}
 use Rattle.text.specs.Word.{wordOf}
 use Rattle.rules.specs.Ready.{greatest, Small}
-use Rattle.rules.specs.Told.{lineWith}
+use Rattle.rules.specs.Yield.{lineWith}
 use Rattle.reader.specs.declared.state.Counts.{Counts}
 use Rattle.service.specs.declared.walk.Taken.{Taken}
 
@@ -44,7 +44,7 @@ pub record ListRead (list : List ℕ) : Type 0 where
   pub p-most : last .p ≤ greatest
 
 -- what is counted of a list that was read
-pub record Listed (list : List ℕ) (p : ℕ) (c : Counts) : Type 0 where
+pub record CountsGiven (list : List ℕ) (p : ℕ) (c : Counts) : Type 0 where
   pub listed : ListRead list
   pub prime : listed .last .p ≡ p
   pub odd : OddPrime p

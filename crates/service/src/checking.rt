@@ -11,9 +11,9 @@ use table::line_rows::line_rows;
 ghost use mathlib.Core.Path.{_≡_};
 ghost use Rattle.meaning.specs.Refusal.{all};
 ghost use Rattle.meaning.specs.Reply.{isCell, firstFail, refusalAt, checked};
-ghost use Rattle.service.specs.Reply.{replySeen, Checks};
-ghost use Rattle.service.specs.Walk.{ListRead, Listed};
-ghost use Rattle.service.specs.Check.{cellsSeen, TableAsked, rowsReply};
+ghost use Rattle.service.specs.Reply.{replyMeaning, Checks};
+ghost use Rattle.service.specs.Walk.{ListRead, CountsGiven};
+ghost use Rattle.service.specs.Check.{cellsMeaning, TableGiven, rowsReply};
 
 // The place of the first cell of p or more.
 enum Cells {
@@ -37,8 +37,8 @@ pub fn check(list: &[u8], table: &[u32]) -> Reply
 
 // A table for a list that is read, which has these counts.
 fn check_table(list: &[u8], table: &[u32], p: u32, counts: Counts) -> Reply
-    requires { ⌜ Listed (now list) p counts ⌝ }
-    ensures { λ r. ⌜ ((l : ListRead (now (list .entry))) → replySeen r ≡ checked (l .last) (l .lines) (now (table .entry))) ⌝ }
+    requires { ⌜ CountsGiven (now list) p counts ⌝ }
+    ensures { λ r. ⌜ ((l : ListRead (now (list .entry))) → replyMeaning r ≡ checked (l .last) (l .lines) (now (table .entry))) ⌝ }
 {
     if table.len() != counts.cells {
         return Reply {
@@ -71,7 +71,7 @@ fn all_below(table: &[u32], p: u32) -> bool
 
 // The place is looked for in a table that is refused, and in no other. A cell of p or more stands in it, so that the loop needs no other end.
 fn first_large(table: &[u32], p: u32) -> Cells
-    ensures { λ r. ⌜ cellsSeen r ≡ refusalAt 14 (firstFail (isCell p) 0 (now (table .entry))) ⌝ }
+    ensures { λ r. ⌜ cellsMeaning r ≡ refusalAt 14 (firstFail (isCell p) 0 (now (table .entry))) ⌝ }
 {
     if all_below(table, p) {
         return Cells::AllBelow;
@@ -85,8 +85,8 @@ fn first_large(table: &[u32], p: u32) -> Cells
 
 // The rows, counted over the whole list.
 fn check_rows(list: &[u8], table: &[u32], p: u32) -> Reply
-    requires { ⌜ TableAsked (now list) (now table) p ⌝ }
-    ensures { λ r. ⌜ ((l : ListRead (now (list .entry))) → replySeen r ≡ rowsReply (l .last) (l .lines) (now (table .entry))) ⌝ }
+    requires { ⌜ TableGiven (now list) (now table) p ⌝ }
+    ensures { λ r. ⌜ ((l : ListRead (now (list .entry))) → replyMeaning r ≡ rowsReply (l .last) (l .lines) (now (table .entry))) ⌝ }
 {
     let mut numbers: [i64; 33] = [0; 33];
     let mut places: [u16; 256] = [0; 256];

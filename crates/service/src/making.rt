@@ -15,9 +15,9 @@ ghost use lib.ListN.{length};
 ghost use Rattle.meaning.specs.Number.{inRange};
 ghost use Rattle.meaning.specs.Work.{work};
 ghost use Rattle.meaning.specs.Reply.{firstFail, refusalAt, making, filled, made};
-ghost use Rattle.service.specs.Reply.{replySeen, Makes};
-ghost use Rattle.service.specs.Walk.{ListRead, Listed};
-ghost use Rattle.service.specs.Make.{inputsSeen, WorkAsked};
+ghost use Rattle.service.specs.Reply.{replyMeaning, Makes};
+ghost use Rattle.service.specs.Walk.{ListRead, CountsGiven};
+ghost use Rattle.service.specs.Make.{inputsMeaning, WorkGiven};
 
 // The place of the first input outside -M..M.
 enum Inputs {
@@ -41,9 +41,9 @@ pub fn make(list: &[u8], inputs: &[i64], table: &mut [u32]) -> Reply
 
 // A table for a list that is read, which has these counts.
 fn make_table(list: &[u8], p: u32, counts: Counts, inputs: &[i64], table: &mut [u32]) -> Reply
-    requires { ⌜ Listed (now list) p counts ⌝ }
+    requires { ⌜ CountsGiven (now list) p counts ⌝ }
     ensures { λ r. ⌜ ((l : ListRead (now (list .entry)))
-        → making (replySeen r) (now (table .exit)) ≡ made (l .last) (l .lines) (now (inputs .entry)) (now (table .entry))) ⌝ }
+        → making (replyMeaning r) (now (table .exit)) ≡ made (l .last) (l .lines) (now (inputs .entry)) (now (table .entry))) ⌝ }
 {
     if table.len() != counts.cells {
         return Reply {
@@ -69,7 +69,7 @@ fn make_table(list: &[u8], p: u32, counts: Counts, inputs: &[i64], table: &mut [
 
 fn first_outside(inputs: &[i64], p: u32) -> Inputs
     requires { ⌜ 0 < p ⌝ }
-    ensures { λ r. ⌜ inputsSeen r ≡ refusalAt 17 (firstFail (inRange p) 0 (now (inputs .entry))) ⌝ }
+    ensures { λ r. ⌜ inputsMeaning r ≡ refusalAt 17 (firstFail (inRange p) 0 (now (inputs .entry))) ⌝ }
 {
     let mut i: usize = 0;
     while i < inputs.len() {
@@ -83,9 +83,9 @@ fn first_outside(inputs: &[i64], p: u32) -> Inputs
 
 // The lines are worked, and then their cells are written, all of them or none.
 fn make_true(list: &[u8], p: u32, inputs: &[i64], table: &mut [u32]) -> Reply
-    requires { ⌜ ((a : WorkAsked (now list) (now inputs)) × (a .listed .last .p ≡ p) × (length (now table) ≡ a .listed .last .cells)) ⌝ }
+    requires { ⌜ ((a : WorkGiven (now list) (now inputs)) × (a .listed .last .p ≡ p) × (length (now table) ≡ a .listed .last .cells)) ⌝ }
     ensures { λ r. ⌜ ((l : ListRead (now (list .entry)))
-        → making (replySeen r) (now (table .exit)) ≡ filled (work (l .lines) (now (inputs .entry))) (now (table .entry))) ⌝ }
+        → making (replyMeaning r) (now (table .exit)) ≡ filled (work (l .lines) (now (inputs .entry))) (now (table .entry))) ⌝ }
 {
     let mut values: [i64; 256] = [0; 256];
     let worked = work_lines(list, inputs, &mut values);

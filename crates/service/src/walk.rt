@@ -14,7 +14,7 @@ ghost use Rattle.meaning.specs.Known.{Known};
 ghost use Rattle.meaning.specs.Meaning.{after};
 ghost use Rattle.meaning.specs.Kept.{Keeps};
 ghost use Rattle.text.specs.Word.{wordOf};
-ghost use Rattle.rules.specs.Told.{lineWith};
+ghost use Rattle.rules.specs.Yield.{lineWith};
 ghost use Rattle.service.specs.Walk.{CountsOf, Few, AtLine, Took, withPlace};
 ghost use Rattle.meaning.specs.Refusal.{valueLimit};
 
@@ -29,7 +29,7 @@ pub struct Taken {
 // Takes the line at a place, whose numbers are written.
 pub fn take_line(list: &[u8], at: usize, counts: Counts, numbers: &mut [i64]) -> Taken
     requires { ⌜ AtLine (now list) counts at × (length (now numbers) ≡ mostNumbers) ⌝ }
-    ensures told { λ r. ⌜ ((a : AtLine (now (list .entry)) counts at) → Took a (now (numbers .exit)) r) ⌝ }
+    ensures yields { λ r. ⌜ ((a : AtLine (now (list .entry)) counts at) → Took a (now (numbers .exit)) r) ⌝ }
     ensures further { λ r. ⌜ at < r .next ⌝ }
 {
     let mut word = Word::Field;
@@ -52,7 +52,7 @@ pub fn take_line(list: &[u8], at: usize, counts: Counts, numbers: &mut [i64]) ->
 // The counts after a line.
 fn counts_after(counts: Counts, word: Word, numbers: &[i64]) -> Counts
     requires { ⌜ Few counts × (length (now numbers) ≡ mostNumbers) ⌝ }
-    ensures told { λ r. ⌜ ((n count : ℕ) (s : Known) → kindOf (wordOf word) .isCounted (take count (now (numbers .entry))) ≡ true
+    ensures yields { λ r. ⌜ ((n count : ℕ) (s : Known) → kindOf (wordOf word) .isCounted (take count (now (numbers .entry))) ≡ true
         → Keeps n s (lineWith (wordOf word) (take count (now (numbers .entry)))) → CountsOf s counts
         → CountsOf (after s (lineWith (wordOf word) (take count (now (numbers .entry))))) r) ⌝ }
     ensures more { λ r. ⌜ (counts .values ≤ r .values) × (r .values ≤ counts .values + 1) ⌝ }

@@ -9,7 +9,7 @@ ghost use lib.IntN.{ℤ, pos};
 ghost use lib.ListN.{length, getD};
 ghost use Rattle.groups.specs.declared.value.Worked.the-variants.{Value};
 ghost use Rattle.service.specs.Walk.{ListRead};
-ghost use Rattle.service.specs.Make.{withValue, isTrue, WorkAsked, WorkDone};
+ghost use Rattle.service.specs.Make.{withValue, isTrue, WorkGiven, WorkingYield};
 ghost use Rattle.meaning.specs.Refusal.{valueLimit};
 
 // The first line whose statement is false.
@@ -42,8 +42,8 @@ fn take_value(values: &mut [i64], at: usize, worked: Worked) -> bool
 
 // Every line is worked on the values of the lines before it, until a statement is false.
 pub fn work_lines(list: &[u8], inputs: &[i64], values: &mut [i64]) -> Working
-    requires { ⌜ WorkAsked (now list) (now inputs) × (length (now values) ≡ valueLimit) ⌝ }
-    ensures told { λ r. ⌜ ((l : ListRead (now (list .entry))) → WorkDone (l .lines) (l .last) (now (inputs .entry)) (now (values .exit)) r) ⌝ }
+    requires { ⌜ WorkGiven (now list) (now inputs) × (length (now values) ≡ valueLimit) ⌝ }
+    ensures yields { λ r. ⌜ ((l : ListRead (now (list .entry))) → WorkingYield (l .lines) (l .last) (now (inputs .entry)) (now (values .exit)) r) ⌝ }
     ensures long { λ _. ⌜ length (now (values .exit)) ≡ valueLimit ⌝ }
 {
     let mut numbers: [i64; 33] = [0; 33];

@@ -3,12 +3,12 @@ use super::walk::take_line;
 use reader::Counts;
 use table::line_cells::line_cells;
 ghost use mathlib.Core.Path.{_≡_};
-ghost use Rattle.service.specs.Make.{WriteAsked};
+ghost use Rattle.service.specs.Make.{WriteGiven};
 
 // The cells of every line, each line's through the part of the table that starts at its first cell.
 pub fn write_lines(list: &[u8], p: u32, values: &[i64], table: &mut [u32])
-    requires { ⌜ WriteAsked (now list) p (now values) (now table) ⌝ }
-    ensures { λ _. ⌜ ((a : WriteAsked (now (list .entry)) p (now (values .entry)) (now (table .entry))) → now (table .exit) ≡ a .cells) ⌝ }
+    requires { ⌜ WriteGiven (now list) p (now values) (now table) ⌝ }
+    ensures { λ _. ⌜ ((a : WriteGiven (now (list .entry)) p (now (values .entry)) (now (table .entry))) → now (table .exit) ≡ a .cells) ⌝ }
 {
     let mut numbers: [i64; 33] = [0; 33];
     let mut counts = Counts {

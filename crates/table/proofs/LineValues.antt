@@ -16,7 +16,7 @@ use Rattle.meaning.specs.Gadget.Digits.{valueAt}
 use Rattle.groups.specs.Cells.{GroupOf}
 use Rattle.groups.specs.Numbers.{size, named, NameAt, ValueAt, DigitsFrom}
 use Rattle.table.specs.Line.{knownCount}
-use Rattle.table.specs.LineValues.{ValuesAsked}
+use Rattle.table.specs.LineValues.{ValuesGiven}
 use Rattle.table.proofs.LineNumbers.{values-most, value-bounded}
 use Rattle.table.proofs.LineKinds.{word-digits, OneWord, one-name, TwoWord, two-first, two-second}
 
@@ -27,7 +27,7 @@ pub value-named : (numbers values : List ℤ) (i n : ℕ) → size numbers i < n
 unfolding valueAt
 value-named numbers values i n h = getD-take n values (size numbers i) (pos 0) h
 
-module _ {w : Word} {numbers : List ℤ} {count : ℕ} {values : List ℤ} (a : ValuesAsked w numbers count values) where
+module _ {w : Word} {numbers : List ℤ} {count : ℕ} {values : List ℤ} (a : ValuesGiven w numbers count values) where
   value-at : {i : ℕ} → kindOf w .isField ≡ false → NameAt (knownCount (a .kept)) numbers i → ValueAt numbers values i
   value-at {i} late name = record {
     name = record {
@@ -40,12 +40,12 @@ module _ {w : Word} {numbers : List ℤ} {count : ℕ} {values : List ℤ} (a : 
   }
 
   -- as `one_value` and `two_values` ask it
-  pub one-asked : {line : Known → (v b k : ℕ) → Gadget} → OneWord w numbers count line → ValueAt numbers values 0 × DigitsFrom numbers 1
-  one-asked word = (value-at (word .has-digits .late) (one-name (a .kept) word), word-digits (a .kept) (word .has-digits))
+  pub one-given : {line : Known → (v b k : ℕ) → Gadget} → OneWord w numbers count line → ValueAt numbers values 0 × DigitsFrom numbers 1
+  one-given word = (value-at (word .has-digits .late) (one-name (a .kept) word), word-digits (a .kept) (word .has-digits))
 
-  pub two-asked : {line : Known → (u v b k : ℕ) → Gadget} → TwoWord w numbers count line
+  pub two-given : {line : Known → (u v b k : ℕ) → Gadget} → TwoWord w numbers count line
       → ValueAt numbers values 0 × ValueAt numbers values 1 × DigitsFrom numbers 2
-  two-asked word = (
+  two-given word = (
     value-at (word .has-digits .late) (two-first (a .kept) word),
     value-at (word .has-digits .late) (two-second (a .kept) word),
     word-digits (a .kept) (word .has-digits),

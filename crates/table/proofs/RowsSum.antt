@@ -25,7 +25,7 @@ use Rattle.groups.specs.Rows.{Leaves, firstRefusal}
 use Rattle.groups.proofs.RowsFirst.{first-none, first-row}
 use Rattle.groups.proofs.RowsForm.{leaves-whole, leaves-⊕, leaves-⊗, row-test}
 use Rattle.table.specs.Line.{KeptLine, gadgetOf, knownCount}
-use Rattle.table.specs.LineRows.{RowsAsked}
+use Rattle.table.specs.LineRows.{RowsGiven}
 use Rattle.table.specs.Sum.{NamesBelow, PlacesInside}
 use Rattle.table.proofs.LineNumbers.{values-most}
 use Rattle.table.proofs.LineSum.{name-made, terms-end}
@@ -108,11 +108,11 @@ sum-names {numbers} {count} l = record { natural = λ i h k e. name i h k e .0; 
     name : (i : ℕ) → 0 < i → i < count → i % 2 ≡ 0 → (pos 0 ≤ℤ getD numbers i (pos 0)) × (natAbs (getD numbers i (pos 0)) < knownCount l)
     name i = name-made numbers count (omega (arith, l .numbers-long, l .few)) (knownCount l) i (l .keeps .names-made)
 
-module _ {p : ℕ} {numbers : List ℤ} {count : ℕ} {table : List ℕ} {cells : ℕ} {places : List ℕ} (a : RowsAsked p sum numbers count table cells places) where
-  pub sum-asked : (0 < p) × Below p table × (cells < length table) × (count % 2 ≡ 1) × (count ≤ length numbers)
+module _ {p : ℕ} {numbers : List ℤ} {count : ℕ} {table : List ℕ} {cells : ℕ} {places : List ℕ} (a : RowsGiven p sum numbers count table cells places) where
+  pub sum-given : (0 < p) × Below p table × (cells < length table) × (count % 2 ≡ 1) × (count ≤ length numbers)
       × PlacesInside numbers count places (length table)
   unfolding kindOf gadget sumLine wordOf
-  sum-asked = (
+  sum-given = (
     omega (arith, p-three a refl),
     a .below,
     omega (arith, a .room),
@@ -126,8 +126,8 @@ module _ {p : ℕ} {numbers : List ℤ} {count : ℕ} {table : List ℕ} {cells 
     },
   )
 
-  pub sum-told : {seen : Option Reply} → ((s : Known) (n : ℕ) → s .p ≡ p → s .cells ≡ cells → s .places ≡ take n places → NamesBelow n numbers count
-      → seen ≡ firstRefusal (holds p table) 0 (sumLine s (numberAt (take count numbers) 0) (termsOf (withoutFirst (take count numbers))) .rows))
-      → seen ≡ firstRefusal (holds p table) 0 (gadgetOf (a .kept) .rows)
+  pub sum-yield : {meaning : Option Reply} → ((s : Known) (n : ℕ) → s .p ≡ p → s .cells ≡ cells → s .places ≡ take n places → NamesBelow n numbers count
+      → meaning ≡ firstRefusal (holds p table) 0 (sumLine s (numberAt (take count numbers) 0) (termsOf (withoutFirst (take count numbers))) .rows))
+      → meaning ≡ firstRefusal (holds p table) 0 (gadgetOf (a .kept) .rows)
   unfolding kindOf gadget
-  sum-told told = told (a .kept .state) (knownCount (a .kept)) (a .prime refl) (a .cells-are) (a .places-are) (sum-names (a .kept))
+  sum-yield yields = yields (a .kept .state) (knownCount (a .kept)) (a .prime refl) (a .cells-are) (a .places-are) (sum-names (a .kept))

@@ -27,13 +27,13 @@ use Rattle.meaning.proofs.Lines.{terms-named}
 use Rattle.number.specs.Bounded.{Bounded}
 use Rattle.text.specs.Word.{wordOf}
 use Rattle.meaning.proofs.Lines.{sum-odd}
-use Rattle.groups.specs.Cells.{workedSeen, powerBound}
+use Rattle.groups.specs.Cells.{workedMeaning, powerBound}
 use Rattle.groups.specs.Numbers.{size, OneRead, TwoRead}
 use Rattle.groups.specs.declared.value.Worked.{Worked}
 use Rattle.groups.specs.declared.value.Worked.the-variants.{Value, NoValue}
 use Rattle.table.specs.Line.{KeptLine, knownCount}
-use Rattle.table.specs.Sum.{sumOf, SumAsked}
-use Rattle.table.specs.LineValues.{ValuesAsked, WorkTold}
+use Rattle.table.specs.Sum.{sumOf, SumGiven}
+use Rattle.table.specs.LineValues.{ValuesGiven, WorkYield}
 use Rattle.table.proofs.LineNumbers.{values-most, half-most}
 use Rattle.table.proofs.LineKinds.{span-word, relu-word, which-word, max-word, root-word}
 use Rattle.table.proofs.LineKinds.{OneWord, one-name, one-is, TwoWord, two-first, two-second, two-is}
@@ -49,61 +49,61 @@ module _ {numbers values : List ℤ} {v : ℤ} {b k : ℕ} (one : OneRead number
   -- the answer for the line's gadget over v is that for the line
   one-worked : {w : Word} {count : ℕ} {line : Known → (n b k : ℕ) → Gadget} → OneWord w numbers count line
       → ((s : Known) (n : ℕ) (vs : List ℤ) → valueAt vs n ≡ v
-      → workedSeen r ≡ cond (line s n b k .statement vs) (value (line s n b k .values vs next)) (refusedBy 18)) → WorkTold w numbers count values next r
-  one-worked word told a =
+      → workedMeaning r ≡ cond (line s n b k .statement vs) (value (line s n b k .values vs next)) (refusedBy 18)) → WorkYield w numbers count values next r
+  one-worked word yields a =
       let l = a .kept in
       let read = value-named numbers values 0 (knownCount l) (one-name l word .below) in
-      rw (one-is l word (one .digits)) (told (l .state) (size numbers 0) (take (knownCount l) values) (read ∙ sym (one .value)))
+      rw (one-is l word (one .digits)) (yields (l .state) (size numbers 0) (take (knownCount l) values) (read ∙ sym (one .value)))
 
-  pub relu-told : workedSeen r ≡ cond (signStatement b k v) (value (larger (pos 0) v ∷ [])) (refusedBy 18) → WorkTold relu numbers 3 values next r
+  pub relu-yield : workedMeaning r ≡ cond (signStatement b k v) (value (larger (pos 0) v ∷ [])) (refusedBy 18) → WorkYield relu numbers 3 values next r
   unfolding reluLine
-  relu-told h = one-worked (relu-word numbers) (λ s n vs is. rw is h)
+  relu-yield h = one-worked (relu-word numbers) (λ s n vs is. rw is h)
 
-  pub root-told : workedSeen r ≡ cond (between (pos 0) v (pos (b ^ k) -ℤ pos 1)) (value (rootValue v ∷ [])) (refusedBy 18)
-      → WorkTold root numbers 3 values next r
+  pub root-yield : workedMeaning r ≡ cond (between (pos 0) v (pos (b ^ k) -ℤ pos 1)) (value (rootValue v ∷ [])) (refusedBy 18)
+      → WorkYield root numbers 3 values next r
   unfolding rootLine
-  root-told h = one-worked (root-word numbers) (λ s n vs is. rw is h)
+  root-yield h = one-worked (root-word numbers) (λ s n vs is. rw is h)
 
-  pub span-told : {shift : ℤ} → shift ≡ getD numbers 3 (pos 0) → workedSeen r ≡ cond (between shift v (spanTop b k shift)) (value []) (refusedBy 18)
-      → WorkTold span numbers 4 values next r
+  pub span-yield : {shift : ℤ} → shift ≡ getD numbers 3 (pos 0) → workedMeaning r ≡ cond (between shift v (spanTop b k shift)) (value []) (refusedBy 18)
+      → WorkYield span numbers 4 values next r
   unfolding spanLine
-  span-told e h = one-worked (span-word numbers) (λ s n vs is. rw (is, ← e) h)
+  span-yield e h = one-worked (span-word numbers) (λ s n vs is. rw (is, ← e) h)
 
 -- ---- two values, and a digit group
 
 module _ {numbers values : List ℤ} {u v : ℤ} {b k : ℕ} (two : TwoRead numbers values u v b k) (next : ℤ) (r : Worked) where
   two-worked : {w : Word} {count : ℕ} {line : Known → (m n b k : ℕ) → Gadget} → TwoWord w numbers count line
       → ((s : Known) (m n : ℕ) (vs : List ℤ) → valueAt vs m ≡ u → valueAt vs n ≡ v
-      → workedSeen r ≡ cond (line s m n b k .statement vs) (value (line s m n b k .values vs next)) (refusedBy 18)) → WorkTold w numbers count values next r
-  two-worked word told a =
+      → workedMeaning r ≡ cond (line s m n b k .statement vs) (value (line s m n b k .values vs next)) (refusedBy 18)) → WorkYield w numbers count values next r
+  two-worked word yields a =
       let l = a .kept in
       let read-u = value-named numbers values 0 (knownCount l) (two-first l word .below) in
       let read-v = value-named numbers values 1 (knownCount l) (two-second l word .below) in
       rw (two-is l word (two .digits))
-      (told (l .state) (size numbers 0) (size numbers 1) (take (knownCount l) values) (read-u ∙ sym (two .first)) (read-v ∙ sym (two .second)))
+      (yields (l .state) (size numbers 0) (size numbers 1) (take (knownCount l) values) (read-u ∙ sym (two .first)) (read-v ∙ sym (two .second)))
 
-  pub which-told : workedSeen r ≡ cond (signStatement b k (u -ℤ v)) (value (whichValue u v ∷ [])) (refusedBy 18) → WorkTold which numbers 4 values next r
+  pub which-yield : workedMeaning r ≡ cond (signStatement b k (u -ℤ v)) (value (whichValue u v ∷ [])) (refusedBy 18) → WorkYield which numbers 4 values next r
   unfolding whichLine
-  which-told h = two-worked (which-word numbers) (λ s m n vs u-is v-is. rw (u-is, v-is) h)
+  which-yield h = two-worked (which-word numbers) (λ s m n vs u-is v-is. rw (u-is, v-is) h)
 
-  pub max-told : workedSeen r ≡ cond (ltb (natAbs (u -ℤ v)) (b ^ k)) (value (larger u v ∷ [])) (refusedBy 18) → WorkTold max numbers 4 values next r
+  pub max-yield : workedMeaning r ≡ cond (ltb (natAbs (u -ℤ v)) (b ^ k)) (value (larger u v ∷ [])) (refusedBy 18) → WorkYield max numbers 4 values next r
   unfolding maxLine
-  max-told h = two-worked (max-word numbers) (λ s m n vs u-is v-is. rw (u-is, v-is) h)
+  max-yield h = two-worked (max-word numbers) (λ s m n vs u-is v-is. rw (u-is, v-is) h)
 
 -- ---- lines without a digit group
 
-pub field-told : (numbers values : List ℤ) (next : ℤ) → WorkTold field numbers 1 values next NoValue
-unfolding gadget kindOf fieldLine workedSeen
-field-told numbers values next a = refl
+pub field-yield : (numbers values : List ℤ) (next : ℤ) → WorkYield field numbers 1 values next NoValue
+unfolding gadget kindOf fieldLine workedMeaning
+field-yield numbers values next a = refl
 
-pub input-told : (numbers values : List ℤ) {next x : ℤ} → x ≡ next → WorkTold input numbers 0 values next (Value x)
-unfolding gadget kindOf inputLine workedSeen
-input-told numbers values e a = ap (λ (y : ℤ). value (y ∷ [])) e
+pub input-yield : (numbers values : List ℤ) {next x : ℤ} → x ≡ next → WorkYield input numbers 0 values next (Value x)
+unfolding gadget kindOf inputLine workedMeaning
+input-yield numbers values e a = ap (λ (y : ℤ). value (y ∷ [])) e
 
 module _ {numbers : List ℤ} {count : ℕ} {values : List ℤ} where
-  pub sum-asked : (a : ValuesAsked sum numbers count values) → SumAsked numbers count values (knownCount (a .kept))
+  pub sum-given : (a : ValuesGiven sum numbers count values) → SumGiven numbers count values (knownCount (a .kept))
   unfolding kindOf gadget sumLine wordOf
-  sum-asked a =
+  sum-given a =
       let l = a .kept in
       let ns : List ℤ = take count numbers in
       record {
@@ -115,7 +115,7 @@ module _ {numbers : List ℤ} {count : ℕ} {values : List ℤ} where
             (termsOf (withoutFirst ns)) (terms-named (l .state) (withoutFirst ns) (l .keeps .names-made)) (l .keeps .fits);
       }
 
-  pub sum-told : {x : ℤ} → ((n : ℕ) → SumAsked numbers count values n → x ≡ sumOf (take count numbers) (take n values))
-      → (next : ℤ) → WorkTold sum numbers count values next (Value x)
-  unfolding gadget kindOf sumLine workedSeen
-  sum-told h next a = ap (λ (y : ℤ). value (y ∷ [])) (h (knownCount (a .kept)) (sum-asked a))
+  pub sum-yield : {x : ℤ} → ((n : ℕ) → SumGiven numbers count values n → x ≡ sumOf (take count numbers) (take n values))
+      → (next : ℤ) → WorkYield sum numbers count values next (Value x)
+  unfolding gadget kindOf sumLine workedMeaning
+  sum-yield h next a = ap (λ (y : ℤ). value (y ∷ [])) (h (knownCount (a .kept)) (sum-given a))

@@ -17,7 +17,7 @@ use Rattle.number.specs.Bounded.{Bounded}
 use Rattle.number.proofs.Bounded.{bounded-difference}
 use Rattle.rules.proofs.SumLine.{without-drop, terms-at}
 use Rattle.groups.specs.Cells.{powerBound, valueBound}
-use Rattle.table.specs.Sum.{sumOf, SumSmall, SumAsked}
+use Rattle.table.specs.Sum.{sumOf, SumSmall, SumGiven}
 use Rattle.table.proofs.LineSum.{name-made, terms-end}
 
 -- x is the sum up to place i
@@ -50,21 +50,21 @@ step-bounded x t s u = subst (Bounded powerBound) step (bounded-difference u s)
     step : x +ℤ t -ℤ x ≡ t
     step = omega (linear, plus x t)
 
-module _ (numbers : List ℤ) (count : ℕ) (values : List ℤ) (n : ℕ) (asked : SumAsked numbers count values n) where
+module _ (numbers : List ℤ) (count : ℕ) (values : List ℤ) (n : ℕ) (given : SumGiven numbers count values n) where
   abbrev ns : List ℤ
   ns = take count numbers
 
   pub summing-start : Summing numbers count values n 1 (getD numbers 0 (pos 0))
   unfolding kindOf numberAt
   summing-start = record {
-    within = asked .some-number;
+    within = given .some-number;
     odd = refl;
-    small = rw (first, without-drop ns 0) at (asked .small);
+    small = rw (first, without-drop ns 0) at (given .small);
     same = ap₂ (λ (x : ℤ) (l : List ℤ). sumValue (take n values) x (termsOf l)) (sym first) (sym (without-drop ns 0));
   }
     where
       first : getD ns 0 (pos 0) ≡ getD numbers 0 (pos 0)
-      first = getD-take count numbers 0 (pos 0) (omega (arith, asked .some-number))
+      first = getD-take count numbers 0 (pos 0) (omega (arith, given .some-number))
 
   module _ (i : ℕ) (x : ℤ) (s : Summing numbers count values n i x) where
     pub summing-turn : i < count - 1 → Turn numbers count values n i x
@@ -92,10 +92,10 @@ module _ (numbers : List ℤ) (count : ℕ) (values : List ℤ) (n : ℕ) (asked
         rest = termsOf (drop (i + 2) ns)
 
         listed : termsOf (drop i ns) ≡ record { coefficient = c; value = natAbs v } ∷ rest
-        listed = terms-at numbers count i (asked .all-numbers) (omega arith)
+        listed = terms-at numbers count i (given .all-numbers) (omega arith)
 
         name : (pos 0 ≤ℤ v) × (natAbs v < n)
-        name = name-made numbers count (asked .all-numbers) n (i + 1) (asked .named) (omega arith) (omega arith) (omega (arith, s .odd))
+        name = name-made numbers count (given .all-numbers) n (i + 1) (given .named) (omega arith) (omega arith) (omega (arith, s .odd))
 
         value : getD (take n values) (natAbs v) (pos 0) ≡ getD values (natAbs v) (pos 0)
         value = getD-take n values (natAbs v) (pos 0) (name .1)
@@ -111,4 +111,4 @@ module _ (numbers : List ℤ) (count : ℕ) (values : List ℤ) (n : ℕ) (asked
 
     pub summing-end : count - 1 ≤ i → x ≡ sumOf (take count numbers) (take n values)
     unfolding sumValue
-    summing-end h = rw (terms-end numbers count (asked .all-numbers) i (omega arith)) at (s .same)
+    summing-end h = rw (terms-end numbers count (given .all-numbers) i (omega arith)) at (s .same)

@@ -11,7 +11,7 @@ use Rattle.meaning.specs.Meaning.{gadget}
 use Rattle.meaning.specs.Gadget.Interface.{Gadget}
 use Rattle.meaning.specs.Kept.{Keeps, Sound}
 use Rattle.rules.specs.Ready.{greatest, Small}
-use Rattle.rules.specs.Told.{lineWith}
+use Rattle.rules.specs.Yield.{lineWith}
 
 -- a line with this word, whose numbers are the first count of numbers; it keeps the rules in the state before it
 pub record KeptLine (w : Word) (numbers : List ℤ) (count : ℕ) : Type 0 where

@@ -27,7 +27,7 @@ SumSmall vs x (t ∷ ts) = Bounded valueBound x × SumSmall vs (x +ℤ t .coeffi
 
 -- what the sum of a line takes: the line's numbers are the first count, and the values before it the first n; its terms name
 -- values, and no step of the sum is great
-pub record SumAsked (numbers : List ℤ) (count : ℕ) (values : List ℤ) (n : ℕ) : Type 0 where
+pub record SumGiven (numbers : List ℤ) (count : ℕ) (values : List ℤ) (n : ℕ) : Type 0 where
   pub some-number : 1 ≤ count
   pub all-numbers : count ≤ length numbers
   pub all-values : n ≤ length values

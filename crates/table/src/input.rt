@@ -3,10 +3,10 @@ use groups::value::Worked;
 ghost use mathlib.Core.List.{List};
 ghost use lib.IntN.{ℤ};
 ghost use Rattle.meaning.specs.Word.{input};
-ghost use Rattle.table.specs.LineValues.{WorkTold};
+ghost use Rattle.table.specs.LineValues.{WorkYield};
 
 pub fn input_line_works(next: i64) -> Worked
-    ensures { λ r. ⌜ ((numbers values : List ℤ) → WorkTold input numbers 0 values next r) ⌝ }
+    ensures { λ r. ⌜ ((numbers values : List ℤ) → WorkYield input numbers 0 values next r) ⌝ }
 {
     Worked::Value(next)
 }

@@ -8,7 +8,7 @@ use super::which::which_line_cells;
 use groups::value::known_cell;
 use text::Word;
 ghost use Rattle.text.specs.Word.{wordOf};
-ghost use Rattle.table.specs.LineValues.{CellsAsked, CellsTold};
+ghost use Rattle.table.specs.LineValues.{CellsGiven, CellsYield};
 
 // The first count numbers are the line's, and the first known values are those before it; a value that it makes is the next.
 pub fn line_cells(
@@ -20,8 +20,8 @@ pub fn line_cells(
     known: usize,
     part: &mut [u32],
 )
-    requires { ⌜ CellsAsked p (wordOf word) (now numbers) count (now values) known (now part) ⌝ }
-    ensures { λ _. ⌜ CellsTold p (wordOf word) (now (numbers .entry)) count (now (values .entry)) known (now (part .entry)) (now (part .exit)) ⌝ }
+    requires { ⌜ CellsGiven p (wordOf word) (now numbers) count (now values) known (now part) ⌝ }
+    ensures { λ _. ⌜ CellsYield p (wordOf word) (now (numbers .entry)) count (now (values .entry)) known (now (part .entry)) (now (part .exit)) ⌝ }
 {
     match word {
         Word::Field => {}

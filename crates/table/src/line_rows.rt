@@ -9,7 +9,7 @@ use groups::rows::Rows;
 use number::Cell;
 use text::Word;
 ghost use Rattle.text.specs.Word.{wordOf};
-ghost use Rattle.table.specs.LineRows.{RowsAsked, RowsTold};
+ghost use Rattle.table.specs.LineRows.{RowsGiven, RowsYield};
 
 // The first row of a line that fails, counted from 0 in the line. A field line and an input line have none.
 pub fn line_rows(
@@ -21,8 +21,8 @@ pub fn line_rows(
     at: Cell,
     places: &[u16],
 ) -> Rows
-    requires { ⌜ RowsAsked p (wordOf word) (now numbers) count (now table) (at .0) (now places) ⌝ }
-    ensures { λ r. ⌜ RowsTold p (wordOf word) (now (numbers .entry)) count (now (table .entry)) (at .0) (now (places .entry)) r ⌝ }
+    requires { ⌜ RowsGiven p (wordOf word) (now numbers) count (now table) (at .0) (now places) ⌝ }
+    ensures { λ r. ⌜ RowsYield p (wordOf word) (now (numbers .entry)) count (now (table .entry)) (at .0) (now (places .entry)) r ⌝ }
 {
     match word {
         Word::Field => Rows::AllHold,

@@ -9,12 +9,12 @@ use super::which::which_line_works;
 use groups::value::Worked;
 use text::Word;
 ghost use Rattle.text.specs.Word.{wordOf};
-ghost use Rattle.table.specs.LineValues.{ValuesAsked, WorkTold};
+ghost use Rattle.table.specs.LineValues.{ValuesGiven, WorkYield};
 
 // The first count numbers are the line's; next is the next input, which an `in` line takes.
 pub fn line_works(word: Word, numbers: &[i64], count: usize, values: &[i64], next: i64) -> Worked
-    requires { ⌜ ValuesAsked (wordOf word) (now numbers) count (now values) ⌝ }
-    ensures { λ r. ⌜ WorkTold (wordOf word) (now (numbers .entry)) count (now (values .entry)) next r ⌝ }
+    requires { ⌜ ValuesGiven (wordOf word) (now numbers) count (now values) ⌝ }
+    ensures { λ r. ⌜ WorkYield (wordOf word) (now (numbers .entry)) count (now (values .entry)) next r ⌝ }
 {
     match word {
         Word::Field => Worked::NoValue,

@@ -31,11 +31,11 @@ ghost use Rattle.meaning.specs.Row.{holds};
 ghost use Rattle.meaning.specs.Refusal.{value, refusedBy};
 ghost use Rattle.meaning.specs.Gadget.Max.{maxLine};
 ghost use Rattle.number.specs.Bounded.{Bounded};
-ghost use Rattle.groups.specs.Cells.{workedSeen, GroupOf, valueBound};
-ghost use Rattle.groups.specs.Rows.{rowsSeen, firstRefusal};
+ghost use Rattle.groups.specs.Cells.{workedMeaning, GroupOf, valueBound};
+ghost use Rattle.groups.specs.Rows.{rowsMeaning, firstRefusal};
 ghost use Rattle.table.specs.Max.{maxCells};
-ghost use Rattle.table.specs.LineValues.{ValuesAsked, WorkTold, CellsAsked, CellsTold};
-ghost use Rattle.table.specs.LineRows.{RowsAsked, RowsTold};
+ghost use Rattle.table.specs.LineValues.{ValuesGiven, WorkYield, CellsGiven, CellsYield};
+ghost use Rattle.table.specs.LineRows.{RowsGiven, RowsYield};
 
 // ---- working
 
@@ -48,7 +48,7 @@ fn max_value(u: i64, v: i64) -> i64
 
 fn max_works(u: i64, v: i64, c: u64) -> Worked
     requires { ⌜ Bounded valueBound u × Bounded valueBound v ⌝ }
-    ensures { λ r. ⌜ ((b k : ℕ) → c ≡ b ^ k → workedSeen r ≡ cond (ltb (natAbs (u -ℤ v)) (b ^ k)) (value (larger u v ∷ [])) (refusedBy 18)) ⌝ }
+    ensures { λ r. ⌜ ((b k : ℕ) → c ≡ b ^ k → workedMeaning r ≡ cond (ltb (natAbs (u -ℤ v)) (b ^ k)) (value (larger u v ∷ [])) (refusedBy 18)) ⌝ }
 {
     if apart(u, v) < c {
         Worked::Value(max_value(u, v))
@@ -58,8 +58,8 @@ fn max_works(u: i64, v: i64, c: u64) -> Worked
 }
 
 pub fn max_line_works(numbers: &[i64], values: &[i64]) -> Worked
-    requires { ⌜ ValuesAsked max (now numbers) 4 (now values) ⌝ }
-    ensures { λ r. ⌜ ((next : ℤ) → WorkTold max (now (numbers .entry)) 4 (now (values .entry)) next r) ⌝ }
+    requires { ⌜ ValuesGiven max (now numbers) 4 (now values) ⌝ }
+    ensures { λ r. ⌜ ((next : ℤ) → WorkYield max (now (numbers .entry)) 4 (now (values .entry)) next r) ⌝ }
 {
     let read = two_values(numbers, values);
     let c = power_of(read.base, read.count);
@@ -78,9 +78,9 @@ fn max_cells(out: &mut [u32], p: u32, u: i64, v: i64, b: u32, k: usize)
 }
 
 pub fn max_line_cells(numbers: &[i64], p: u32, values: &[i64], part: &mut [u32])
-    requires { ⌜ ((known : ℕ) × CellsAsked p max (now numbers) 4 (now values) known (now part)) ⌝ }
+    requires { ⌜ ((known : ℕ) × CellsGiven p max (now numbers) 4 (now values) known (now part)) ⌝ }
     ensures { λ _. ⌜ ((known : ℕ)
-        → CellsTold p max (now (numbers .entry)) 4 (now (values .entry)) known (now (part .entry)) (now (part .exit))) ⌝ }
+        → CellsYield p max (now (numbers .entry)) 4 (now (values .entry)) known (now (part .entry)) (now (part .exit))) ⌝ }
 {
     let read = two_values(numbers, values);
     max_cells(part, p, read.first, read.second, read.base, read.count);
@@ -92,7 +92,7 @@ fn max_rows(table: &[u32], p: u32, place_u: Cell, place_v: Cell, at: Cell, b: u3
     requires { ⌜ (0 < p) × Below p (now table) × («place_u» .0 < length (now table)) × («place_v» .0 < length (now table))
         × (at .0 + 1 + 2 * k ≤ length (now table)) × GroupOf b k (b ^ k) × (b ^ k ≤ p) ⌝ }
     ensures { λ r. ⌜ ((s : Known) (u v : ℕ) → s .p ≡ p → placeOf s u ≡ «place_u» .0 → placeOf s v ≡ «place_v» .0 → s .cells ≡ at .0
-        → rowsSeen r ≡ firstRefusal (holds p (now (table .entry))) 0 (maxLine s u v b k .rows)) ⌝ }
+        → rowsMeaning r ≡ firstRefusal (holds p (now (table .entry))) 0 (maxLine s u v b k .rows)) ⌝ }
 {
     let made = residue_at(table, at);
     let over_u = difference(made, residue_at(table, place_u), p);
@@ -104,8 +104,8 @@ fn max_rows(table: &[u32], p: u32, place_u: Cell, place_v: Cell, at: Cell, b: u3
 }
 
 pub fn max_line_rows(numbers: &[i64], table: &[u32], p: u32, at: Cell, places: &[u16]) -> Rows
-    requires { ⌜ RowsAsked p max (now numbers) 4 (now table) (at .0) (now places) ⌝ }
-    ensures { λ r. ⌜ RowsTold p max (now (numbers .entry)) 4 (now (table .entry)) (at .0) (now (places .entry)) r ⌝ }
+    requires { ⌜ RowsGiven p max (now numbers) 4 (now table) (at .0) (now places) ⌝ }
+    ensures { λ r. ⌜ RowsYield p max (now (numbers .entry)) 4 (now (table .entry)) (at .0) (now (places .entry)) r ⌝ }
 {
     let read = two_places(numbers, places);
     max_rows(table, p, read.first, read.second, at, read.base, read.count)

@@ -28,10 +28,10 @@ ghost use Rattle.meaning.specs.Row.{holds};
 ghost use Rattle.meaning.specs.Refusal.{value, refusedBy};
 ghost use Rattle.meaning.specs.Gadget.Sign.{signStatement};
 ghost use Rattle.meaning.specs.Gadget.Relu.{reluLine};
-ghost use Rattle.groups.specs.Cells.{workedSeen, GroupOf, powerBound};
-ghost use Rattle.groups.specs.Rows.{rowsSeen, firstRefusal};
-ghost use Rattle.table.specs.LineValues.{ValuesAsked, WorkTold, CellsAsked, CellsTold};
-ghost use Rattle.table.specs.LineRows.{RowsAsked, RowsTold};
+ghost use Rattle.groups.specs.Cells.{workedMeaning, GroupOf, powerBound};
+ghost use Rattle.groups.specs.Rows.{rowsMeaning, firstRefusal};
+ghost use Rattle.table.specs.LineValues.{ValuesGiven, WorkYield, CellsGiven, CellsYield};
+ghost use Rattle.table.specs.LineRows.{RowsGiven, RowsYield};
 
 // ---- working
 
@@ -44,7 +44,7 @@ fn relu_value(v: i64) -> i64
 
 fn relu_works(v: i64, b: u32, c: u64) -> Worked
     requires { ⌜ (0 < b) × (c ≤ powerBound) ⌝ }
-    ensures { λ r. ⌜ ((k : ℕ) → 1 ≤ k → c ≡ b ^ k → workedSeen r ≡ cond (signStatement b k v) (value (larger (pos 0) v ∷ [])) (refusedBy 18)) ⌝ }
+    ensures { λ r. ⌜ ((k : ℕ) → 1 ≤ k → c ≡ b ^ k → workedMeaning r ≡ cond (signStatement b k v) (value (larger (pos 0) v ∷ [])) (refusedBy 18)) ⌝ }
 {
     if sign_works(v, b, c) {
         Worked::Value(relu_value(v))
@@ -54,8 +54,8 @@ fn relu_works(v: i64, b: u32, c: u64) -> Worked
 }
 
 pub fn relu_line_works(numbers: &[i64], values: &[i64]) -> Worked
-    requires { ⌜ ValuesAsked relu (now numbers) 3 (now values) ⌝ }
-    ensures { λ r. ⌜ ((next : ℤ) → WorkTold relu (now (numbers .entry)) 3 (now (values .entry)) next r) ⌝ }
+    requires { ⌜ ValuesGiven relu (now numbers) 3 (now values) ⌝ }
+    ensures { λ r. ⌜ ((next : ℤ) → WorkYield relu (now (numbers .entry)) 3 (now (values .entry)) next r) ⌝ }
 {
     let read = one_value(numbers, values);
     let c = power_of(read.base, read.count);
@@ -65,9 +65,9 @@ pub fn relu_line_works(numbers: &[i64], values: &[i64]) -> Worked
 // ---- cells
 
 pub fn relu_line_cells(numbers: &[i64], p: u32, values: &[i64], part: &mut [u32])
-    requires { ⌜ ((known : ℕ) × CellsAsked p relu (now numbers) 3 (now values) known (now part)) ⌝ }
+    requires { ⌜ ((known : ℕ) × CellsGiven p relu (now numbers) 3 (now values) known (now part)) ⌝ }
     ensures { λ _. ⌜ ((known : ℕ)
-        → CellsTold p relu (now (numbers .entry)) 3 (now (values .entry)) known (now (part .entry)) (now (part .exit))) ⌝ }
+        → CellsYield p relu (now (numbers .entry)) 3 (now (values .entry)) known (now (part .entry)) (now (part .exit))) ⌝ }
 {
     let read = one_value(numbers, values);
     let c = power_of(read.base, read.count);
@@ -80,7 +80,7 @@ pub fn relu_line_cells(numbers: &[i64], p: u32, values: &[i64], part: &mut [u32]
 fn relu_rows(table: &[u32], p: u32, place: Cell, at: Cell, b: u32, k: usize) -> Rows
     requires { ⌜ (1 < p) × Below p (now table) × (place .0 < length (now table)) × (at .0 + k + 3 ≤ length (now table)) × GroupOf b k (b ^ k) × (b ^ k ≤ p) ⌝ }
     ensures { λ r. ⌜ ((s : Known) (v : ℕ) → s .p ≡ p → placeOf s v ≡ place .0 → s .cells ≡ at .0
-        → rowsSeen r ≡ firstRefusal (holds p (now (table .entry))) 0 (reluLine s v b k .rows)) ⌝ }
+        → rowsMeaning r ≡ firstRefusal (holds p (now (table .entry))) 0 (reluLine s v b k .rows)) ⌝ }
 {
     let value = residue_at(table, place);
     let number = sum(value, top_part(b, k), p);
@@ -91,8 +91,8 @@ fn relu_rows(table: &[u32], p: u32, place: Cell, at: Cell, b: u32, k: usize) -> 
 }
 
 pub fn relu_line_rows(numbers: &[i64], table: &[u32], p: u32, at: Cell, places: &[u16]) -> Rows
-    requires { ⌜ RowsAsked p relu (now numbers) 3 (now table) (at .0) (now places) ⌝ }
-    ensures { λ r. ⌜ RowsTold p relu (now (numbers .entry)) 3 (now (table .entry)) (at .0) (now (places .entry)) r ⌝ }
+    requires { ⌜ RowsGiven p relu (now numbers) 3 (now table) (at .0) (now places) ⌝ }
+    ensures { λ r. ⌜ RowsYield p relu (now (numbers .entry)) 3 (now (table .entry)) (at .0) (now (places .entry)) r ⌝ }
 {
     let read = one_place(numbers, places);
     relu_rows(table, p, read.place, at, read.base, read.count)

@@ -34,11 +34,11 @@ ghost use Rattle.meaning.specs.Row.{Form, holds};
 ghost use Rattle.meaning.specs.Refusal.{value, refusedBy};
 ghost use Rattle.meaning.specs.Gadget.Root.{rootValue, rootLine};
 ghost use Rattle.number.specs.Bounded.{Bounded};
-ghost use Rattle.groups.specs.Cells.{workedSeen, GroupOf, powerBound, valueBound};
-ghost use Rattle.groups.specs.Rows.{rowsSeen, firstRefusal, Leaves};
+ghost use Rattle.groups.specs.Cells.{workedMeaning, GroupOf, powerBound, valueBound};
+ghost use Rattle.groups.specs.Rows.{rowsMeaning, firstRefusal, Leaves};
 ghost use Rattle.table.specs.Root.{restCells, rootCells, fourGroups};
-ghost use Rattle.table.specs.LineValues.{ValuesAsked, WorkTold, CellsAsked, CellsTold};
-ghost use Rattle.table.specs.LineRows.{RowsAsked, RowsTold};
+ghost use Rattle.table.specs.LineValues.{ValuesGiven, WorkYield, CellsGiven, CellsYield};
+ghost use Rattle.table.specs.LineRows.{RowsGiven, RowsYield};
 
 // ---- working
 
@@ -51,7 +51,7 @@ fn root_value(v: i64) -> i64
 
 fn root_works(v: i64, c: u64) -> Worked
     requires { ⌜ Bounded valueBound v × (c ≤ powerBound) ⌝ }
-    ensures { λ r. ⌜ ((b k : ℕ) → c ≡ b ^ k → workedSeen r ≡ cond (between (pos 0) v (pos (b ^ k) -ℤ pos 1)) (value (rootValue v ∷ [])) (refusedBy 18)) ⌝ }
+    ensures { λ r. ⌜ ((b k : ℕ) → c ≡ b ^ k → workedMeaning r ≡ cond (between (pos 0) v (pos (b ^ k) -ℤ pos 1)) (value (rootValue v ∷ [])) (refusedBy 18)) ⌝ }
 {
     let top = c as i64 - 1;
     if within(Whole(0), Whole(v), Whole(top)) {
@@ -62,8 +62,8 @@ fn root_works(v: i64, c: u64) -> Worked
 }
 
 pub fn root_line_works(numbers: &[i64], values: &[i64]) -> Worked
-    requires { ⌜ ValuesAsked root (now numbers) 3 (now values) ⌝ }
-    ensures { λ r. ⌜ ((next : ℤ) → WorkTold root (now (numbers .entry)) 3 (now (values .entry)) next r) ⌝ }
+    requires { ⌜ ValuesGiven root (now numbers) 3 (now values) ⌝ }
+    ensures { λ r. ⌜ ((next : ℤ) → WorkYield root (now (numbers .entry)) 3 (now (values .entry)) next r) ⌝ }
 {
     let read = one_value(numbers, values);
     let c = power_of(read.base, read.count);
@@ -104,9 +104,9 @@ fn rest_cells(out: &mut [u32], v: i64, r: i64, b: u32, k: usize)
 }
 
 pub fn root_line_cells(numbers: &[i64], p: u32, values: &[i64], part: &mut [u32])
-    requires { ⌜ ((known : ℕ) × CellsAsked p root (now numbers) 3 (now values) known (now part)) ⌝ }
+    requires { ⌜ ((known : ℕ) × CellsGiven p root (now numbers) 3 (now values) known (now part)) ⌝ }
     ensures { λ _. ⌜ ((known : ℕ)
-        → CellsTold p root (now (numbers .entry)) 3 (now (values .entry)) known (now (part .entry)) (now (part .exit))) ⌝ }
+        → CellsYield p root (now (numbers .entry)) 3 (now (values .entry)) known (now (part .entry)) (now (part .exit))) ⌝ }
 {
     let read = one_value(numbers, values);
     root_cells(part, p, read.value, read.base, read.count);
@@ -118,7 +118,7 @@ fn root_rows(table: &[u32], p: u32, place: Cell, at: Cell, b: u32, k: usize) -> 
     requires { ⌜ (2 < p) × Below p (now table) × (place .0 < length (now table)) × (at .0 + 2 + 4 * k ≤ length (now table))
         × GroupOf b k (b ^ k) × (b ^ k ≤ p) ⌝ }
     ensures { λ r. ⌜ ((s : Known) (v : ℕ) → s .p ≡ p → placeOf s v ≡ place .0 → s .cells ≡ at .0
-        → rowsSeen r ≡ firstRefusal (holds p (now (table .entry))) 0 (rootLine s v b k .rows)) ⌝ }
+        → rowsMeaning r ≡ firstRefusal (holds p (now (table .entry))) 0 (rootLine s v b k .rows)) ⌝ }
 {
     let value = residue_at(table, place);
     let root = residue_at(table, at);
@@ -145,7 +145,7 @@ fn four_groups(
     requires { ⌜ (at .0 + 4 * k ≤ length (now table)) × GroupOf b k (b ^ k) ⌝ }
     ensures { λ r. ⌜ ((p : ℕ) (A B C D : Form) → b ^ k ≤ p → Leaves p (now (table .entry)) (value .0) A → Leaves p (now (table .entry)) (root .0) B
         → Leaves p (now (table .entry)) (over .0) C → Leaves p (now (table .entry)) (under .0) D
-        → rowsSeen r ≡ firstRefusal (holds p (now (table .entry))) 1 (fourGroups A B C D (at .0) b k)) ⌝ }
+        → rowsMeaning r ≡ firstRefusal (holds p (now (table .entry))) 1 (fourGroups A B C D (at .0) b k)) ⌝ }
 {
     let first = group_rows(table, value, 1, at, b, k);
     let second = group_rows(table, root, k + 2, Cell(at.0 + k), b, k);
@@ -156,8 +156,8 @@ fn four_groups(
 }
 
 pub fn root_line_rows(numbers: &[i64], table: &[u32], p: u32, at: Cell, places: &[u16]) -> Rows
-    requires { ⌜ RowsAsked p root (now numbers) 3 (now table) (at .0) (now places) ⌝ }
-    ensures { λ r. ⌜ RowsTold p root (now (numbers .entry)) 3 (now (table .entry)) (at .0) (now (places .entry)) r ⌝ }
+    requires { ⌜ RowsGiven p root (now numbers) 3 (now table) (at .0) (now places) ⌝ }
+    ensures { λ r. ⌜ RowsYield p root (now (numbers .entry)) 3 (now (table .entry)) (at .0) (now (places .entry)) r ⌝ }
 {
     let read = one_place(numbers, places);
     root_rows(table, p, read.place, at, read.base, read.count)

@@ -27,17 +27,17 @@ ghost use Rattle.meaning.specs.Row.{holds};
 ghost use Rattle.meaning.specs.Refusal.{value, refusedBy};
 ghost use Rattle.meaning.specs.Gadget.Span.{spanTop, spanLine};
 ghost use Rattle.number.specs.Bounded.{Bounded};
-ghost use Rattle.groups.specs.Rows.{rowsSeen, firstRefusal};
-ghost use Rattle.groups.specs.Cells.{workedSeen, GroupOf, powerBound};
-ghost use Rattle.table.specs.LineValues.{ValuesAsked, WorkTold, CellsAsked, CellsTold};
-ghost use Rattle.table.specs.LineRows.{RowsAsked, RowsTold};
+ghost use Rattle.groups.specs.Rows.{rowsMeaning, firstRefusal};
+ghost use Rattle.groups.specs.Cells.{workedMeaning, GroupOf, powerBound};
+ghost use Rattle.table.specs.LineValues.{ValuesGiven, WorkYield, CellsGiven, CellsYield};
+ghost use Rattle.table.specs.LineRows.{RowsGiven, RowsYield};
 
 // ---- working
 
 // Of every b and k with the power c.
 fn span_works(v: i64, c: u64, shift: i64) -> Worked
     requires { ⌜ (0 < c) × (c ≤ powerBound) × Bounded powerBound shift ⌝ }
-    ensures { λ r. ⌜ ((b k : ℕ) → c ≡ b ^ k → workedSeen r ≡ cond (between shift v (spanTop b k shift)) (value []) (refusedBy 18)) ⌝ }
+    ensures { λ r. ⌜ ((b k : ℕ) → c ≡ b ^ k → workedMeaning r ≡ cond (between shift v (spanTop b k shift)) (value []) (refusedBy 18)) ⌝ }
 {
     let top = shift + (c - 1) as i64;
     if within(Whole(shift), Whole(v), Whole(top)) {
@@ -48,8 +48,8 @@ fn span_works(v: i64, c: u64, shift: i64) -> Worked
 }
 
 pub fn span_line_works(numbers: &[i64], values: &[i64]) -> Worked
-    requires { ⌜ ValuesAsked span (now numbers) 4 (now values) ⌝ }
-    ensures { λ r. ⌜ ((next : ℤ) → WorkTold span (now (numbers .entry)) 4 (now (values .entry)) next r) ⌝ }
+    requires { ⌜ ValuesGiven span (now numbers) 4 (now values) ⌝ }
+    ensures { λ r. ⌜ ((next : ℤ) → WorkYield span (now (numbers .entry)) 4 (now (values .entry)) next r) ⌝ }
 {
     let read = one_value(numbers, values);
     let c = power_of(read.base, read.count);
@@ -60,9 +60,9 @@ pub fn span_line_works(numbers: &[i64], values: &[i64]) -> Worked
 
 // The cells are the same modulo every p.
 pub fn span_line_cells(numbers: &[i64], values: &[i64], part: &mut [u32])
-    requires { ⌜ ((p : ℕ) × (known : ℕ) × CellsAsked p span (now numbers) 4 (now values) known (now part)) ⌝ }
+    requires { ⌜ ((p : ℕ) × (known : ℕ) × CellsGiven p span (now numbers) 4 (now values) known (now part)) ⌝ }
     ensures { λ _. ⌜ ((p known : ℕ)
-        → CellsTold p span (now (numbers .entry)) 4 (now (values .entry)) known (now (part .entry)) (now (part .exit))) ⌝ }
+        → CellsYield p span (now (numbers .entry)) 4 (now (values .entry)) known (now (part .entry)) (now (part .exit))) ⌝ }
 {
     let read = one_value(numbers, values);
     form_cells(part, read.value, numbers[3], read.base, read.count);
@@ -74,7 +74,7 @@ fn span_rows(table: &[u32], p: u32, place: Cell, at: Cell, b: u32, k: usize, shi
     requires { ⌜ (0 < p) × Below p (now table) × (place .0 < length (now table)) × (at .0 + k ≤ length (now table))
         × GroupOf b k (b ^ k) × (b ^ k ≤ p) ⌝ }
     ensures { λ r. ⌜ ((s : Known) (v : ℕ) → s .p ≡ p → placeOf s v ≡ place .0 → s .cells ≡ at .0
-        → rowsSeen r ≡ firstRefusal (holds p (now (table .entry))) 0 (spanLine s v b k shift .rows)) ⌝ }
+        → rowsMeaning r ≡ firstRefusal (holds p (now (table .entry))) 0 (spanLine s v b k shift .rows)) ⌝ }
 {
     let lowest = remainder_of(Whole(shift), p);
     let number = difference(residue_at(table, place), lowest, p);
@@ -82,8 +82,8 @@ fn span_rows(table: &[u32], p: u32, place: Cell, at: Cell, b: u32, k: usize, shi
 }
 
 pub fn span_line_rows(numbers: &[i64], table: &[u32], p: u32, at: Cell, places: &[u16]) -> Rows
-    requires { ⌜ RowsAsked p span (now numbers) 4 (now table) (at .0) (now places) ⌝ }
-    ensures { λ r. ⌜ RowsTold p span (now (numbers .entry)) 4 (now (table .entry)) (at .0) (now (places .entry)) r ⌝ }
+    requires { ⌜ RowsGiven p span (now numbers) 4 (now table) (at .0) (now places) ⌝ }
+    ensures { λ r. ⌜ RowsYield p span (now (numbers .entry)) 4 (now (table .entry)) (at .0) (now (places .entry)) r ⌝ }
 {
     let read = one_place(numbers, places);
     span_rows(table, p, read.place, at, read.base, read.count, numbers[3])

@@ -21,17 +21,17 @@ ghost use Rattle.meaning.specs.Word.{numberAt, withoutFirst, sum};
 ghost use Rattle.meaning.specs.Known.{Known};
 ghost use Rattle.meaning.specs.Row.{holds};
 ghost use Rattle.meaning.specs.Gadget.Sum.{termsOf, sumLine};
-ghost use Rattle.groups.specs.Rows.{rowsSeen, firstRefusal};
-ghost use Rattle.table.specs.Sum.{sumOf, SumAsked, NamesBelow, PlacesInside};
-ghost use Rattle.table.specs.LineValues.{ValuesAsked, WorkTold};
-ghost use Rattle.table.specs.LineRows.{RowsAsked, RowsTold};
+ghost use Rattle.groups.specs.Rows.{rowsMeaning, firstRefusal};
+ghost use Rattle.table.specs.Sum.{sumOf, SumGiven, NamesBelow, PlacesInside};
+ghost use Rattle.table.specs.LineValues.{ValuesGiven, WorkYield};
+ghost use Rattle.table.specs.LineRows.{RowsGiven, RowsYield};
 
 // ---- working
 
 // The first count numbers are the line's, and the first n values, for some n, are those before it.
 fn sum_works(numbers: &[i64], count: usize, values: &[i64]) -> i64
-    requires { ⌜ ((n : ℕ) × SumAsked (now numbers) count (now values) n) ⌝ }
-    ensures { λ r. ⌜ ((n : ℕ) → SumAsked (now (numbers .entry)) count (now (values .entry)) n
+    requires { ⌜ ((n : ℕ) × SumGiven (now numbers) count (now values) n) ⌝ }
+    ensures { λ r. ⌜ ((n : ℕ) → SumGiven (now (numbers .entry)) count (now (values .entry)) n
         → r ≡ sumOf (take count (now (numbers .entry))) (take n (now (values .entry)))) ⌝ }
 {
     let mut total = numbers[0];
@@ -45,8 +45,8 @@ fn sum_works(numbers: &[i64], count: usize, values: &[i64]) -> i64
 }
 
 pub fn sum_line_works(numbers: &[i64], count: usize, values: &[i64]) -> Worked
-    requires { ⌜ ValuesAsked sum (now numbers) count (now values) ⌝ }
-    ensures { λ r. ⌜ ((next : ℤ) → WorkTold sum (now (numbers .entry)) count (now (values .entry)) next r) ⌝ }
+    requires { ⌜ ValuesGiven sum (now numbers) count (now values) ⌝ }
+    ensures { λ r. ⌜ ((next : ℤ) → WorkYield sum (now (numbers .entry)) count (now (values .entry)) next r) ⌝ }
 {
     Worked::Value(sum_works(numbers, count, values))
 }
@@ -58,7 +58,7 @@ fn sum_rows(table: &[u32], p: u32, at: Cell, numbers: &[i64], count: usize, plac
     requires { ⌜ (0 < p) × Below p (now table) × (at .0 < length (now table)) × (count % 2 ≡ 1) × (count ≤ length (now numbers))
         × PlacesInside (now numbers) count (now places) (length (now table)) ⌝ }
     ensures { λ r. ⌜ ((s : Known) (n : ℕ) → s .p ≡ p → s .cells ≡ at .0 → s .places ≡ take n (now (places .entry))
-        → NamesBelow n (now (numbers .entry)) count → rowsSeen r ≡ firstRefusal (holds p (now (table .entry))) 0
+        → NamesBelow n (now (numbers .entry)) count → rowsMeaning r ≡ firstRefusal (holds p (now (table .entry))) 0
         (sumLine s (numberAt (take count (now (numbers .entry))) 0) (termsOf (withoutFirst (take count (now (numbers .entry))))) .rows)) ⌝ }
 {
     let mut total = remainder_of(Whole(numbers[0]), p).0;
@@ -82,8 +82,8 @@ pub fn sum_line_rows(
     at: Cell,
     places: &[u16],
 ) -> Rows
-    requires { ⌜ RowsAsked p sum (now numbers) count (now table) (at .0) (now places) ⌝ }
-    ensures { λ r. ⌜ RowsTold p sum (now (numbers .entry)) count (now (table .entry)) (at .0) (now (places .entry)) r ⌝ }
+    requires { ⌜ RowsGiven p sum (now numbers) count (now table) (at .0) (now places) ⌝ }
+    ensures { λ r. ⌜ RowsYield p sum (now (numbers .entry)) count (now (table .entry)) (at .0) (now (places .entry)) r ⌝ }
 {
     sum_rows(table, p, at, numbers, count, places)
 }

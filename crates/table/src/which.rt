@@ -28,10 +28,10 @@ ghost use Rattle.meaning.specs.Refusal.{value, refusedBy};
 ghost use Rattle.meaning.specs.Gadget.Sign.{signStatement};
 ghost use Rattle.meaning.specs.Gadget.Which.{whichValue, whichLine};
 ghost use Rattle.number.specs.Bounded.{Bounded};
-ghost use Rattle.groups.specs.Cells.{workedSeen, GroupOf, powerBound, valueBound};
-ghost use Rattle.groups.specs.Rows.{rowsSeen, firstRefusal};
-ghost use Rattle.table.specs.LineValues.{ValuesAsked, WorkTold, CellsAsked, CellsTold};
-ghost use Rattle.table.specs.LineRows.{RowsAsked, RowsTold};
+ghost use Rattle.groups.specs.Cells.{workedMeaning, GroupOf, powerBound, valueBound};
+ghost use Rattle.groups.specs.Rows.{rowsMeaning, firstRefusal};
+ghost use Rattle.table.specs.LineValues.{ValuesGiven, WorkYield, CellsGiven, CellsYield};
+ghost use Rattle.table.specs.LineRows.{RowsGiven, RowsYield};
 
 // ---- working
 
@@ -43,7 +43,7 @@ fn which_value(u: i64, v: i64) -> i64
 
 fn which_works(u: i64, v: i64, b: u32, c: u64) -> Worked
     requires { ⌜ (0 < b) × (c ≤ powerBound) × Bounded valueBound u × Bounded valueBound v ⌝ }
-    ensures { λ r. ⌜ ((k : ℕ) → 1 ≤ k → c ≡ b ^ k → workedSeen r ≡ cond (signStatement b k (u -ℤ v)) (value (whichValue u v ∷ [])) (refusedBy 18)) ⌝ }
+    ensures { λ r. ⌜ ((k : ℕ) → 1 ≤ k → c ≡ b ^ k → workedMeaning r ≡ cond (signStatement b k (u -ℤ v)) (value (whichValue u v ∷ [])) (refusedBy 18)) ⌝ }
 {
     if sign_works(u - v, b, c) {
         Worked::Value(which_value(u, v))
@@ -53,8 +53,8 @@ fn which_works(u: i64, v: i64, b: u32, c: u64) -> Worked
 }
 
 pub fn which_line_works(numbers: &[i64], values: &[i64]) -> Worked
-    requires { ⌜ ValuesAsked which (now numbers) 4 (now values) ⌝ }
-    ensures { λ r. ⌜ ((next : ℤ) → WorkTold which (now (numbers .entry)) 4 (now (values .entry)) next r) ⌝ }
+    requires { ⌜ ValuesGiven which (now numbers) 4 (now values) ⌝ }
+    ensures { λ r. ⌜ ((next : ℤ) → WorkYield which (now (numbers .entry)) 4 (now (values .entry)) next r) ⌝ }
 {
     let read = two_values(numbers, values);
     let c = power_of(read.base, read.count);
@@ -64,9 +64,9 @@ pub fn which_line_works(numbers: &[i64], values: &[i64]) -> Worked
 // ---- cells
 
 pub fn which_line_cells(numbers: &[i64], p: u32, values: &[i64], part: &mut [u32])
-    requires { ⌜ ((known : ℕ) × CellsAsked p which (now numbers) 4 (now values) known (now part)) ⌝ }
+    requires { ⌜ ((known : ℕ) × CellsGiven p which (now numbers) 4 (now values) known (now part)) ⌝ }
     ensures { λ _. ⌜ ((known : ℕ)
-        → CellsTold p which (now (numbers .entry)) 4 (now (values .entry)) known (now (part .entry)) (now (part .exit))) ⌝ }
+        → CellsYield p which (now (numbers .entry)) 4 (now (values .entry)) known (now (part .entry)) (now (part .exit))) ⌝ }
 {
     let read = two_values(numbers, values);
     let c = power_of(read.base, read.count);
@@ -89,7 +89,7 @@ fn which_rows(
     requires { ⌜ (1 < p) × Below p (now table) × («place_u» .0 < length (now table)) × («place_v» .0 < length (now table))
         × (at .0 + k + 3 ≤ length (now table)) × GroupOf b k (b ^ k) × (b ^ k ≤ p) ⌝ }
     ensures { λ r. ⌜ ((s : Known) (u v : ℕ) → s .p ≡ p → placeOf s u ≡ «place_u» .0 → placeOf s v ≡ «place_v» .0 → s .cells ≡ at .0
-        → rowsSeen r ≡ firstRefusal (holds p (now (table .entry))) 0 (whichLine s u v b k .rows)) ⌝ }
+        → rowsMeaning r ≡ firstRefusal (holds p (now (table .entry))) 0 (whichLine s u v b k .rows)) ⌝ }
 {
     let apart = difference(residue_at(table, place_u), residue_at(table, place_v), p);
     let number = sum(apart, top_part(b, k), p);
@@ -100,8 +100,8 @@ fn which_rows(
 }
 
 pub fn which_line_rows(numbers: &[i64], table: &[u32], p: u32, at: Cell, places: &[u16]) -> Rows
-    requires { ⌜ RowsAsked p which (now numbers) 4 (now table) (at .0) (now places) ⌝ }
-    ensures { λ r. ⌜ RowsTold p which (now (numbers .entry)) 4 (now (table .entry)) (at .0) (now (places .entry)) r ⌝ }
+    requires { ⌜ RowsGiven p which (now numbers) 4 (now table) (at .0) (now places) ⌝ }
+    ensures { λ r. ⌜ RowsYield p which (now (numbers .entry)) 4 (now (table .entry)) (at .0) (now (places .entry)) r ⌝ }
 {
     let read = two_places(numbers, places);
     which_rows(table, p, read.first, read.second, at, read.base, read.count)

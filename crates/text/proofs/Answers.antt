@@ -18,7 +18,7 @@ use Rattle.text.specs.declared.Word.{Word}
 use Rattle.text.specs.declared.Parsed.{Parsed}
 use Rattle.text.specs.declared.Parsed.the-variants.{Line, NoLine}
 use Rattle.text.specs.Word.{wordOf}
-use Rattle.text.specs.Parsed.{parsedSeen, countSeen, LineRead, NextAfter}
+use Rattle.text.specs.Parsed.{parsedMeaning, countMeaning, LineRead, NextAfter}
 use Rattle.text.specs.Place.{endOf}
 use Rattle.text.proofs.Numbers.{number-small}
 
@@ -66,24 +66,24 @@ good-line line {l} q = good-fields (fieldsOf line) l q
 -- ---- what an answer says
 
 module _ {line : List ℕ} {before after : List ℤ} {r : Parsed} (read : LineRead line before after r) where
-  pub no-line-seen : r ≡ NoLine → lineOf line ≡ none
-  unfolding parsedSeen
-  no-line-seen q = refused-none 3 _ (sym (read .seen) ∙ rw q)
+  pub no-line-meaning : r ≡ NoLine → lineOf line ≡ none
+  unfolding parsedMeaning
+  no-line-meaning q = refused-none 3 _ (sym (read .meaning) ∙ rw q)
 
   module _ {w : Word} {n next : ℕ} (q : r ≡ Line w n next) where
-    pub line-seen : lineOf line ≡ some (record { word = wordOf w; numbers = take n after })
-    unfolding parsedSeen
-    line-seen = value-some 3 _ (sym (read .seen) ∙ rw q)
+    pub line-meaning : lineOf line ≡ some (record { word = wordOf w; numbers = take n after })
+    unfolding parsedMeaning
+    line-meaning = value-some 3 _ (sym (read .meaning) ∙ rw q)
 
     pub line-most : n ≤ mostNumbers
-    unfolding countSeen
+    unfolding countMeaning
     line-most = rw q at (read .most)
 
     pub line-counted : kindOf (wordOf w) .isCounted (take n after) ≡ true
-    line-counted = good-line line line-seen .counted
+    line-counted = good-line line line-meaning .counted
 
     pub line-small : (i : ℕ) → i < n → natAbs (getD after i (pos 0)) ≤ largest
-    line-small i h = rw (getD-take n after i (pos 0) h) at (good-line line line-seen .small i)
+    line-small i h = rw (getD-take n after i (pos 0) h) at (good-line line line-meaning .small i)
 
 pub line-next : (text : List ℕ) (at : ℕ) {r : Parsed} → NextAfter text at r → {w : Word} {n next : ℕ} → r ≡ Line w n next → next ≡ endOf text at + 1
 unfolding NextAfter

@@ -27,10 +27,10 @@ use Rattle.text.specs.declared.Fields.{Fields}
 use Rattle.text.specs.declared.Fields.the-variants.{Worded, Alone, NoFields}
 use Rattle.text.specs.declared.Parsed.the-variants.{Line, NoLine}
 use Rattle.text.specs.declared.Number.the-variants.{Of, NoNumber}
-use Rattle.text.specs.Number.{NumberSpelled, WholeRead}
-use Rattle.text.specs.Word.{wordOf, WordRead}
+use Rattle.text.specs.Number.{NumberSpelled, WholeYield}
+use Rattle.text.specs.Word.{wordOf, WordYield}
 use Rattle.text.specs.Place.{indexOf, Found, endOf, upTo, lineAt, fieldAt, fieldsFrom}
-use Rattle.text.specs.Parsed.{parsedSeen, countSeen, NumbersTold, wordedBy, WordedAs, aloneAmong, FieldsTold, LineRead, NextAfter, Stored, leadingNumbers, leading}
+use Rattle.text.specs.Parsed.{parsedMeaning, countMeaning, NumbersYield, wordedBy, WordedAs, aloneAmong, FieldsYield, LineRead, NextAfter, Stored, leadingNumbers, leading}
 use Rattle.text.proofs.Places.{partsAfter, parts-none, parts-more, fields-from, fields-found}
 use Rattle.text.proofs.Numbers.{number-small, small-fits}
 use Rattle.text.proofs.Ends.{InLine, cut-length, before-end, place-next, place-later, same-line, ends-line, line-cut}
@@ -58,13 +58,13 @@ module _ {text : List ℕ} {at : ℕ} (l : InLine text at (endOf text at)) where
 
   -- ---- a word
 
-  module _ {r : Spelled} (read : WordRead line at r) {w : Word} {end : ℕ} (q : r ≡ Known w end) where
+  module _ {r : Spelled} (read : WordYield line at r) {w : Word} {end : ℕ} (q : r ≡ Known w end) where
     is-word : wordAmong words (fieldAt line at) ≡ some (wordOf w)
-    unfolding WordRead
+    unfolding WordYield
     is-word = (rw q at read) .0
 
     ends : Found 9 line at end
-    unfolding WordRead
+    unfolding WordYield
     ends = (rw q at read) .1
 
     pub word-place : InLine text end (endOf text at)
@@ -75,19 +75,19 @@ module _ {text : List ℕ} {at : ℕ} (l : InLine text at (endOf text at)) where
     fields = rw (line-cut text at) (fields-found line ends)
 
     -- what is told of the word with so many numbers, by whether as many belong to it
-    told-by : (right : Bool) (after : List ℤ) (count : ℕ) {place : ℕ} → kindOf (wordOf w) .isCounted (take count after) ≡ right
+    yield-by : (right : Bool) (after : List ℤ) (count : ℕ) {place : ℕ} → kindOf (wordOf w) .isCounted (take count after) ≡ right
         → lineOf (lineAt text at) ≡ assemble (some (wordOf w)) (some (take count after)) → count ≤ mostNumbers
-        → place ≡ endOf text at + 1 → (f : Fields) → f ≡ wordedBy right w count place → FieldsTold text at after f
-    unfolding wordedBy FieldsTold assemble aloneAmong
-    told-by true after count t is most last f e =
+        → place ≡ endOf text at + 1 → (f : Fields) → f ≡ wordedBy right w count place → FieldsYield text at after f
+    unfolding wordedBy FieldsYield assemble aloneAmong
+    yield-by true after count t is most last f e =
         rw e (is ∙ rw t, word-no-number (lineAt text at) fields is-word, most, last)
-    told-by false after count t is most last f e =
+    yield-by false after count t is most last f e =
         rw e (is ∙ rw t, word-no-number (lineAt text at) fields is-word, last)
 
-    told-at : (after : List ℤ) (count : ℕ) {place : ℕ} → lineOf (lineAt text at) ≡ assemble (some (wordOf w)) (some (take count after)) → count ≤ mostNumbers
-        → length after ≡ mostNumbers → place ≡ endOf text at + 1 → (f : Fields) → WordedAs w count place f → FieldsTold text at after f
-    told-at after count is most long last f worded =
-        told-by (kindOf (wordOf w) .isCounted (take count after)) after count refl is most last f (worded (take count after) (length-take-le count after (omega arith)))
+    yield-at : (after : List ℤ) (count : ℕ) {place : ℕ} → lineOf (lineAt text at) ≡ assemble (some (wordOf w)) (some (take count after)) → count ≤ mostNumbers
+        → length after ≡ mostNumbers → place ≡ endOf text at + 1 → (f : Fields) → WordedAs w count place f → FieldsYield text at after f
+    yield-at after count is most long last f worded =
+        yield-by (kindOf (wordOf w) .isCounted (take count after)) after count refl is most last f (worded (take count after) (length-take-le count after (omega arith)))
 
     module _ (no-tab : getD text end 0 ≡ 9 → ⊥) where
       last : endOf text at ≤ end
@@ -96,9 +96,9 @@ module _ {text : List ℕ} {at : ℕ} (l : InLine text at (endOf text at)) where
       nothing : partsAfter 9 line end ≡ []
       nothing = parts-none 9 line end (omega (arith, cut-length l, last))
 
-      pub word-alone : (numbers : List ℤ) → length numbers ≡ mostNumbers → (r : Fields) → WordedAs w 0 (end + 1) r → FieldsTold text at numbers r
+      pub word-alone : (numbers : List ℤ) → length numbers ≡ mostNumbers → (r : Fields) → WordedAs w 0 (end + 1) r → FieldsYield text at numbers r
       unfolding numbersOf
-      word-alone numbers long = told-at numbers 0 (line-word (lineAt text at) fields is-word ∙ rw nothing) (omega arith) long (omega (arith, last, word-place .found .low))
+      word-alone numbers long = yield-at numbers 0 (line-word (lineAt text at) fields is-word ∙ rw nothing) (omega arith) long (omega (arith, last, word-place .found .low))
 
       pub word-alone-stored : (numbers : List ℤ) → Stored (leading (lineAt text at)) numbers numbers
       unfolding leadingNumbers
@@ -117,25 +117,25 @@ module _ {text : List ℕ} {at : ℕ} (l : InLine text at (endOf text at)) where
           → Stored (leading (lineAt text at)) before after
       word-stored s = rw (leading-word (lineAt text at) fields is-word, after-tab) s
 
-      module _ (after : List ℤ) {c : NumberFields} (told : NumbersTold (upTo text (end + 1)) (end + 1) after c) where
+      module _ (after : List ℤ) {c : NumberFields} (yields : NumbersYield (upTo text (end + 1)) (end + 1) after c) where
         pub word-numbers : length after ≡ mostNumbers → {count place : ℕ} → c ≡ Numbers count place → (f : Fields)
-            → WordedAs w count (place + 1) f → FieldsTold text at after f
-        unfolding NumbersTold
+            → WordedAs w count (place + 1) f → FieldsYield text at after f
+        unfolding NumbersYield
         word-numbers long {count} {place} is =
-            let t = rw is at told in
-            told-at after count (line-word (lineAt text at) fields is-word ∙ rw (after-tab, t .0)) (t .1) long (ap (λ (n : ℕ). n + 1) (t .2 ∙ rw (same-line next) (cut-length next)))
+            let t = rw is at yields in
+            yield-at after count (line-word (lineAt text at) fields is-word ∙ rw (after-tab, t .0)) (t .1) long (ap (λ (n : ℕ). n + 1) (t .2 ∙ rw (same-line next) (cut-length next)))
 
-        pub word-no-numbers : c ≡ NoNumbers → FieldsTold text at after NoFields
-        unfolding FieldsTold NumbersTold
+        pub word-no-numbers : c ≡ NoNumbers → FieldsYield text at after NoFields
+        unfolding FieldsYield NumbersYield
         word-no-numbers is =
-            let t = rw is at told in
+            let t = rw is at yields in
             (line-word (lineAt text at) fields is-word ∙ rw after-tab (t (wordOf w)), word-no-number (lineAt text at) fields is-word)
 
   -- ---- no word
 
-  module _ {r : Spelled} (read : WordRead line at r) (q : r ≡ NoWord) where
+  module _ {r : Spelled} (read : WordYield line at r) (q : r ≡ NoWord) where
     no-word : wordAmong words (fieldAt line at) ≡ none
-    unfolding WordRead
+    unfolding WordYield
     no-word = refused-none 3 _ (rw q at read)
 
     all : fieldsOf (lineAt text at) ≡ fieldsFrom line at
@@ -151,49 +151,49 @@ module _ {text : List ℕ} {at : ℕ} (l : InLine text at (endOf text at)) where
     pub bare-stored : {before after : List ℤ} → Stored (leadingNumbers (fieldsFrom line at)) before after → Stored (leading (lineAt text at)) before after
     bare-stored s = rw (leading-no-word (lineAt text at) (first .1) no-word, all) s
 
-    module _ (after : List ℤ) {c : NumberFields} (told : NumbersTold line at after c) where
-      pub bare-numbers : length after ≡ mostNumbers → {count place : ℕ} → c ≡ Numbers count place → FieldsTold text at after (Alone count (place + 1))
-      unfolding FieldsTold NumbersTold
+    module _ (after : List ℤ) {c : NumberFields} (yields : NumbersYield line at after c) where
+      pub bare-numbers : length after ≡ mostNumbers → {count place : ℕ} → c ≡ Numbers count place → FieldsYield text at after (Alone count (place + 1))
+      unfolding FieldsYield NumbersYield
       bare-numbers long {count} is =
-          let t = rw is at told in
+          let t = rw is at yields in
           (no-line, number-alone (lineAt text at) ∙ rw (all, t .0) (alone-among count after (omega (arith, t .1))), ap (λ (n : ℕ). n + 1) (t .2 ∙ cut-length l))
 
-      pub bare-no-numbers : c ≡ NoNumbers → FieldsTold text at after NoFields
-      unfolding FieldsTold NumbersTold
+      pub bare-no-numbers : c ≡ NoNumbers → FieldsYield text at after NoFields
+      unfolding FieldsYield NumbersYield
       bare-no-numbers is =
-          let t = rw is at told in
+          let t = rw is at yields in
           (no-line, number-alone (lineAt text at) ∙ rw all (none-alone (numbersOf (fieldsFrom line at)) (t sum)))
 
 -- ---- the answers of `line_of` and `number_of`
 
 module _ (text : List ℕ) (at : ℕ) {before after : List ℤ} (left : Stored (leading (lineAt text at)) before after) where
   pub reads-no-line : lineOf (lineAt text at) ≡ none → LineRead (lineAt text at) before after NoLine × NextAfter text at NoLine
-  unfolding parsedSeen countSeen NextAfter
-  reads-no-line q = (record { seen = sym (none-refused 3 q); most = omega arith; left = left }, tt)
+  unfolding parsedMeaning countMeaning NextAfter
+  reads-no-line q = (record { meaning = sym (none-refused 3 q); most = omega arith; left = left }, tt)
 
-  pub reads-line : (w : Word) (count next : ℕ) → FieldsTold text at after (Worded w count next)
+  pub reads-line : (w : Word) (count next : ℕ) → FieldsYield text at after (Worded w count next)
       → LineRead (lineAt text at) before after (Line w count next) × NextAfter text at (Line w count next)
-  unfolding parsedSeen countSeen NextAfter FieldsTold
-  reads-line w count next told = (record { seen = sym (some-value 3 (told .0)); most = told .2; left = left }, told .3)
+  unfolding parsedMeaning countMeaning NextAfter FieldsYield
+  reads-line w count next yields = (record { meaning = sym (some-value 3 (yields .0)); most = yields .2; left = left }, yields .3)
 
 module _ (text : List ℕ) (at : ℕ) where
-  pub reads-no-number : number (lineAt text at) ≡ none → WholeRead text at NoNumber
+  pub reads-no-number : number (lineAt text at) ≡ none → WholeYield text at NoNumber
   unfolding NumberSpelled
   reads-no-number q = none-refused 3 q
 
-  module _ (after : List ℤ) (count next : ℕ) (told : FieldsTold text at after (Alone count next)) where
+  module _ (after : List ℤ) (count next : ℕ) (yields : FieldsYield text at after (Alone count next)) where
     pub alone-next : 1 ≤ next
-    unfolding FieldsTold
-    alone-next = omega (arith, told .2)
+    unfolding FieldsYield
+    alone-next = omega (arith, yields .2)
 
-    pub reads-many : (count ≡ 1 → ⊥) → WholeRead text at NoNumber
-    unfolding FieldsTold aloneAmong
-    reads-many q = reads-no-number (told .1 ∙ rw (ne-eqb count 1 q))
+    pub reads-many : (count ≡ 1 → ⊥) → WholeYield text at NoNumber
+    unfolding FieldsYield aloneAmong
+    reads-many q = reads-no-number (yields .1 ∙ rw (ne-eqb count 1 q))
 
     -- the number is stored as it is: it fits a machine word
-    pub reads-one : count ≡ 1 → InLine text at (endOf text at) → WholeRead text at (Of (toZ w64 (ofZ w64 (getD after 0 (pos 0)))) (next - 1))
-    unfolding FieldsTold NumberSpelled aloneAmong
+    pub reads-one : count ≡ 1 → InLine text at (endOf text at) → WholeYield text at (Of (toZ w64 (ofZ w64 (getD after 0 (pos 0)))) (next - 1))
+    unfolding FieldsYield NumberSpelled aloneAmong
     reads-one q l =
-        let is : number (lineAt text at) ≡ some (getD after 0 (pos 0)) = told .1 ∙ rw q in
-        let end : next - 1 ≡ endOf text at = omega (arith, told .2) in
+        let is : number (lineAt text at) ≡ some (getD after 0 (pos 0)) = yields .1 ∙ rw q in
+        let end : next - 1 ≡ endOf text at = omega (arith, yields .2) in
         rw (toZ-ofZ w64 (getD after 0 (pos 0)) (small-fits (getD after 0 (pos 0)) (number-small (lineAt text at) is))) (is, rw end (l .found))

@@ -61,14 +61,14 @@ after-full w ns (some n) (some ms) h = rw (count-over w (ns ++ n ∷ ms) (omega 
 
 -- of all fields those that are left are still to read: the numbers of the others stand, and what comes after them is as it was before
 pub record ReadingNumbers (all left : List (List ℕ)) (before numbers : List ℤ) (count : ℕ) : Type 0 where
-  pub told : numbersOf all ≡ afterNumbers (take count numbers) (numbersOf left)
+  pub yields : numbersOf all ≡ afterNumbers (take count numbers) (numbersOf left)
   pub stands : take mostNumbers (leadingNumbers all) ≡ take count numbers ++ take (mostNumbers - count) (leadingNumbers left)
   pub rest : drop count numbers ≡ drop count before
   pub long : length numbers ≡ mostNumbers
   pub kept : length numbers ≡ length before
 
 pub reading-start : (all : List (List ℕ)) (numbers : List ℤ) → length numbers ≡ mostNumbers → ReadingNumbers all all numbers numbers 0
-reading-start all numbers long = record { told = before-all (numbersOf all); stands = refl; rest = refl; long = long; kept = refl }
+reading-start all numbers long = record { yields = before-all (numbersOf all); stands = refl; rest = refl; long = long; kept = refl }
 
 module _ {all left : List (List ℕ)} {before numbers : List ℤ} {count : ℕ} (r : ReadingNumbers all left before numbers count) (most : count ≤ mostNumbers) where
   -- where none of the leading numbers is to come
@@ -81,18 +81,18 @@ module _ {all left : List (List ℕ)} {before numbers : List ℤ} {count : ℕ} 
 
   pub reading-end : left ≡ [] → (numbersOf all ≡ some (take count numbers)) × Stored (leadingNumbers all) before numbers
   unfolding numbersOf afterNumbers leadingNumbers
-  reading-end q = (r .told ∙ rw q (ap some (append-nil (take count numbers))), stored (rw q (take-nil (mostNumbers - count))))
+  reading-end q = (r .yields ∙ rw q (ap some (append-nil (take count numbers))), stored (rw q (take-nil (mostNumbers - count))))
 
   module _ {f : List ℕ} {fs : List (List ℕ)} (q : left ≡ f ∷ fs) where
     pub reading-none : number f ≡ none → ((w : MeantWord) → assemble (some w) (numbersOf all) ≡ none) × Stored (leadingNumbers all) before numbers
     unfolding numbersOf consNumber afterNumbers assemble leadingNumbers ifSome
-    reading-none no-number = (λ w. rw (r .told, q, no-number), stored (rw (q, no-number) (take-nil (mostNumbers - count))))
+    reading-none no-number = (λ w. rw (r .yields, q, no-number), stored (rw (q, no-number) (take-nil (mostNumbers - count))))
 
     pub reading-full : mostNumbers ≤ count → ((w : MeantWord) → assemble (some w) (numbersOf all) ≡ none) × Stored (leadingNumbers all) before numbers
     unfolding numbersOf
     reading-full full =
         let places : mostNumbers - count ≡ 0 = omega arith in (
-          λ w. rw (r .told, q) (after-full w (take count numbers) (number f) (numbersOf fs) (omega (arith, length-take-le count numbers (omega (arith, r .long))))),
+          λ w. rw (r .yields, q) (after-full w (take count numbers) (number f) (numbersOf fs) (omega (arith, length-take-le count numbers (omega (arith, r .long))))),
           stored (rw places),
         )
 
@@ -104,7 +104,7 @@ module _ {all left : List (List ℕ)} {before numbers : List ℤ} {count : ℕ} 
         let later = take (mostNumbers - (count + 1)) (leadingNumbers fs) in
         let one : take (mostNumbers - count) (leadingNumbers left) ≡ n ∷ later = rw (q, is, places) in
         record {
-          told = r .told ∙ rw (q, is, more) (after-next (take count numbers) n (numbersOf fs));
+          yields = r .yields ∙ rw (q, is, more) (after-next (take count numbers) n (numbersOf fs));
           stands = r .stands ∙ rw (one, more) (sym (append-assoc (take count numbers) (n ∷ []) later));
           rest =
               drop-set-lt (count + 1) numbers count n (omega arith) ∙ sym (drop-drop 1 count numbers) ∙ ap (drop 1) (r .rest)

@@ -20,7 +20,7 @@ use Rattle.text.specs.declared.Number.{Number}
 use Rattle.text.specs.declared.Number.the-variants.{Of, NoNumber}
 use Rattle.text.specs.declared.Size.{Size}
 use Rattle.text.specs.declared.Size.the-variants.{Plain, NoSize}
-use Rattle.text.specs.Number.{plainSize, SizeRead, NumberSpelled, NumberRead}
+use Rattle.text.specs.Number.{plainSize, SizeRead, NumberSpelled, NumberYield}
 use Rattle.text.specs.Place.{indexOf, Found, fieldAt}
 use Rattle.text.proofs.Places.{index-past, index-end, found-next, field-empty, field-byte, field-more}
 
@@ -190,14 +190,14 @@ module _ (line : List ℕ) (at : ℕ) where
       zero-more : fieldAt line at ≡ 48 ∷ fieldAt line (at + 1)
       zero-more = field-more line at h (λ e. omega arith) ∙ rw zero-byte
 
-      pub zero-number : indexOf 9 (drop (at + 1) line) ≡ 0 → NumberRead line at (Of (pos 0) (at + 1))
+      pub zero-number : indexOf 9 (drop (at + 1) line) ≡ 0 → NumberYield line at (Of (pos 0) (at + 1))
       unfolding NumberSpelled number sameBytes
       zero-number q = (
         rw (zero-more, field-empty line (at + 1) q),
         record { low = omega arith; high = omega arith; is = omega (arith, q, index-past 9 line at h (λ e. omega arith)) },
       )
 
-      pub zero-none : (length (fieldAt line (at + 1)) ≡ 0 → ⊥) → NumberRead line at NoNumber
+      pub zero-none : (length (fieldAt line (at + 1)) ≡ 0 → ⊥) → NumberYield line at NoNumber
       unfolding NumberSpelled
       zero-none more = none-refused 3 (rw zero-more (number-zero-more (fieldAt line (at + 1)) more))
 
@@ -206,11 +206,11 @@ module _ (line : List ℕ) (at : ℕ) where
       minus-sized = rw (field-more line at h (λ e. omega arith), minus) (number-minus-is (fieldAt line (at + 1)))
 
       module _ {r : Size} (read : SizeRead line (at + 1) r) where
-        pub minus-none : r ≡ NoSize → NumberRead line at NoNumber
+        pub minus-none : r ≡ NoSize → NumberYield line at NoNumber
         unfolding NumberSpelled
         minus-none q = none-refused 3 (minus-sized ∙ sized-none line (at + 1) read _ q)
 
-        pub minus-number : {n place : ℕ} → r ≡ Plain n place → NumberRead line at (Of (toZ w64 (ofZ w64 (pos 0 -ℤ toZ w64 n))) place)
+        pub minus-number : {n place : ℕ} → r ≡ Plain n place → NumberYield line at (Of (toZ w64 (ofZ w64 (pos 0 -ℤ toZ w64 n))) place)
         unfolding NumberSpelled
         minus-number {n} q =
             let small = size-small line (at + 1) read q in (
@@ -228,11 +228,11 @@ module _ (line : List ℕ) (at : ℕ) where
     ]
 
     module _ {r : Size} (read : SizeRead line at r) where
-      pub plain-none : r ≡ NoSize → NumberRead line at NoNumber
+      pub plain-none : r ≡ NoSize → NumberYield line at NoNumber
       unfolding NumberSpelled
       plain-none q = none-refused 3 (plain-sized ∙ sized-none line at read _ q)
 
-      pub plain-number : {n place : ℕ} → r ≡ Plain n place → NumberRead line at (Of (toZ w64 (ofZ w64 (pos n))) place)
+      pub plain-number : {n place : ℕ} → r ≡ Plain n place → NumberYield line at (Of (toZ w64 (ofZ w64 (pos n))) place)
       unfolding NumberSpelled
       plain-number {n} q =
           (rw (toZ-ofZ w64 (pos n) (size-fits line at read q)) (plain-sized ∙ sized-is line at read q _), size-ends line at read q)

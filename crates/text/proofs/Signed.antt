@@ -11,7 +11,7 @@ use mir.Val.{toZ, ofZ}
 use Rattle.text.specs.declared.Number.the-variants.{Of, NoNumber}
 use Rattle.text.specs.declared.Size.{Size}
 use Rattle.text.specs.declared.Size.the-variants.{Plain, NoSize}
-use Rattle.text.specs.Number.{SizeRead, NumberRead}
+use Rattle.text.specs.Number.{SizeRead, NumberYield}
 use Rattle.text.specs.Place.{endOf, upTo}
 use Rattle.text.proofs.Places.{field-more}
 use Rattle.text.proofs.Ends.{InLine, cut-length, cut-byte, before-end, place-next, same-line, field-ends}
@@ -31,10 +31,10 @@ module _ {text : List ℕ} {at end : ℕ} (l : InLine text at end) where
     no-end : getD text at 0 ≡ 10 → ⊥
     no-end e = omega arith
 
-    pub reads-zero : (getD text (at + 1) 0 ≡ 9) ⊎ (getD text (at + 1) 0 ≡ 10) → NumberRead (take end text) at (Of (pos 0) (at + 1))
+    pub reads-zero : (getD text (at + 1) 0 ≡ 9) ⊎ (getD text (at + 1) 0 ≡ 10) → NumberYield (take end text) at (Of (pos 0) (at + 1))
     reads-zero stop = zero-number (take end text) at (at-inside no-end) (at-byte no-end ∙ zero-byte) (field-ends (place-next l no-end) stop)
 
-    pub reads-no-zero : (getD text (at + 1) 0 ≡ 9 → ⊥) → (getD text (at + 1) 0 ≡ 10 → ⊥) → NumberRead (take end text) at NoNumber
+    pub reads-no-zero : (getD text (at + 1) 0 ≡ 9 → ⊥) → (getD text (at + 1) 0 ≡ 10 → ⊥) → NumberYield (take end text) at NoNumber
     reads-no-zero no-tab no-stop =
         let next = place-next l no-end in
         let h = before-end next no-stop in
@@ -51,10 +51,10 @@ module _ {text : List ℕ} {at end : ℕ} (l : InLine text at end) where
     same-end = same-line (place-next l no-stop)
 
     module _ {r : Size} (read : SizeRead (upTo text (at + 1)) (at + 1) r) where
-      pub reads-minus-none : r ≡ NoSize → NumberRead (take end text) at NoNumber
+      pub reads-minus-none : r ≡ NoSize → NumberYield (take end text) at NoNumber
       reads-minus-none = minus-none (take end text) at (at-inside no-stop) (at-byte no-stop ∙ minus) (rw same-end at read)
 
-      pub reads-minus : {n place : ℕ} → r ≡ Plain n place → NumberRead (take end text) at (Of (toZ w64 (ofZ w64 (pos 0 -ℤ toZ w64 n))) place)
+      pub reads-minus : {n place : ℕ} → r ≡ Plain n place → NumberYield (take end text) at (Of (toZ w64 (ofZ w64 (pos 0 -ℤ toZ w64 n))) place)
       reads-minus = minus-number (take end text) at (at-inside no-stop) (at-byte no-stop ∙ minus) (rw same-end at read)
 
   -- ---- a size alone
@@ -63,8 +63,8 @@ module _ {text : List ℕ} {at end : ℕ} (l : InLine text at end) where
   other x q h e = q (sym (cut-byte l (omega (arith, cut-length l))) ∙ e)
 
   module _ (no-zero : getD text at 0 ≡ 48 → ⊥) (no-minus : getD text at 0 ≡ 45 → ⊥) {r : Size} (read : SizeRead (take end text) at r) where
-    pub reads-plain-none : r ≡ NoSize → NumberRead (take end text) at NoNumber
+    pub reads-plain-none : r ≡ NoSize → NumberYield (take end text) at NoNumber
     reads-plain-none = plain-none (take end text) at (other 48 no-zero) (other 45 no-minus) read
 
-    pub reads-plain : {n place : ℕ} → r ≡ Plain n place → NumberRead (take end text) at (Of (toZ w64 (ofZ w64 (pos n))) place)
+    pub reads-plain : {n place : ℕ} → r ≡ Plain n place → NumberYield (take end text) at (Of (toZ w64 (ofZ w64 (pos n))) place)
     reads-plain = plain-number (take end text) at (other 48 no-zero) (other 45 no-minus) read

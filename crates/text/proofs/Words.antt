@@ -19,7 +19,7 @@ use Rattle.meaning.proofs.Results.{none-refused}
 use Rattle.text.specs.declared.Word.{Word as Read}
 use Rattle.text.specs.declared.Spelled.{Spelled}
 use Rattle.text.specs.declared.Spelled.the-variants.{Known, NoWord}
-use Rattle.text.specs.Word.{wordOf, WordRead, OnlyWord, Spells}
+use Rattle.text.specs.Word.{wordOf, WordYield, OnlyWord, Spells}
 use Rattle.text.specs.Place.{indexOf, Found, fieldAt}
 use Rattle.text.proofs.Bytes.{drop-more}
 use Rattle.text.proofs.Places.{Searched, search-past, search-stop, field-empty, field-more}
@@ -53,22 +53,22 @@ spelling-comparable w = above-both _ _ (every-word (λ v. isComparable (kindOf v
 
 -- ---- the word that two bytes tell
 
-unfoldable pub toldBy : (first second : ℕ) → Word
-toldBy first second =
+unfoldable pub yieldBy : (first second : ℕ) → Word
+yieldBy first second =
     cond (eqb first 115) (cond (eqb second 117) sum span)
     (cond (eqb first 114) (cond (eqb second 101) relu root)
     (cond (eqb first 102) field (cond (eqb first 105) input (cond (eqb first 119) which max))))
 
-told-spelling : (w : Word) → toldBy (getD (kindOf w .spelling) 0 0) (getD (kindOf w .spelling) 1 0) ≡ w
-unfolding toldBy kindOf bytes
-told-spelling field = refl
-told-spelling input = refl
-told-spelling span = refl
-told-spelling sum = refl
-told-spelling relu = refl
-told-spelling which = refl
-told-spelling max = refl
-told-spelling root = refl
+yield-spelling : (w : Word) → yieldBy (getD (kindOf w .spelling) 0 0) (getD (kindOf w .spelling) 1 0) ≡ w
+unfolding yieldBy kindOf bytes
+yield-spelling field = refl
+yield-spelling input = refl
+yield-spelling span = refl
+yield-spelling sum = refl
+yield-spelling relu = refl
+yield-spelling which = refl
+yield-spelling max = refl
+yield-spelling root = refl
 
 -- a byte of the field at a place is a byte of the text
 field-at : {text : List ℕ} {at end : ℕ} → InLine text at end → (k : ℕ) → k < length (fieldAt (take end text) at)
@@ -81,15 +81,15 @@ field-at {text} {at} {end} l k h =
     getD-take n (drop at line) k 0 (omega (arith, long)) ∙ getD-drop at line k 0
     ∙ getD-take end text (at + k) 0 (omega (arith, long, length-drop at line, cut-length l))
 
-pub told-only : {text : List ℕ} {at end : ℕ} → InLine text at end → (w : Word) → fieldAt (take end text) at ≡ kindOf w .spelling → w ≡ toldBy (getD text at 0) (getD text (at + 1) 0)
-told-only {text} {at} {end} l w q =
+pub yield-only : {text : List ℕ} {at end : ℕ} → InLine text at end → (w : Word) → fieldAt (take end text) at ≡ kindOf w .spelling → w ≡ yieldBy (getD text at 0) (getD text (at + 1) 0)
+yield-only {text} {at} {end} l w q =
     let long : 1 < length (kindOf w .spelling) = ltb-true 1 (length (kindOf w .spelling)) (spelling-comparable w .0) in
     let e : at + 0 ≡ at = omega arith in
     let same = ap length q in
     let first : getD (kindOf w .spelling) 0 0 ≡ getD text at 0 =
     ap (λ (xs : List ℕ). getD xs 0 0) (sym q) ∙ (rw e at (field-at l 0 (omega (arith, same)))) in
     let second : getD (kindOf w .spelling) 1 0 ≡ getD text (at + 1) 0 = ap (λ (xs : List ℕ). getD xs 1 0) (sym q) ∙ field-at l 1 (omega (arith, same)) in
-    sym (told-spelling w) ∙ rw (first, second)
+    sym (yield-spelling w) ∙ rw (first, second)
 
 -- ---- a field beside a spelling
 
@@ -201,8 +201,8 @@ among-spelling max = refl
 among-spelling root = refl
 
 -- the only word that a field may be was compared with it
-pub word-read : (line : List ℕ) (at : ℕ) (w : Read) (r : Spelled) → OnlyWord line at w → Spells line at w r → WordRead line at r
-unfolding WordRead Spells
+pub word-read : (line : List ℕ) (at : ℕ) (w : Read) (r : Spelled) → OnlyWord line at w → Spells line at w r → WordYield line at r
+unfolding WordYield Spells
 word-read line at w (Known found place) only s =
     (rw (s .1, among-spelling (wordOf w), s .0), s .2)
 word-read line at w NoWord only s =

@@ -19,12 +19,12 @@ NumberSpelled bytes Ends (Of z place) = (number bytes ≡ some z) × Ends place
 NumberSpelled bytes Ends NoNumber = orRefused 3 (number bytes) ≡ refusedBy 3
 
 -- of the field at a place
-abbrev pub NumberRead : List ℕ → ℕ → Number → Type 0
-NumberRead line at r = NumberSpelled (fieldAt line at) (Found 9 line at) r
+abbrev pub NumberYield : List ℕ → ℕ → Number → Type 0
+NumberYield line at r = NumberSpelled (fieldAt line at) (Found 9 line at) r
 
 -- of the line at a place
-abbrev pub WholeRead : List ℕ → ℕ → Number → Type 0
-WholeRead text at r = NumberSpelled (lineAt text at) (Found 10 text at) r
+abbrev pub WholeYield : List ℕ → ℕ → Number → Type 0
+WholeYield text at r = NumberSpelled (lineAt text at) (Found 10 text at) r
 
 -- the size of the number above 0 that these bytes spell: what the definition of a number asks of the bytes after its sign
 unfoldable pub plainSize : List ℕ → Option ℕ

@@ -24,14 +24,14 @@ use Rattle.text.specs.declared.Fields.the-variants.{Worded, Alone, NoFie
 use Rattle.text.specs.declared.Parsed.{Parsed}
 use Rattle.text.specs.declared.Parsed.the-variants.{Line, NoLine}
 
-unfoldable pub parsedSeen : Parsed → List ℤ → Result Meant
-parsedSeen (Line w n next) ns = value (record { word = wordOf w; numbers = take n ns })
-parsedSeen NoLine ns = refusedBy 3
+unfoldable pub parsedMeaning : Parsed → List ℤ → Result Meant
+parsedMeaning (Line w n next) ns = value (record { word = wordOf w; numbers = take n ns })
+parsedMeaning NoLine ns = refusedBy 3
 
 -- how many numbers were written, by the answer
-unfoldable pub countSeen : Parsed → ℕ
-countSeen (Line w n next) = n
-countSeen NoLine = 0
+unfoldable pub countMeaning : Parsed → ℕ
+countMeaning (Line w n next) = n
+countMeaning NoLine = 0
 
 -- the place in the answer is where the line after the one at `at` starts
 unfoldable pub NextAfter : List ℕ → ℕ → Parsed → Type 0
@@ -66,13 +66,13 @@ pub record Stored (ns before after : List ℤ) : Type 0 where
 -- ---- what is told of fields
 
 -- the numbers of the fields from `from` on, and where the line ends; or no word has such numbers
-unfoldable pub NumbersTold : List ℕ → ℕ → List ℤ → NumberFields → Type 0
-NumbersTold line from after (Numbers count end) = (numbersOf (fieldsFrom line from) ≡ some (take count after)) × (count ≤ mostNumbers) × (end ≡ length line)
-NumbersTold line from after NoNumbers = (w : MeantWord) → assemble (some w) (numbersOf (fieldsFrom line from)) ≡ none
+unfoldable pub NumbersYield : List ℕ → ℕ → List ℤ → NumberFields → Type 0
+NumbersYield line from after (Numbers count end) = (numbersOf (fieldsFrom line from) ≡ some (take count after)) × (count ≤ mostNumbers) × (end ≡ length line)
+NumbersYield line from after NoNumbers = (w : MeantWord) → assemble (some w) (numbersOf (fieldsFrom line from)) ≡ none
 
 -- the answer says of any numbers, so many, whether as many belong to the word
-abbrev pub CountTold : Word → (count : ℕ) → Bool → Type 0
-CountTold w count r = (ns : List ℤ) → length ns ≡ count → r ≡ kindOf (wordOf w) .isCounted ns
+abbrev pub CountYield : Word → (count : ℕ) → Bool → Type 0
+CountYield w count r = (ns : List ℤ) → length ns ≡ count → r ≡ kindOf (wordOf w) .isCounted ns
 
 -- the answer for a word with so many numbers, by whether as many belong to it
 unfoldable pub wordedBy : Bool → Word → ℕ → ℕ → Fields
@@ -88,14 +88,14 @@ aloneAmong count ns = cond (eqb count 1) (some (getD ns 0 (pos 0))) none
 
 -- the word and the numbers of the line at `at`, or the number that it is where one stands alone, and where the next line starts; or it is no
 -- line and no number
-unfoldable pub FieldsTold : List ℕ → ℕ → List ℤ → Fields → Type 0
-FieldsTold text at after (Worded w count next) = (lineOf (lineAt text at) ≡ some (record { word = wordOf w; numbers = take count after }))
+unfoldable pub FieldsYield : List ℕ → ℕ → List ℤ → Fields → Type 0
+FieldsYield text at after (Worded w count next) = (lineOf (lineAt text at) ≡ some (record { word = wordOf w; numbers = take count after }))
     × (number (lineAt text at) ≡ none) × (count ≤ mostNumbers) × (next ≡ endOf text at + 1)
-FieldsTold text at after (Alone count next) = (lineOf (lineAt text at) ≡ none) × (number (lineAt text at) ≡ aloneAmong count after) × (next ≡ endOf text at + 1)
-FieldsTold text at after NoFields = (lineOf (lineAt text at) ≡ none) × (number (lineAt text at) ≡ none)
+FieldsYield text at after (Alone count next) = (lineOf (lineAt text at) ≡ none) × (number (lineAt text at) ≡ aloneAmong count after) × (next ≡ endOf text at + 1)
+FieldsYield text at after NoFields = (lineOf (lineAt text at) ≡ none) × (number (lineAt text at) ≡ none)
 
 -- the answer, with the numbers as they were left, is the line that the bytes spell
 pub record LineRead (line : List ℕ) (before after : List ℤ) (r : Parsed) : Type 0 where
-  pub seen : parsedSeen r after ≡ orRefused 3 (lineOf line)
-  pub most : countSeen r ≤ mostNumbers
+  pub meaning : parsedMeaning r after ≡ orRefused 3 (lineOf line)
+  pub most : countMeaning r ≤ mostNumbers
   pub left : Stored (leading line) before after

@@ -25,9 +25,9 @@ wordOf Max = max
 wordOf Root = root
 
 -- the answer is the word of the field at a place, and the place where that field ends
-unfoldable pub WordRead : List ℕ → ℕ → Spelled → Type 0
-WordRead line at (Known w place) = (wordAmong words (fieldAt line at) ≡ some (wordOf w)) × Found 9 line at place
-WordRead line at NoWord = orRefused 3 (wordAmong words (fieldAt line at)) ≡ refusedBy 3
+unfoldable pub WordYield : List ℕ → ℕ → Spelled → Type 0
+WordYield line at (Known w place) = (wordAmong words (fieldAt line at) ≡ some (wordOf w)) × Found 9 line at place
+WordYield line at NoWord = orRefused 3 (wordAmong words (fieldAt line at)) ≡ refusedBy 3
 
 -- the field at a place is this word or none
 abbrev pub OnlyWord : List ℕ → ℕ → Word → Type 0

@@ -10,10 +10,10 @@ ghost use lib.ListN.{length};
 ghost use Rattle.meaning.specs.Machine.{pastU64};
 ghost use Rattle.meaning.specs.Text.{sameBytes, isEnded, isDigit};
 ghost use Rattle.meaning.specs.Word.{kindOf, mostNumbers};
-ghost use Rattle.text.specs.Number.{SizeRead, NumberRead, WholeRead};
-ghost use Rattle.text.specs.Word.{wordOf, WordRead, OnlyWord, Spells};
+ghost use Rattle.text.specs.Number.{SizeRead, NumberYield, WholeYield};
+ghost use Rattle.text.specs.Word.{wordOf, WordYield, OnlyWord, Spells};
 ghost use Rattle.text.specs.Place.{Found, upTo, lineAt, fieldsFrom};
-ghost use Rattle.text.specs.Parsed.{LineRead, NextAfter, NumbersTold, CountTold, WordedAs, FieldsTold, Stored, leadingNumbers, leading};
+ghost use Rattle.text.specs.Parsed.{LineRead, NextAfter, NumbersYield, CountYield, WordedAs, FieldsYield, Stored, leadingNumbers, leading};
 
 // Bytes with a meaning of their own.
 const TAB: u8 = 9;
@@ -121,7 +121,7 @@ fn size_from(text: &[u8], at: usize) -> Size
 // into the loop over the numbers, and each number pays for a call.
 fn number_at(text: &[u8], at: usize) -> Number
     requires { ⌜ (isEnded (now text) ≡ true) × (at < length (now text)) ⌝ }
-    ensures { λ r. ⌜ NumberRead (upTo (now (text .entry)) at) at r ⌝ }
+    ensures { λ r. ⌜ NumberYield (upTo (now (text .entry)) at) at r ⌝ }
 {
     let first = text[at];
     if first == ZERO {
@@ -211,7 +211,7 @@ fn is_word(text: &[u8], at: usize, word: Word, spelled: &[u8]) -> Spelled
 // The word that the field at `at` spells.
 fn word_at(text: &[u8], at: usize) -> Spelled
     requires { ⌜ (isEnded (now text) ≡ true) × (at < length (now text)) ⌝ }
-    ensures { λ r. ⌜ WordRead (upTo (now (text .entry)) at) at r ⌝ }
+    ensures { λ r. ⌜ WordYield (upTo (now (text .entry)) at) at r ⌝ }
 {
     let only = only_word(text, at);
     match only {
@@ -228,7 +228,7 @@ fn word_at(text: &[u8], at: usize) -> Spelled
 
 // Whether so many numbers may follow a word. A sum has a constant, and then pairs.
 fn is_count(word: Word, count: usize) -> bool
-    ensures { λ r. ⌜ CountTold word count r ⌝ }
+    ensures { λ r. ⌜ CountYield word count r ⌝ }
 {
     match word {
         Word::Field => count == 1,
@@ -332,7 +332,7 @@ pub enum Parsed {
 // or are more than a line can have, `numbers` begins with those that were read before that was seen.
 fn numbers_from(text: &[u8], from: usize, numbers: &mut [i64]) -> NumberFields
     requires { ⌜ (isEnded (now text) ≡ true) × (from < length (now text)) × (length (now numbers) ≡ mostNumbers) ⌝ }
-    ensures told { λ r. ⌜ NumbersTold (upTo (now (text .entry)) from) from (now (numbers .exit)) r ⌝ }
+    ensures yields { λ r. ⌜ NumbersYield (upTo (now (text .entry)) from) from (now (numbers .exit)) r ⌝ }
     ensures left { λ _. ⌜ Stored (leadingNumbers (fieldsFrom (upTo (now (text .entry)) from) from)) (now (numbers .entry)) (now (numbers .exit)) ⌝ }
 {
     let mut at = from;
@@ -367,7 +367,7 @@ fn worded(word: Word, count: usize, end: usize) -> Fields
 // `numbers_from` are called at one place alone, the compiler puts all of them into this function, and a line costs one call.
 fn fields_of(text: &[u8], at: usize, numbers: &mut [i64]) -> Fields
     requires { ⌜ (isEnded (now text) ≡ true) × (at < length (now text)) × (length (now numbers) ≡ mostNumbers) ⌝ }
-    ensures told { λ r. ⌜ FieldsTold (now (text .entry)) at (now (numbers .exit)) r ⌝ }
+    ensures yields { λ r. ⌜ FieldsYield (now (text .entry)) at (now (numbers .exit)) r ⌝ }
     ensures left { λ _. ⌜ Stored (leading (lineAt (now (text .entry)) at)) (now (numbers .entry)) (now (numbers .exit)) ⌝ }
 {
     let spelled = word_at(text, at);
@@ -404,7 +404,7 @@ pub fn line_of(text: &[u8], at: usize, numbers: &mut [i64]) -> Parsed
 // The number that the whole line at `at` spells, and the place where the line ends.
 pub fn number_of(text: &[u8], at: usize) -> Number
     requires { ⌜ (isEnded (now text) ≡ true) × (at < length (now text)) ⌝ }
-    ensures { λ r. ⌜ WholeRead (now (text .entry)) at r ⌝ }
+    ensures { λ r. ⌜ WholeYield (now (text .entry)) at r ⌝ }
 {
     let mut numbers: [i64; 33] = [0; 33];
     let fields = fields_of(text, at, &mut numbers);

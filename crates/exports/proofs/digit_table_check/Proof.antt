@@ -1,11 +1,11 @@
 -- `exports::digit_table_check`: what is written and returned is `check`'s reply.
-use Rattle.service.specs.Reply.{replySeen}
+use Rattle.service.specs.Reply.{replyMeaning}
 use borrow.Author.Needs.{needs}
 use Rattle.exports.proofs.digit_table_check.Statement.{statement}
 use Rattle.exports.proofs.digit_table_check.Tie as tie
 
 returns : tie.Need-returns
-unfolding replySeen
+unfolding replyMeaning
 returns c = c .check .ensures
 
 pub digit-table-check-spec : {M : Type 1} → statement M

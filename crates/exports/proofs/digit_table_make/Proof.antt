@@ -1,13 +1,13 @@
 -- `exports::digit_table_make`: what is written and returned is `make`'s reply.
 use mathlib.Core.Path.{ap₂}
 use Rattle.meaning.specs.Reply.{making}
-use Rattle.service.specs.Reply.{replySeen}
+use Rattle.service.specs.Reply.{replyMeaning}
 use borrow.Author.Needs.{needs}
 use Rattle.exports.proofs.digit_table_make.Statement.{statement}
 use Rattle.exports.proofs.digit_table_make.Tie as tie
 
 returns : tie.Need-returns
-unfolding replySeen
+unfolding replyMeaning
 returns c =
     let given = c .before .before .make .ensures in
     ap₂ making (given .replied) (given .left)

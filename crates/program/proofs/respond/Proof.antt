@@ -2,7 +2,7 @@
 use mathlib.Core.Path.{sym, _∙_}
 use borrow.Author.Tests.{not-true, not-false}
 use Rattle.program.proofs.Answering.{answered-as}
-use Rattle.program.proofs.Responding.{respond-long, respond-unended, respond-parts, respond-missing, list-asked}
+use Rattle.program.proofs.Responding.{respond-long, respond-unended, respond-parts, respond-missing, list-given}
 use borrow.Author.Needs.{needs}
 use Rattle.program.proofs.respond.Statement.{statement}
 use Rattle.program.proofs.respond.Tie as tie
@@ -36,7 +36,7 @@ answer-list-requires c κs =
     let at-if1 = at-ended .before in
     let s = at-if1 .before .before .before in
     let ended = sym (at-ended .is-ended .ensures) ∙ not-false _ (at-if2 .if2 .left) in
-    list-asked (s .args .input .now) (at-if1 .if1 .left) ended (at-end .find-end .ensures) (at-found .found .given .1)
+    list-given (s .args .input .now) (at-if1 .if1 .left) ended (at-end .find-end .ensures) (at-found .found .given .1)
 
 returns-3 : tie.Need-returns-3
 returns-3 c =

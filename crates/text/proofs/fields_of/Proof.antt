@@ -6,7 +6,7 @@ use Prim.Native.Nat.{ℕ, _+_, _<_}
 use lib.ListN.{length, getD}
 use Rattle.text.specs.declared.Word.{Word}
 use Rattle.text.specs.declared.Spelled.the-variants.{Known, NoWord}
-use Rattle.text.specs.Parsed.{NumbersTold}
+use Rattle.text.specs.Parsed.{NumbersYield}
 use Rattle.text.specs.Place.{endOf}
 use Rattle.text.proofs.Ends.{InLine, in-line, place-inside, cut-length, place-next}
 use Rattle.text.proofs.LineFields.{word-place, word-alone, word-alone-stored, word-stored, word-numbers, word-no-numbers, bare-stored, bare-numbers, bare-no-numbers}
@@ -94,13 +94,13 @@ returns-2 c =
 
 -- the line of the numbers ends before the text does
 end-inside : (c : tie.After-count) → c .count .given .0 .1 .0 < length (c .before .before .before .before .before .before .before .before .args .text .now)
-unfolding NumbersTold
+unfolding NumbersYield
 end-inside c =
     let at-numbers = c .before .before .before in
-    let asked = numbers-from-requires (at-numbers .before) (at-numbers .numbers-from .lifetimes) in
-    let l = in-line _ (asked .0) (at-numbers .before .before .match .from) (asked .1) in
-    let told = rw (c .count .given .1) at (at-numbers .numbers-from .ensures .0) in
-    omega (arith, told .2, cut-length l, l .inside)
+    let given = numbers-from-requires (at-numbers .before) (at-numbers .numbers-from .lifetimes) in
+    let l = in-line _ (given .0) (at-numbers .before .before .match .from) (given .1) in
+    let yields = rw (c .count .given .1) at (at-numbers .numbers-from .ensures .0) in
+    omega (arith, yields .2, cut-length l, l .inside)
 
 worded-requires-2 : tie.Need-worded-requires-2
 worded-requires-2 c κs = let inside = end-inside (c .before .before .before .before) in search (needs, inside)

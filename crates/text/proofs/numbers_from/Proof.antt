@@ -4,9 +4,9 @@ use Prim.Native.Nat.{_≤_, _+_, _-_}
 use mir.Syntax.{w64}
 use mir.Val.{toZ, ofZ}
 use lib.ListN.{length, set}
-use Rattle.text.specs.Number.{NumberRead}
+use Rattle.text.specs.Number.{NumberYield}
 use Rattle.meaning.specs.Word.{mostNumbers}
-use Rattle.text.specs.Parsed.{NumbersTold}
+use Rattle.text.specs.Parsed.{NumbersYield}
 use Rattle.text.specs.Place.{Found, endOf, upTo, fieldsFrom}
 use Rattle.meaning.specs.Text.{fieldsOf}
 use Rattle.text.proofs.Places.{partsAfter, fields-from, fields-found, parts-more, parts-none}
@@ -39,11 +39,11 @@ number-at-requires c κs = (c .before .before .before .pre .0, place-inside (c .
 
 -- what `number_at` answered, in the line
 number : (c : tie.After-number-at Inv-loop μ-loop) → let s = c .before .before .before .before .args in
-    NumberRead (upTo (s .text .now) (s .from)) (c .before .before .loop .at) (c .number-at .result)
+    NumberYield (upTo (s .text .now) (s .from)) (c .before .before .loop .at) (c .number-at .result)
 number c = rw (same-line (c .before .before .loop .inv .0)) at (c .number-at .ensures)
 
 returns : tie.Need-returns Inv-loop μ-loop
-unfolding NumbersTold fieldsOf
+unfolding NumbersYield fieldsOf
 returns c =
     let at-number = c .before .before in
     let now = at-number .before .before .loop in
@@ -81,16 +81,16 @@ shared-slice-read-if1 : tie.Need-shared-slice-read-if1 Inv-loop μ-loop
 shared-slice-read-if1 c = omega (arith, place-inside (place (c .before)))
 
 returns-2 : tie.Need-returns-2 Inv-loop μ-loop
-unfolding NumbersTold
+unfolding NumbersYield
 returns-2 c =
-    let at-told = c .before .before in
-    let s = at-told .before .before .before .before .before .before .before .args in
+    let at-yield = c .before .before in
+    let s = at-yield .before .before .before .before .before .before .before .args in
     let line = upTo (s .text .now) (s .from) in
-    let l = place at-told in
-    let end = at-told .before .n .given .0 .1 .0 in
-    let last = ends-line l (ends at-told) (c .if1 .taken) in
-    let all = reading-end (turn at-told) (omega arith) (parts-none 9 line end (omega (arith, cut-length l, last))) in
-    rw (kept at-told) ((all .0, omega arith, omega (arith, cut-length l, last, l .found .low)), all .1)
+    let l = place at-yield in
+    let end = at-yield .before .n .given .0 .1 .0 in
+    let last = ends-line l (ends at-yield) (c .if1 .taken) in
+    let all = reading-end (turn at-yield) (omega arith) (parts-none 9 line end (omega (arith, cut-length l, last))) in
+    rw (kept at-yield) ((all .0, omega arith, omega (arith, cut-length l, last, l .found .low)), all .1)
 
 add-at : tie.Need-add-at Inv-loop μ-loop
 add-at c = omega (arith, place-inside (place (c .before .before)))
@@ -101,19 +101,19 @@ loop-less c = omega (arith, ends (c .before .before) .low, place-inside (place (
 loop-again : tie.Need-loop-again Inv-loop μ-loop
 unfolding fieldsOf
 loop-again c =
-    let at-told = c .before .before in
-    let s = at-told .before .before .before .before .before .before .before .args in
+    let at-yield = c .before .before in
+    let s = at-yield .before .before .before .before .before .before .before .args in
     let line = upTo (s .text .now) (s .from) in
-    let l = place at-told in
-    let end = at-told .before .n .given .0 .1 .0 in
+    let l = place at-yield in
+    let end = at-yield .before .n .given .0 .1 .0 in
     let inside = before-end l (λ e. omega (arith, c .if1 .left)) in (
       place-next l (λ e. omega (arith, c .if1 .left)),
       search needs,
-      rw (kept at-told) (rw (parts-more 9 line end (omega (arith, cut-length l, inside))) at (turn at-told)),
+      rw (kept at-yield) (rw (parts-more 9 line end (omega (arith, cut-length l, inside))) at (turn at-yield)),
     )
 
 returns-3 : tie.Need-returns-3 Inv-loop μ-loop
-unfolding NumbersTold fieldsOf
+unfolding NumbersYield fieldsOf
 returns-3 c =
     let now = c .before .loop in
     let s = c .before .before .before .args in

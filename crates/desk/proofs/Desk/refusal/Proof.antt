@@ -1,12 +1,12 @@
 -- `desk::Desk::refusal`: what is given is what is seen.
 use mathlib.Core.Path.{refl}
-use Rattle.service.specs.Reply.{replySeen}
-use Rattle.desk.specs.Desk.{calledSeen}
+use Rattle.service.specs.Reply.{replyMeaning}
+use Rattle.desk.specs.Desk.{calledMeaning}
 use Rattle.desk.proofs.Desk.refusal.Statement.{statement}
 use Rattle.desk.proofs.Desk.refusal.Tie as tie
 
 returns : tie.Need-returns
-unfolding calledSeen replySeen
+unfolding calledMeaning replyMeaning
 returns c = refl
 
 pub refusal-spec : {M : Type 1} → statement M

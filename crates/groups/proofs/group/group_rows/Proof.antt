@@ -7,15 +7,15 @@ use native.Mathlib.Nat.{le-mul-of-pos-right}
 use lib.ListN.{getD}
 use borrow.Author.Needs.{needs}
 use Rattle.meaning.specs.Row.{holds, digitRows}
-use Rattle.groups.specs.Rows.{rowsSeen, firstRefusal}
+use Rattle.groups.specs.Rows.{rowsMeaning, firstRefusal}
 use Rattle.groups.specs.Cells.{powerBound}
 use Rattle.groups.proofs.RowsGroup.{digits-start, digit-passes, digit-fails, two-pass, second-fails}
-use Rattle.groups.proofs.RowsGroup.{Seen, seen-none, seen-next, seen-two, seen-most, group-fails, group-seen}
+use Rattle.groups.proofs.RowsGroup.{PowerSum, meaning-none, meaning-next, meaning-two, meaning-most, group-fails, group-meaning}
 use Rattle.groups.proofs.group.group_rows.Statement.{statement}
 use Rattle.groups.proofs.group.group_rows.Tie as tie
 
 abbrev Inv-loop : tie.InvT-loop
-Inv-loop table number first at b k value₀ part₀ i₀ value part i = (i ≤ k) × Seen table (at .0) b k i value part × ((p : ℕ)
+Inv-loop table number first at b k value₀ part₀ i₀ value part i = (i ≤ k) × PowerSum table (at .0) b k i value part × ((p : ℕ)
     → firstRefusal (holds p table) first (digitRows (at .0) b k) ≡ firstRefusal (holds p table) (first + i) (digitRows (at .0 + i) b (k - i)))
 
 abbrev μ-loop : tie.MeasureT-loop
@@ -24,10 +24,10 @@ abbrev μ-loop : tie.MeasureT-loop
 loop-holds : tie.Need-loop-holds Inv-loop μ-loop
 loop-holds c =
     let s = c .before .args in
-    (search needs, seen-none (s .table .now) (s .at .0) (s .b) (s .k), λ p. digits-start p (s .table .now) (s .first) (s .at .0) (s .b) (s .k))
+    (search needs, meaning-none (s .table .now) (s .at .0) (s .b) (s .k), λ p. digits-start p (s .table .now) (s .first) (s .at .0) (s .b) (s .k))
 
 returns : tie.Need-returns Inv-loop μ-loop
-unfolding rowsSeen
+unfolding rowsMeaning
 returns c p f L h e =
     let at-test = c .before .before .before in
     let now = at-test .before .loop in
@@ -36,7 +36,7 @@ returns c p f L h e =
     (sym (now .inv .2 p ∙ digit-fails p (s .table .now) (s .first) (s .at .0) (s .b) (s .k) (now .i) (omega arith) (omega arith)))
 
 returns-2 : tie.Need-returns-2 Inv-loop μ-loop
-unfolding rowsSeen
+unfolding rowsMeaning
 returns-2 c p f L h e =
     let at-low = c .before .before .before in
     let at-test = at-low .before .before .before in
@@ -53,16 +53,16 @@ pair c =
     let low = s .at .0 + at-test .before .loop .i in
     getD (s .table .now) low 0 + getD (s .table .now) (low + 1) 0 * s .b
 
-seen : (c : tie.Else2 Inv-loop μ-loop) → let at-test = c .before .before .before .before .before .before in
+meaning : (c : tie.Else2 Inv-loop μ-loop) → let at-test = c .before .before .before .before .before .before in
     let now = at-test .before .loop in
     let s = at-test .before .before .before .args in
-    Seen (s .table .now) (s .at .0) (s .b) (s .k) (now .i + 2) (now .value + pair c * now .part) (now .part * (s .b * s .b))
-seen c =
+    PowerSum (s .table .now) (s .at .0) (s .b) (s .k) (now .i + 2) (now .value + pair c * now .part) (now .part * (s .b * s .b))
+meaning c =
     let at-low = c .before .before .before in
     let at-test = at-low .before .before .before in
     let start = at-test .before .before .before in
     let s = start .args in
-    seen-two (s .table .now) (s .at .0) (s .b) (s .k) (at-test .before .loop .inv .1) (start .pre .1) (at-test .loop-test .taken) (at-low .if1 .left)
+    meaning-two (s .table .now) (s .at .0) (s .b) (s .k) (at-test .before .loop .inv .1) (start .pre .1) (at-test .loop-test .taken) (at-low .if1 .left)
     (c .if2 .left)
 
 most : (c : tie.Else2 Inv-loop μ-loop) → let at-test = c .before .before .before .before .before .before in
@@ -73,14 +73,14 @@ most c =
     let start = at-test .before .before .before in
     let s = start .args in
     let g = start .pre .0 in
-    omega (arith, seen-most (s .table .now) (s .at .0) (s .b) (s .k) (seen c) (omega (arith, g .base)) (omega arith), g .small)
+    omega (arith, meaning-most (s .table .now) (s .at .0) (s .b) (s .k) (meaning c) (omega (arith, g .base)) (omega arith), g .small)
 
 -- what is multiplied by part is no more than the product
 part-counts : (c : tie.Else2 Inv-loop μ-loop) (n : ℕ) → n ≤ n * c .before .before .before .before .before .before .before .loop .part
 part-counts c n = le-mul-of-pos-right n (omega (arith, c .before .before .before .before .before .before .before .loop .inv .1 .below))
 
 pair-most : (c : tie.Else2 Inv-loop μ-loop) → pair c ≤ powerBound
-pair-most c = omega (arith, part-counts c (pair c), seen c .below, most c)
+pair-most c = omega (arith, part-counts c (pair c), meaning c .below, most c)
 
 mul-value : tie.Need-mul-value Inv-loop μ-loop
 mul-value c = omega (arith, pair-most c)
@@ -89,10 +89,10 @@ add-value : tie.Need-add-value Inv-loop μ-loop
 add-value c = omega (arith, pair-most c)
 
 mul-value-2 : tie.Need-mul-value-2 Inv-loop μ-loop
-mul-value-2 c = omega (arith, seen c .below, most c)
+mul-value-2 c = omega (arith, meaning c .below, most c)
 
 add-value-2 : tie.Need-add-value-2 Inv-loop μ-loop
-add-value-2 c = omega (arith, seen c .below, most c)
+add-value-2 c = omega (arith, meaning c .below, most c)
 
 mul-part : tie.Need-mul-part Inv-loop μ-loop
 mul-part c =
@@ -109,13 +109,13 @@ loop-again c =
     let now = at-test .before .loop in
     let s = at-test .before .before .before .args in (
       search needs,
-      seen c,
+      meaning c,
       λ p. now .inv .2 p
           ∙ two-pass p (s .table .now) (s .first) (s .at .0) (s .b) (s .k) (now .i) (at-test .loop-test .taken) (at-low .if1 .left) (c .if2 .left),
     )
 
 returns-3 : tie.Need-returns-3 Inv-loop μ-loop
-unfolding rowsSeen
+unfolding rowsMeaning
 returns-3 c p f L h e =
     let at-odd = c .before .before .before in
     let now = at-odd .before .before .loop in
@@ -124,15 +124,15 @@ returns-3 c p f L h e =
     (sym (now .inv .2 p ∙ digit-fails p (s .table .now) (s .first) (s .at .0) (s .b) (s .k) (now .i) (at-odd .if3 .taken) (omega arith)))
 
 -- after a last digit that passes
-seen-last : (c : tie.Else4 Inv-loop μ-loop) → let now = c .before .before .before .before .before .loop in
+meaning-last : (c : tie.Else4 Inv-loop μ-loop) → let now = c .before .before .before .before .before .loop in
     let s = c .before .before .before .before .before .before .before .args in
     let digit = getD (s .table .now) (s .at .0 + now .i) 0 in
-    Seen (s .table .now) (s .at .0) (s .b) (s .k) (now .i + 1) (now .value + digit * now .part) (now .part * s .b)
-seen-last c =
+    PowerSum (s .table .now) (s .at .0) (s .b) (s .k) (now .i + 1) (now .value + digit * now .part) (now .part * s .b)
+meaning-last c =
     let at-odd = c .before .before .before in
     let start = at-odd .before .before .before .before in
     let s = start .args in
-    seen-next (s .table .now) (s .at .0) (s .b) (s .k) (at-odd .before .before .loop .inv .1) (start .pre .1) (at-odd .if3 .taken) (c .if4 .left)
+    meaning-next (s .table .now) (s .at .0) (s .b) (s .k) (at-odd .before .before .loop .inv .1) (start .pre .1) (at-odd .if3 .taken) (c .if4 .left)
 
 last-most : (c : tie.Else4 Inv-loop μ-loop) → let now = c .before .before .before .before .before .loop in
     now .part * c .before .before .before .before .before .before .before .args .b ≤ powerBound
@@ -141,16 +141,16 @@ last-most c =
     let start = at-odd .before .before .before .before in
     let s = start .args in
     let g = start .pre .0 in
-    omega (arith, seen-most (s .table .now) (s .at .0) (s .b) (s .k) (seen-last c) (omega (arith, g .base)) (omega arith), g .small)
+    omega (arith, meaning-most (s .table .now) (s .at .0) (s .b) (s .k) (meaning-last c) (omega (arith, g .base)) (omega arith), g .small)
 
 mul-value-3 : tie.Need-mul-value-3 Inv-loop μ-loop
-mul-value-3 c = omega (arith, seen-last c .below, last-most c)
+mul-value-3 c = omega (arith, meaning-last c .below, last-most c)
 
 add-value-3 : tie.Need-add-value-3 Inv-loop μ-loop
-add-value-3 c = omega (arith, seen-last c .below, last-most c)
+add-value-3 c = omega (arith, meaning-last c .below, last-most c)
 
 returns-4 : tie.Need-returns-4 Inv-loop μ-loop
-unfolding rowsSeen
+unfolding rowsMeaning
 returns-4 c p f L h e =
     let at-odd = c .before .before in
     let at-test = at-odd .before in
@@ -159,10 +159,10 @@ returns-4 c p f L h e =
     let s = start .args in
     let t = s .table .now in
     ⊎-elim
-    (λ w. group-seen p t f L (s .first) (s .at .0) (s .b) (s .k) {i = now .i + 1} (omega (arith, w .0 .taken)) (start .pre .1) h e
-    (seen-next t (s .at .0) (s .b) (s .k) (now .inv .1) (start .pre .1) (w .0 .taken) (w .3 .left))
+    (λ w. group-meaning p t f L (s .first) (s .at .0) (s .b) (s .k) {i = now .i + 1} (omega (arith, w .0 .taken)) (start .pre .1) h e
+    (meaning-next t (s .at .0) (s .b) (s .k) (now .inv .1) (start .pre .1) (w .0 .taken) (w .3 .left))
     (now .inv .2 p ∙ digit-passes p t (s .first) (s .at .0) (s .b) (s .k) (now .i) (w .0 .taken) (w .3 .left)) (rw (w .4) at (c .row-before .ensures)))
-    (λ w. group-seen p t f L (s .first) (s .at .0) (s .b) (s .k) {i = now .i} (omega (arith, w .0 .left)) (start .pre .1) h e (now .inv .1) (now .inv .2 p)
+    (λ w. group-meaning p t f L (s .first) (s .at .0) (s .b) (s .k) {i = now .i} (omega (arith, w .0 .left)) (start .pre .1) h e (now .inv .1) (now .inv .2 p)
     (rw (w .1) at (c .row-before .ensures)))
     (at-odd .if3 .came)
 

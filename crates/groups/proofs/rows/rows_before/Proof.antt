@@ -1,16 +1,16 @@
 -- `groups::rows::rows_before`: by the answer for the earlier rows.
 use mathlib.Core.Path.{refl}
 use borrow.Author.Needs.{needs}
-use Rattle.groups.specs.Rows.{rowsSeen, firstOf}
+use Rattle.groups.specs.Rows.{rowsMeaning, firstOf}
 use Rattle.groups.proofs.rows.rows_before.Statement.{statement}
 use Rattle.groups.proofs.rows.rows_before.Tie as tie
 
 returns : tie.Need-returns
-unfolding rowsSeen firstOf
+unfolding rowsMeaning firstOf
 returns c = rw (c .enum-told .given .1) refl
 
 returns-2 : tie.Need-returns-2
-unfolding rowsSeen firstOf
+unfolding rowsMeaning firstOf
 returns-2 c = rw (c .before .earlier .given .1) refl
 
 pub rows-before-spec : {M : Type 1} → statement M

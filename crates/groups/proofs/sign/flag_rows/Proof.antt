@@ -1,12 +1,12 @@
 -- `groups::sign::flag_rows`: the four rows, from the last to the first.
 use borrow.Author.Needs.{needs}
-use Rattle.groups.specs.Rows.{rowsSeen}
+use Rattle.groups.specs.Rows.{rowsMeaning}
 use Rattle.groups.proofs.RowsSign.{flag-answer}
 use Rattle.groups.proofs.sign.flag_rows.Statement.{statement}
 use Rattle.groups.proofs.sign.flag_rows.Tie as tie
 
 returns : tie.Need-returns
-unfolding rowsSeen
+unfolding rowsMeaning
 returns c t T F W x top-is flag-is witness-is last-is =
     let at-three = c .before .before .before in
     let at-two = at-three .before .before in

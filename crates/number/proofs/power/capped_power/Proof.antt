@@ -8,12 +8,12 @@ use native.Mathlib.Nat.{pow-zero, pow-le-pow-right}
 use borrow.Author.Needs.{needs}
 use Rattle.meaning.specs.Machine.{pastU32}
 use Rattle.number.proofs.Word.{wide-product}
-use Rattle.number.proofs.CappedPower.{capped-of, capped-above, low-power, power-one, Left, left-start, left-end, base-above, product-above, left-turn}
+use Rattle.number.proofs.CappedPower.{capped-of, capped-above, low-power, power-one, PowerLeft, left-start, left-end, base-above, product-above, left-turn}
 use Rattle.number.proofs.power.capped_power.Statement.{statement}
 use Rattle.number.proofs.power.capped_power.Tie as tie
 
 abbrev Inv-loop : tie.InvT-loop
-Inv-loop b k cap most c₀ base₀ n₀ c base n = Left b k cap c base n
+Inv-loop b k cap most c₀ base₀ n₀ c base n = PowerLeft b k cap c base n
 
 abbrev μ-loop : tie.MeasureT-loop
 μ-loop b k cap most c₀ base₀ n₀ c base n = n

@@ -13,7 +13,7 @@ add-answer-refusal c =
     let at-read = at-found .before .before .before in
     let s = at-read .before .before .before .before in
     let fails = inputs-no-number _ _ (at-read .read-inputs .ensures) (at-found .found .given .1) in
-    omega (arith, place-fits (s .pre .asked) (s .pre .listed) _ fails)
+    omega (arith, place-fits (s .pre .given) (s .pre .listed) _ fails)
 
 add-answer-refusal-2 : tie.Need-add-answer-refusal-2
 add-answer-refusal-2 c =
@@ -21,7 +21,7 @@ add-answer-refusal-2 c =
     let at-read = at-found .before .before .before in
     let s = at-read .before .before .before .before in
     let fails = inputs-no-number _ _ (at-read .read-inputs .ensures) (at-found .found .given .1) in
-    omega (arith, place-fits (s .pre .asked) (s .pre .listed) _ fails)
+    omega (arith, place-fits (s .pre .given) (s .pre .listed) _ fails)
 
 returns : tie.Need-returns
 returns c =
@@ -31,7 +31,7 @@ returns c =
     let at-read = at-found .before .before .before in
     let s = at-read .before .before .before .before in
     let numbers = inputs-numbers _ _ (at-read .read-inputs .ensures) (at-found .found2 .given .1) in
-    answered-as (too-many (s .pre .asked) (s .pre .listed) numbers (at-if1 .if1 .taken)) (at-answer .answer-refusal2 .ensures)
+    answered-as (too-many (s .pre .given) (s .pre .listed) numbers (at-if1 .if1 .taken)) (at-answer .answer-refusal2 .ensures)
 
 answer-made-requires : tie.Need-answer-made-requires
 answer-made-requires c κs =
@@ -45,7 +45,7 @@ returns-2 c =
     let at-read = at-found .before .before .before in
     let s = at-read .before .before .before .before in
     let fails = inputs-no-number _ _ (at-read .read-inputs .ensures) (at-found .found .given .1) in
-    answered-as (no-number (s .pre .asked) (s .pre .listed) _ fails) (at-answer .answer-refusal .ensures)
+    answered-as (no-number (s .pre .given) (s .pre .listed) _ fails) (at-answer .answer-refusal .ensures)
 
 returns-3 : tie.Need-returns-3
 returns-3 c =
@@ -55,7 +55,7 @@ returns-3 c =
     let at-read = at-found .before .before .before in
     let s = at-read .before .before .before .before in
     let numbers = inputs-numbers _ _ (at-read .read-inputs .ensures) (at-found .found2 .given .1) in
-    answered-as (made-answer (s .pre .asked) (s .pre .listed) numbers (s .args .cells) (at-if1 .if1 .left) (s .pre .cells-are)) (at-answer .answer-made .ensures)
+    answered-as (made-answer (s .pre .given) (s .pre .listed) numbers (s .args .cells) (at-if1 .if1 .left) (s .pre .cells-are)) (at-answer .answer-made .ensures)
 
 pub answer-inputs-spec : {M : Type 1} → statement M
 answer-inputs-spec =

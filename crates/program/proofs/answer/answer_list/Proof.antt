@@ -1,5 +1,5 @@
 -- The list's own refusal, or what its inputs answer.
-use Rattle.service.proofs.Listed.{survey-refused, survey-counted}
+use Rattle.service.proofs.ReadList.{survey-refused, survey-counted}
 use Rattle.program.proofs.Answering.{answered-as}
 use Rattle.program.proofs.Responding.{list-refused, list-read}
 use borrow.Author.Needs.{needs}
@@ -11,8 +11,8 @@ answer-inputs-requires c κs =
     let at-found = c .before .before in
     let at-survey = at-found .before .before in
     let s = at-survey .before .before .before .before in
-    let told = at-survey .survey .ensures in
-    list-read (s .pre) (survey-counted _ _ (told .0) (told .1) _ _ (at-found .found2 .given .1))
+    let yields = at-survey .survey .ensures in
+    list-read (s .pre) (survey-counted _ _ (yields .0) (yields .1) _ _ (at-found .found2 .given .1))
 
 returns : tie.Need-returns
 returns c =

@@ -1,12 +1,12 @@
 -- Its number says whether a table was made.
 use Rattle.program.proofs.Answering.{answered-as, making-table, making-refusal}
-use Rattle.service.specs.Reply.{replySeen}
+use Rattle.service.specs.Reply.{replyMeaning}
 use borrow.Author.Needs.{needs}
 use Rattle.program.proofs.answer.answer_making.Statement.{statement}
 use Rattle.program.proofs.answer.answer_making.Tie as tie
 
 returns : tie.Need-returns
-unfolding replySeen
+unfolding replyMeaning
 returns c =
     let at-answer = c .before .before in
     let at-if1 = at-answer .before .before in
@@ -14,7 +14,7 @@ returns c =
     answered-as (making-table (a .reply .number) (a .reply .place) (a .table .now) (at-if1 .if1 .taken)) (at-answer .answer-table .ensures)
 
 returns-2 : tie.Need-returns-2
-unfolding replySeen
+unfolding replyMeaning
 returns-2 c =
     let at-answer = c .before .before in
     let at-if1 = at-answer .before .before in

@@ -4,7 +4,7 @@ use native.Mathlib.Omega.{arith}
 use lib.ListN.{length}
 use Rattle.meaning.specs.Text.{bytes}
 use Rattle.meaning.proofs.Results.{none-refused}
-use Rattle.program.specs.Input.{EndFound}
+use Rattle.program.specs.Input.{EndYield}
 use Rattle.program.proofs.Parting.{Seeking, seeking-start, seeking-turn, seeking-found, seeking-end}
 use borrow.Author.Needs.{needs}
 use Rattle.program.proofs.input.find_end.Statement.{statement}
@@ -20,7 +20,7 @@ loop-holds : tie.Need-loop-holds Inv-loop μ-loop
 loop-holds c = seeking-start _
 
 returns : tie.Need-returns Inv-loop μ-loop
-unfolding bytes EndFound
+unfolding bytes EndYield
 returns c =
     let at-end = c .before .before .before .before in
     let at-test = at-end .before in
@@ -36,7 +36,7 @@ loop-again c =
     seeking-turn (at-loop .loop .inv) (at-loop .before .before .pre) (at-test .loop-test .taken) (at-end .line-end .ensures) (c .before .is-same .ensures) (c .if1 .left)
 
 returns-2 : tie.Need-returns-2 Inv-loop μ-loop
-unfolding EndFound
+unfolding EndYield
 returns-2 c =
     none-refused 2 (seeking-end (c .before .loop .inv) (c .loop-test .left))
 

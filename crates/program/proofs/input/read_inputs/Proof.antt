@@ -7,7 +7,7 @@ use native.Mathlib.Omega.{arith}
 use lib.ListN.{length}
 use Rattle.text.specs.Place.{Found}
 use Rattle.text.proofs.Numbers.{number-ends}
-use Rattle.program.specs.Input.{InputsRead}
+use Rattle.program.specs.Input.{InputsYield}
 use Rattle.program.proofs.Inputs.{ReadingInputs, reading-start, reading-turn, reading-stops, reading-end}
 use borrow.Author.Needs.{needs}
 use Rattle.program.proofs.input.read_inputs.Statement.{statement}
@@ -23,7 +23,7 @@ loop-holds : tie.Need-loop-holds Inv-loop μ-loop
 loop-holds c = reading-start _ _ _ (c .before .pre .1) (c .before .pre .2)
 
 returns : tie.Need-returns Inv-loop μ-loop
-unfolding InputsRead
+unfolding InputsYield
 returns c =
     let at-number = c .before .before in
     let at-test = at-number .before in
@@ -60,7 +60,7 @@ loop-again c =
     (reading-turn (at-loop .loop .inv) (at-loop .before .before .pre .0) (at-test .loop-test .taken) (at-number .number-of .ensures) (c .before .before .before .before .n .given .1))
 
 returns-2 : tie.Need-returns-2 Inv-loop μ-loop
-unfolding InputsRead
+unfolding InputsYield
 returns-2 c =
     reading-end (c .before .loop .inv) (c .loop-test .left)
 

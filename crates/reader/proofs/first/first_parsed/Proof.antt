@@ -6,21 +6,21 @@ use native.Mathlib.Omega.{arith}
 use borrow.Author.Tests.{not-true, not-false}
 use Rattle.number.proofs.Word.{back}
 use Rattle.reader.specs.Step.{goes}
-use Rattle.reader.specs.Read.{only, firstSeen, primeIn}
+use Rattle.reader.specs.Read.{only, firstMeaning, primeIn}
 use Rattle.reader.proofs.Firsts.{first-other, not-field, first-fits, first-negative, first-is, first-number, first-size, first-composite, first-odd-prime}
 use borrow.Author.Needs.{needs}
 use Rattle.reader.proofs.first.first_parsed.Statement.{statement}
 use Rattle.reader.proofs.first.first_parsed.Tie as tie
 
 returns : tie.Need-returns
-unfolding firstSeen primeIn
+unfolding firstMeaning primeIn
 returns c = (first-other _ _ (not-field (c .before .args .word) (c .match .keys2)), omega arith)
 
 copies : tie.Need-shared-slice-copy-out-n
 copies c = omega (arith, c .before .before .pre .numbers-long)
 
 returns-2 : tie.Need-returns-2
-unfolding firstSeen primeIn
+unfolding firstMeaning primeIn
 returns-2 c = (first-negative (c .before .before .before .before .pre) (c .before .before .enum-told .given .1) (c .if1 .taken), omega arith)
 
 cast-p : tie.Need-cast-p
@@ -30,7 +30,7 @@ cast-p c =
     rw (back (first-fits parsed is), first-is parsed is (c .if1 .left)) (tt, record { fits = omega (arith, first-size parsed is (c .if1 .left)) })
 
 returns-3 : tie.Need-returns-3
-unfolding firstSeen primeIn
+unfolding firstMeaning primeIn
 returns-3 c =
     let parsed = c .before .before .before .before .before .before .pre in
     let is = c .before .before .before .before .enum-told .given .1 in
@@ -38,7 +38,7 @@ returns-3 c =
     (first-composite parsed is t (ap oddPrime (sym (first-number parsed is t)) ∙ sym (c .before .is-odd-prime .ensures) ∙ not-true _ (c .if2 .taken)), omega arith)
 
 returns-4 : tie.Need-returns-4
-unfolding firstSeen primeIn
+unfolding firstMeaning primeIn
 returns-4 c =
     let parsed = c .before .before .before .before .before .before .pre in
     let is = c .before .before .before .before .enum-told .given .1 in

@@ -4,7 +4,7 @@ use mathlib.Core.List.{List}
 use Prim.Native.Nat.{ℕ}
 use denote.Ref.{now}
 use Rattle.meaning.specs.Reply.{Answer, readReply}
-use Rattle.reader.specs.Read.{answerSeen, Exact}
+use Rattle.reader.specs.Read.{answerMeaning, Exact}
 use Rattle.reader.proofs.Exact.{refused-replied, counts-replied, reads-exactly-as-replied}
 use borrow.Author.Needs.{needs}
 use Rattle.reader.proofs.reading.read.Statement.{statement}
@@ -15,12 +15,12 @@ answered : {text : List ℕ} (a : Answer) → a ≡ readReply text → (a ≡ re
 answered {text} a e = (e, reads-exactly-as-replied text a e)
 
 returns : tie.Need-returns
-unfolding answerSeen
+unfolding answerMeaning
 returns c =
     answered _ (refused-replied (now (c .before .before .before .before .before .args .list)) _ (c .before .before .before .survey .ensures .0) _ _ (c .before .found .given .1))
 
 returns-2 : tie.Need-returns-2
-unfolding answerSeen
+unfolding answerMeaning
 returns-2 c =
     answered _ (counts-replied (now (c .before .before .before .before .before .args .list)) _ (c .before .before .before .survey .ensures .0) _ _ (c .before .found2 .given .1))
 

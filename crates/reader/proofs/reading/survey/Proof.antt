@@ -9,8 +9,8 @@ use Rattle.meaning.specs.Text.{isEnded}
 use Rattle.meaning.specs.Line.{lineOf}
 use Rattle.meaning.specs.Known.{fresh}
 use Rattle.text.specs.Place.{endOf, lineAt}
-use Rattle.text.proofs.Answers.{no-line-seen, line-seen, line-next}
-use Rattle.reader.specs.Read.{surveySeen, PrimeFound, primeIn, firstSeen}
+use Rattle.text.proofs.Answers.{no-line-meaning, line-meaning, line-next}
+use Rattle.reader.specs.Read.{surveyMeaning, PrimeFound, primeIn, firstMeaning}
 use Rattle.reader.specs.Step.{stepOption}
 use Rattle.reader.specs.declared.first.First.{First}
 use Rattle.reader.proofs.Steps.{no-line-step, line-step, line-parsed}
@@ -20,12 +20,12 @@ use Rattle.reader.proofs.reading.survey.Statement.{statement}
 use Rattle.reader.proofs.reading.survey.Tie as tie
 
 returns : tie.Need-returns
-unfolding surveySeen PrimeFound
+unfolding surveyMeaning PrimeFound
 returns c =
     (survey-too-long (now (c .before .before .args .list)) (c .if1 .taken), tt)
 
 returns-2 : tie.Need-returns-2
-unfolding surveySeen PrimeFound
+unfolding surveyMeaning PrimeFound
 returns-2 c =
     (survey-not-ended (now (c .before .before .before .before .args .list)) (c .before .before .if1 .left) (sym (c .before .is-ended .ensures) ∙ not-true _ (c .if2 .taken)), tt)
 
@@ -39,12 +39,12 @@ line-of-requires c κs =
     (ended at-if2, ended-some (now (at-if2 .before .before .before .before .args .list)) (ended at-if2), search needs)
 
 returns-3 : tie.Need-returns-3
-unfolding surveySeen PrimeFound
+unfolding surveyMeaning PrimeFound
 returns-3 c =
     let at-line = c .before .before .before in
     let at-if2 = at-line .before .before in
     let text = now (at-if2 .before .before .before .before .args .list) in
-    (first-stopped text (at-if2 .before .before .if1 .left) (ended at-if2) 3 (no-line-step 0 fresh (no-line-seen (at-line .line-of .ensures .0) (c .enum-told .given .1))), tt)
+    (first-stopped text (at-if2 .before .before .if1 .left) (ended at-if2) 3 (no-line-step 0 fresh (no-line-meaning (at-line .line-of .ensures .0) (c .enum-told .given .1))), tt)
 
 first-parsed-requires : tie.Need-first-parsed-requires
 first-parsed-requires c κs =
@@ -59,14 +59,14 @@ module _ (c : tie.After-first-parsed) where
   abbrev at-if2 : tie.Else2
   at-if2 = at-word .before .before .before .before .before
 
-  first-read : {x : First} → c .first-parsed .result ≡ x → firstSeen x ≡ stepOption 0 fresh (lineOf (lineAt (now (at-if2 .before .before .before .before .args .list)) 0))
-  first-read is = ap firstSeen (sym is) ∙ line-step 0 fresh (line-seen (at-word .before .before .before .line-of .ensures .0) (at-word .word .given .1)) (c .first-parsed .ensures .0)
+  first-read : {x : First} → c .first-parsed .result ≡ x → firstMeaning x ≡ stepOption 0 fresh (lineOf (lineAt (now (at-if2 .before .before .before .before .args .list)) 0))
+  first-read is = ap firstMeaning (sym is) ∙ line-step 0 fresh (line-meaning (at-word .before .before .before .line-of .ensures .0) (at-word .word .given .1)) (c .first-parsed .ensures .0)
 
   second : at-word .word .given .0 .1 .1 .0 ≡ endOf (now (at-if2 .before .before .before .before .args .list)) 0 + 1
   second = line-next (now (at-if2 .before .before .before .before .args .list)) 0 (at-word .before .before .before .line-of .ensures .1) (at-word .word .given .1)
 
 survey-from-requires : tie.Need-survey-from-requires
-unfolding firstSeen primeIn
+unfolding firstMeaning primeIn
 survey-from-requires c κs =
     let at-first = c .before .before .before .before in
     let at-if2′ = at-if2 at-first in
@@ -83,21 +83,21 @@ survey-from-requires c κs =
     )
 
 returns-4 : tie.Need-returns-4
-unfolding surveySeen PrimeFound firstSeen
+unfolding surveyMeaning PrimeFound firstMeaning
 returns-4 c =
     let at-first = c .before .before .before in
     let at-if2′ = at-if2 at-first in
     (first-stopped (now (at-if2′ .before .before .before .before .args .list)) (at-if2′ .before .before .if1 .left) (ended at-if2′) _ (first-read at-first (c .before .first .given .1)), tt)
 
 returns-5 : tie.Need-returns-5
-unfolding firstSeen
+unfolding firstMeaning
 returns-5 c =
     let at-first = c .before .before .before .before .before .before in
     let at-if2′ = at-if2 at-first in
-    let told = c .before .survey-from .ensures in (
-      rw (second at-first) at (told .0)
+    let yields = c .before .survey-from .ensures in (
+      rw (second at-first) at (yields .0)
           ∙ survey-after (now (at-if2′ .before .before .before .before .args .list)) (at-if2′ .before .before .if1 .left) (ended at-if2′) _ (first-read at-first (c .before .before .before .before .first2 .given .1)),
-      told .1,
+      yields .1,
     )
 
 pub survey-spec : {M : Type 1} → statement M

@@ -9,9 +9,9 @@ use denote.Ref.{now}
 use borrow.Author.Needs.{needs}
 use Rattle.meaning.specs.Refusal.{valueLimit}
 use Rattle.text.specs.Place.{endOf}
-use Rattle.text.proofs.Answers.{no-line-seen, line-seen, line-next}
-use Rattle.reader.specs.Read.{surveySeen, PrimeFound}
-use Rattle.reader.specs.Step.{stepSeen, placedAt, valueCount}
+use Rattle.text.proofs.Answers.{no-line-meaning, line-meaning, line-next}
+use Rattle.reader.specs.Read.{surveyMeaning, PrimeFound}
+use Rattle.reader.specs.Step.{stepMeaning, placedAt, valueCount}
 use Rattle.reader.proofs.Steps.{no-line-step, line-step, line-parsed}
 use Rattle.reader.proofs.Walk.{Walked, placed-long, walk-ready, walk-start, walk-end, walk-stopped, walk-next}
 use Rattle.reader.proofs.reading.survey_from.Statement.{statement}
@@ -39,11 +39,11 @@ same-length : tie.Need-same-length Inv-loop μ-loop
 same-length c = c .before .before .before .line-of .ensures .0 .left .kept ∙ c .before .before .before .before .before .before .loop .inv .1 .numbers-long ∙ sym (c .before .before .before .before .before .before .before .before .pre .5)
 
 returns : tie.Need-returns Inv-loop μ-loop
-unfolding surveySeen PrimeFound
+unfolding surveyMeaning PrimeFound
 returns c =
     let at-line = c .before .before .before in
     let at-test = at-line .before .before in
-    (walk-stopped (at-test .before .loop .inv .1) (at-test .before .before .before .pre .0) (at-test .loop-test .taken) 3 (no-line-step 1 _ (no-line-seen (at-line .line-of .ensures .0) (c .enum-told .given .1))), tt)
+    (walk-stopped (at-test .before .loop .inv .1) (at-test .before .before .before .pre .0) (at-test .loop-test .taken) 3 (no-line-step 1 _ (no-line-meaning (at-line .line-of .ensures .0) (c .enum-told .given .1))), tt)
 
 -- a line that was parsed
 module _ (c : tie.After-word Inv-loop μ-loop) where
@@ -77,13 +77,13 @@ same-length-2 c =
     at-line at-word .line-of .ensures .0 .left .kept ∙ at-loop at-word .loop .inv .1 .numbers-long ∙ sym (start at-word .pre .5)
 
 returns-2 : tie.Need-returns-2 Inv-loop μ-loop
-unfolding surveySeen PrimeFound stepSeen
+unfolding surveyMeaning PrimeFound stepMeaning
 returns-2 c =
     let at-step = c .before .before .before .before .before in
     let at-word = at-step .before .before .before .before .before in
     let w = at-loop at-word .loop .inv .1 in
     let step = at-step .step-parsed .ensures .0 _ (at-loop at-word .loop .inv .0) (w .places-long) refl in
-    (walk-stopped w (start at-word .pre .0) (at-test at-word .loop-test .taken) _ (line-step 1 _ (line-seen (at-line at-word .line-of .ensures .0) (at-word .word .given .1)) (rw (c .before .stepped .given .1) at step)), tt)
+    (walk-stopped w (start at-word .pre .0) (at-test at-word .loop-test .taken) _ (line-step 1 _ (line-meaning (at-line at-word .line-of .ensures .0) (at-word .word .given .1)) (rw (c .before .stepped .given .1) at step)), tt)
 
 loop-less : tie.Need-loop-less Inv-loop μ-loop
 loop-less c =
@@ -91,7 +91,7 @@ loop-less c =
     omega (arith, next-at at-word, at-test at-word .loop-test .taken)
 
 loop-again : tie.Need-loop-again Inv-loop μ-loop
-unfolding stepSeen valueCount
+unfolding stepMeaning valueCount
 loop-again c =
     let at-step = c .before .before .before .before .before in
     let at-word = at-step .before .before .before .before .before in
@@ -103,7 +103,7 @@ loop-again c =
     rw (next-at at-word) (
       placedAt (loop .counts) (loop .inv .0),
       walk-next w (start at-word .pre .0) (at-test at-word .loop-test .taken) (c .before .stepped2 .given .0 .0) _ _ _ (placedAt (loop .counts) (loop .inv .0))
-          (line-step 1 _ (line-seen read (at-word .word .given .1)) (rw is at (stepped .0 _ (loop .inv .0) (w .places-long) refl)))
+          (line-step 1 _ (line-meaning read (at-word .word .given .1)) (rw is at (stepped .0 _ (loop .inv .0) (w .places-long) refl)))
           (rw is at (stepped .1 .0)) (read .left .kept ∙ w .numbers-long) (stepped .1 .1 .long) (stepped .1 .2 .long) (placed-long (loop .counts) (loop .inv .0)),
     )
 
@@ -111,7 +111,7 @@ same-length-3 : tie.Need-same-length-3 Inv-loop μ-loop
 same-length-3 c = c .before .loop .inv .1 .numbers-long ∙ sym (c .before .before .before .pre .5)
 
 returns-3 : tie.Need-returns-3 Inv-loop μ-loop
-unfolding surveySeen PrimeFound
+unfolding surveyMeaning PrimeFound
 returns-3 c = (walk-end (c .before .loop .inv .1) (c .loop-test .left), (c .before .before .before .pre .3, c .before .before .before .pre .4))
 
 pub survey-from-spec : {M : Type 1} → statement M

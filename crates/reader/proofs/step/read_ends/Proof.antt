@@ -3,8 +3,8 @@ use mathlib.Core.Path.{refl}
 use native.Mathlib.Omega.{arith}
 use Rattle.meaning.specs.Word.{kindOf}
 use Rattle.text.specs.Word.{wordOf}
-use Rattle.rules.specs.Told.{madeSeen}
-use Rattle.reader.specs.Step.{toldBy, lineTold}
+use Rattle.rules.specs.Yield.{madeMeaning}
+use Rattle.reader.specs.Step.{yieldBy, lineYield}
 use Rattle.reader.proofs.Steps.{sum-count, with-count, at-count, field-later}
 use borrow.Author.Needs.{needs}
 use Rattle.reader.proofs.step.read_ends.Statement.{statement}
@@ -37,36 +37,36 @@ read-sum-requires c κs =
     (S .pre .0, omega (arith, line .numbers-long, line .most), line .most, sum-count (c .enum-told4 .given .1) _ (S .args .count) (omega (arith, line .numbers-long, line .most)) (line .counted), line .small)
 
 returns : tie.Need-returns
-unfolding madeSeen
-returns c = λ s seen. field-later s _ (c .enum-told .given .1)
+unfolding madeMeaning
+returns c = λ s meaning. field-later s _ (c .enum-told .given .1)
 
 returns-2 : tie.Need-returns-2
-unfolding kindOf wordOf lineTold toldBy
-returns-2 c = λ s seen. at-count 0 (c .before .before .before .pre .1) (c .before .enum-told2 .given .1) (λ ns. refl) s _ (c .read-input .ensures s seen)
+unfolding kindOf wordOf lineYield yieldBy
+returns-2 c = λ s meaning. at-count 0 (c .before .before .before .pre .1) (c .before .enum-told2 .given .1) (λ ns. refl) s _ (c .read-input .ensures s meaning)
 
 returns-3 : tie.Need-returns-3
-unfolding kindOf wordOf lineTold toldBy
-returns-3 c = λ s seen. at-count 4 (c .before .before .before .pre .1) (c .before .enum-told3 .given .1) (λ ns. refl) s _ (c .read-span .ensures s seen)
+unfolding kindOf wordOf lineYield yieldBy
+returns-3 c = λ s meaning. at-count 4 (c .before .before .before .pre .1) (c .before .enum-told3 .given .1) (λ ns. refl) s _ (c .read-span .ensures s meaning)
 
 returns-4 : tie.Need-returns-4
-unfolding wordOf lineTold toldBy
-returns-4 c = λ s seen. rw (c .before .enum-told4 .given .1) (c .read-sum .ensures s seen)
+unfolding wordOf lineYield yieldBy
+returns-4 c = λ s meaning. rw (c .before .enum-told4 .given .1) (c .read-sum .ensures s meaning)
 
 returns-5 : tie.Need-returns-5
-unfolding kindOf wordOf lineTold toldBy
-returns-5 c = λ s seen. at-count 3 (c .before .before .before .pre .1) (c .before .enum-told5 .given .1) (λ ns. refl) s _ (c .read-relu .ensures s seen)
+unfolding kindOf wordOf lineYield yieldBy
+returns-5 c = λ s meaning. at-count 3 (c .before .before .before .pre .1) (c .before .enum-told5 .given .1) (λ ns. refl) s _ (c .read-relu .ensures s meaning)
 
 returns-6 : tie.Need-returns-6
-unfolding kindOf wordOf lineTold toldBy
-returns-6 c = λ s seen. at-count 4 (c .before .before .before .pre .1) (c .before .enum-told6 .given .1) (λ ns. refl) s _ (c .read-which .ensures s seen)
+unfolding kindOf wordOf lineYield yieldBy
+returns-6 c = λ s meaning. at-count 4 (c .before .before .before .pre .1) (c .before .enum-told6 .given .1) (λ ns. refl) s _ (c .read-which .ensures s meaning)
 
 returns-7 : tie.Need-returns-7
-unfolding kindOf wordOf lineTold toldBy
-returns-7 c = λ s seen. at-count 4 (c .before .before .before .pre .1) (c .before .enum-told7 .given .1) (λ ns. refl) s _ (c .read-max .ensures s seen)
+unfolding kindOf wordOf lineYield yieldBy
+returns-7 c = λ s meaning. at-count 4 (c .before .before .before .pre .1) (c .before .enum-told7 .given .1) (λ ns. refl) s _ (c .read-max .ensures s meaning)
 
 returns-8 : tie.Need-returns-8
-unfolding kindOf wordOf lineTold toldBy
-returns-8 c = λ s seen. at-count 3 (c .before .before .before .pre .1) (c .before .enum-told8 .given .1) (λ ns. refl) s _ (c .read-root .ensures s seen)
+unfolding kindOf wordOf lineYield yieldBy
+returns-8 c = λ s meaning. at-count 3 (c .before .before .before .pre .1) (c .before .enum-told8 .given .1) (λ ns. refl) s _ (c .read-root .ensures s meaning)
 
 pub read-ends-spec : {M : Type 1} → statement M
 read-ends-spec =

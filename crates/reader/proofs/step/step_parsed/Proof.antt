@@ -15,14 +15,14 @@ use Rattle.meaning.specs.Known.{Known}
 use Rattle.meaning.specs.Kept.{Keeps}
 use Rattle.text.specs.Word.{wordOf}
 use Rattle.text.specs.declared.Word.the-variants.{Span}
-use Rattle.rules.specs.Told.{toldOf, spanTold, madeSeen, lineWith}
+use Rattle.rules.specs.Yield.{yieldOf, spanYield, madeMeaning, lineWith}
 use Rattle.reader.specs.State.{stateOf}
 use Rattle.reader.specs.Size.{counted, added, Adds}
-use Rattle.reader.specs.Step.{toldBy, lineTold}
+use Rattle.reader.specs.Step.{yieldBy, lineYield}
 use Rattle.reader.proofs.Growth.{Held, Grows, few-grown, room, entry-counted, grown, left-by-entry}
 use Rattle.reader.proofs.Narrowing.{named, narrowed, named-counted, few-narrowed}
 use Rattle.reader.proofs.Sizes.{count-is}
-use Rattle.reader.proofs.Steps.{seen-state, NotSpan, not-span, told-by-word, grows-by-word, span-word, name-counted}
+use Rattle.reader.proofs.Steps.{meaning-state, NotSpan, not-span, yield-by-word, grows-by-word, span-word, name-counted}
 use borrow.Author.Needs.{needs}
 use Rattle.reader.proofs.step.step_parsed.Statement.{statement}
 use Rattle.reader.proofs.step.step_parsed.Tie as tie
@@ -42,22 +42,22 @@ module _ (c : tie.After-line-size) where
   abbrev numbers : List ℤ
   numbers = take (start .args .count) (now (start .args .numbers))
 
-  line-told : {s : Known} {places : List ℕ} → HeldHere s places → madeSeen (c .before .read-ends .result) ≡ lineTold s (lineWith (wordOf (start .args .word)) numbers)
-  line-told {s} held = c .before .read-ends .ensures s (seen-state held)
+  line-yield : {s : Known} {places : List ℕ} → HeldHere s places → madeMeaning (c .before .read-ends .result) ≡ lineYield s (lineWith (wordOf (start .args .word)) numbers)
+  line-yield {s} held = c .before .read-ends .ensures s (meaning-state held)
 
   -- a line that makes a value
   module _ (other : NotSpan (wordOf (start .args .word))) where
-    told : {s : Known} {places : List ℕ} → HeldHere s places → madeSeen (c .before .read-ends .result) ≡ toldOf s (lineWith (wordOf (start .args .word)) numbers)
-    told {s} held = line-told held ∙ told-by-word s (wordOf (start .args .word)) numbers other
+    yields : {s : Known} {places : List ℕ} → HeldHere s places → madeMeaning (c .before .read-ends .result) ≡ yieldOf s (lineWith (wordOf (start .args .word)) numbers)
+    yields {s} held = line-yield held ∙ yield-by-word s (wordOf (start .args .word)) numbers other
 
     grows : (s : Known) → Keeps 1 s (lineWith (wordOf (start .args .word)) numbers) → Grows s (lineWith (wordOf (start .args .word)) numbers) (c .line-size .result)
     grows s kept = grows-by-word s (c .line-size .result) (wordOf (start .args .word)) numbers other kept (c .line-size .ensures .0 1 (start .args .count) s (start .pre .2 .counted) kept)
 
   -- a span line, and the value that it names
   module _ (span-is : start .args .word ≡ Span) (at : ℕ) (at-is : pos 0 ≤ℤ getD (now (start .args .numbers)) 0 (pos 0) → at ≡ natAbs (getD (now (start .args .numbers)) 0 (pos 0))) where
-    told-span : {s : Known} {places : List ℕ} → HeldHere s places → madeSeen (c .before .read-ends .result) ≡ spanTold s (lineWith span numbers)
-    unfolding toldBy lineTold
-    told-span held = rw (span-word span-is) at (line-told held)
+    yield-span : {s : Known} {places : List ℕ} → HeldHere s places → madeMeaning (c .before .read-ends .result) ≡ spanYield s (lineWith span numbers)
+    unfolding yieldBy lineYield
+    yield-span held = rw (span-word span-is) at (line-yield held)
 
     adds : (s : Known) → Keeps 1 s (lineWith span numbers) → Adds s (lineWith span numbers) (c .line-size .result)
     adds s = rw (span-word span-is) at (c .line-size .ensures .0 1 (start .args .count) s (start .pre .2 .counted))
@@ -72,7 +72,7 @@ enter-requires : tie.Need-enter-requires
 enter-requires c κs =
     let at-size = c .before .before .before in
     let before = held at-size _ [] refl in
-    (start at-size .pre .1, at-size .line-size .ensures .1, room before _ _ (told at-size (not-span _ (c .before .before .match .keys2)) before))
+    (start at-size .pre .1, at-size .line-size .ensures .1, room before _ _ (yields at-size (not-span _ (c .before .before .match .keys2)) before))
 
 returns : tie.Need-returns
 unfolding counted added
@@ -81,11 +81,11 @@ returns c =
     let size = at-size .line-size .result in
     let other = not-span _ (c .before .before .before .before .before .match .keys2) in
     let before = held at-size _ [] refl in
-    let counted-in = entry-counted before _ size (grows at-size other _) _ (told at-size other before) in
+    let counted-in = entry-counted before _ size (grows at-size other _) _ (yields at-size other before) in
     let entered = c .before .before .enter .ensures in (
-      λ s places long is. let here = held at-size s places is in rw (entered .0, entered .1, entered .2) (grown here _ size (grows at-size other s) _ (told at-size other here) long),
+      λ s places long is. let here = held at-size s places is in rw (entered .0, entered .1, entered .2) (grown here _ size (grows at-size other s) _ (yields at-size other here) long),
       (
-        rw (entered .0) (few-grown before _ size (grows at-size other _) _ (told at-size other before)),
+        rw (entered .0) (few-grown before _ size (grows at-size other _) _ (yields at-size other before)),
         left-by-entry _ _ _ _ _ counted-in (entered .0) (entered .1),
         left-by-entry _ _ _ _ _ counted-in (entered .0) (entered .2),
       ),
@@ -105,7 +105,7 @@ enter-requires-2 c κs =
     let at-size = at-natural .before .before .before .before in
     let span-is = at-natural .before .before .enum-told .given .1 in
     let before = held at-size _ [] refl in
-    let within = named before _ _ (names at-size span-is _ (at-is at-natural) _) _ (told-span at-size span-is _ (at-is at-natural) before) in
+    let within = named before _ _ (names at-size span-is _ (at-is at-natural) _) _ (yield-span at-size span-is _ (at-is at-natural) before) in
     (start at-size .pre .1, at-size .line-size .ensures .1, λ low high q. omega (arith, within low high q, start at-size .pre .1 .values-most))
 
 returns-2 : tie.Need-returns-2
@@ -118,13 +118,13 @@ returns-2 c =
     let named-at = names at-size span-is _ (at-is at-natural) in
     let adds-so = adds at-size span-is _ (at-is at-natural) in
     let before = held at-size _ [] refl in
-    let told-before = told-span at-size span-is _ (at-is at-natural) before in
-    let counted-in = named-counted before _ _ (named-at _) size (adds-so _) _ told-before in
+    let yield-before = yield-span at-size span-is _ (at-is at-natural) before in
+    let counted-in = named-counted before _ _ (named-at _) size (adds-so _) _ yield-before in
     let entered = c .before .before .enter2 .ensures in (
       λ s places long is. let here = held at-size s places is in
-          rw (span-word span-is, entered .0, entered .1, entered .2) (narrowed here _ _ (named-at s) size (adds-so s) _ (told-span at-size span-is _ (at-is at-natural) here)),
+          rw (span-word span-is, entered .0, entered .1, entered .2) (narrowed here _ _ (named-at s) size (adds-so s) _ (yield-span at-size span-is _ (at-is at-natural) here)),
       (
-        rw (entered .0) (few-narrowed before _ _ (named-at _) size (adds-so _) _ told-before),
+        rw (entered .0) (few-narrowed before _ _ (named-at _) size (adds-so _) _ yield-before),
         left-by-entry _ _ _ _ _ counted-in (entered .0) (entered .1),
         left-by-entry _ _ _ _ _ counted-in (entered .0) (entered .2),
       ),

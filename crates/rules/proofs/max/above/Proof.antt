@@ -6,13 +6,13 @@ use Rattle.meaning.specs.Known.{Ends, ends, larger, smaller, apart, above}
 use Rattle.number.specs.Bounded.{Bounded}
 use Rattle.number.proofs.Bounded.{larger-bounded, smaller-bounded}
 use Rattle.rules.specs.Ready.{greatestApart}
-use Rattle.rules.specs.Rule.{endsSeen}
+use Rattle.rules.specs.Rule.{endsMeaning}
 use borrow.Author.Needs.{needs}
 use Rattle.rules.proofs.max.above.Statement.{statement}
 use Rattle.rules.proofs.max.above.Tie as tie
 
 returns : tie.Need-returns
-unfolding endsSeen apart above
+unfolding endsMeaning apart above
 returns c =
     let between = c .before .before .apart .ensures in
     let small = c .before .smaller .ensures in

@@ -6,18 +6,18 @@ use lib.IntN.{pos}
 use borrow.Author.Tests.{not-true, not-false}
 use mathlib.Core.Bool.{and-false}
 use Rattle.meaning.specs.Known.{Ends, digitRule, above}
-use Rattle.rules.specs.Told.{makes, madeSeen}
-use Rattle.rules.specs.Rule.{endsSeen}
+use Rattle.rules.specs.Yield.{makes, madeMeaning}
+use Rattle.rules.specs.Rule.{endsMeaning}
 use Rattle.rules.proofs.Digits.{Power, power-above, power-within, rule-above, rule-within}
 use borrow.Author.Needs.{needs}
 use Rattle.rules.proofs.max.max_ends.Statement.{statement}
 use Rattle.rules.proofs.max.max_ends.Tie as tie
 
 returns : tie.Need-returns
-unfolding madeSeen
+unfolding madeMeaning
 returns c =
     let a = c .before .before .before .args in
-    rw (rule-above (a .p) (a .b) (a .k) (above (endsSeen (a .u)) (endsSeen (a .v))) (pos 0) (power-above _ _ _ (c .before .before .capped-power .ensures) (c .enum-told .given .1)))
+    rw (rule-above (a .p) (a .b) (a .k) (above (endsMeaning (a .u)) (endsMeaning (a .v))) (pos 0) (power-above _ _ _ (c .before .before .capped-power .ensures) (c .enum-told .given .1)))
 
 power : (c : tie.After-known-told) → let a = c .before .before .before .before .args in Power (a .p) (a .b) (a .k) (c .before .c .given .0 .0)
 power c = power-within _ _ _ (c .before .before .before .capped-power .ensures) (c .before .before .before .before .pre .1) (c .before .c .given .1)
@@ -30,11 +30,11 @@ is-narrow-requires c κs =
 -- the rule over y - u
 first : (c : tie.After-is-narrow)
     → let a = c .before .before .before .before .before .before .args in
-    digitRule (a .p) (a .b) (a .k) (above (endsSeen (a .u)) (endsSeen (a .v))) (pos 0) ≡ c .is-narrow .result
+    digitRule (a .p) (a .b) (a .k) (above (endsMeaning (a .u)) (endsMeaning (a .v))) (pos 0) ≡ c .is-narrow .result
 first c = rule-within _ _ _ _ _ (power (c .before .before)) ∙ rw (← c .before .above .ensures .1) (sym (c .is-narrow .ensures))
 
 returns-2 : tie.Need-returns-2
-unfolding madeSeen
+unfolding madeMeaning
 returns-2 c = rw (first (c .before), not-true (c .before .is-narrow .result) (c .if1 .taken))
 
 is-narrow-requires-2 : tie.Need-is-narrow-requires-2
@@ -46,11 +46,11 @@ is-narrow-requires-2 c κs =
 -- and over y - v
 second : (c : tie.After-is-narrow2)
     → let a = c .before .before .before .before .before .before .before .before .before .args in
-    digitRule (a .p) (a .b) (a .k) (above (endsSeen (a .v)) (endsSeen (a .u))) (pos 0) ≡ c .is-narrow2 .result
+    digitRule (a .p) (a .b) (a .k) (above (endsMeaning (a .v)) (endsMeaning (a .u))) (pos 0) ≡ c .is-narrow2 .result
 second c = rule-within _ _ _ _ _ (power (c .before .before .before .before .before)) ∙ rw (← c .before .above2 .ensures .1) (sym (c .is-narrow2 .ensures))
 
 returns-3 : tie.Need-returns-3
-unfolding madeSeen
+unfolding madeMeaning
 returns-3 c = rw (second (c .before), not-true (c .before .is-narrow2 .result) (c .if2 .taken), and-false)
 
 returns-4 : tie.Need-returns-4

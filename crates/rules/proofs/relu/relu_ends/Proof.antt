@@ -3,8 +3,8 @@ use mathlib.Core.Path.{_∙_, ap}
 use mathlib.Core.List.{[], _∷_}
 use borrow.Author.Tests.{not-true, not-false}
 use Rattle.meaning.specs.Known.{Ends}
-use Rattle.rules.specs.Told.{makes, madeSeen}
-use Rattle.rules.specs.Rule.{endsSeen}
+use Rattle.rules.specs.Yield.{makes, madeMeaning}
+use Rattle.rules.specs.Rule.{endsMeaning}
 use Rattle.rules.proofs.Values.{sized-more}
 use borrow.Author.Needs.{needs}
 use Rattle.rules.proofs.relu.relu_ends.Statement.{statement}
@@ -14,11 +14,11 @@ sign-rule-requires : tie.Need-sign-rule-requires
 sign-rule-requires c κs = (c .pre .0, c .pre .1, c .pre .2, sized-more (c .pre .3))
 
 returns : tie.Need-returns
-unfolding madeSeen
+unfolding madeMeaning
 returns c = rw (← c .before .sign-rule .ensures, not-true (c .before .sign-rule .result) (c .if1 .taken))
 
 returns-2 : tie.Need-returns-2
-unfolding endsSeen
+unfolding endsMeaning
 returns-2 c =
     let at-if1 = c .before .before in
     rw (← at-if1 .before .sign-rule .ensures, not-false (at-if1 .before .sign-rule .result) (at-if1 .if1 .left)) (c .made-of .ensures ∙ ap (λ (e : Ends). makes (e ∷ [])) (c .before .greater .ensures))

@@ -6,14 +6,14 @@ use native.Mathlib.Nat.{mul-le-mul}
 use Rattle.meaning.specs.Number.{half}
 use Rattle.number.proofs.Word.{small}
 use Rattle.rules.specs.Ready.{greatest}
-use Rattle.rules.specs.Told.{madeSeen}
+use Rattle.rules.specs.Yield.{madeMeaning}
 use Rattle.rules.proofs.Digits.{Power, power-above, power-within, root-low, root-wide, root-above, root-kept}
 use borrow.Author.Needs.{needs}
 use Rattle.rules.proofs.root.root_ends.Statement.{statement}
 use Rattle.rules.proofs.root.root_ends.Tie as tie
 
 returns : tie.Need-returns
-unfolding madeSeen
+unfolding madeMeaning
 returns c =
     let start = c .before .before .before in
     let a = start .args in
@@ -23,7 +23,7 @@ power : (c : tie.After-known-told) → let a = c .before .before .before .before
 power c = power-within _ _ _ (c .before .before .before .capped-power .ensures) (c .before .before .before .before .pre .1) (c .before .c .given .1)
 
 returns-2 : tie.Need-returns-2
-unfolding madeSeen
+unfolding madeMeaning
 returns-2 c =
     let a = c .before .before .before .before .before .args in
     rw (← power (c .before) .power) (sym (root-low (a .p) (c .before .before .c .given .0 .0) (c .if1 .taken)))
@@ -36,7 +36,7 @@ mul-if2 c =
     record { fits = omega arith }
 
 returns-3 : tie.Need-returns-3
-unfolding madeSeen half
+unfolding madeMeaning half
 returns-3 c =
     let a = c .before .before .before .before .before .before .args in
     rw (← power (c .before .before) .power) (sym (root-wide (a .p) (c .before .before .before .c .given .0 .0) (c .if2 .taken)))
@@ -47,7 +47,7 @@ cast-t12 c =
     record { sfits = omega (arith, c .before .before .before .before .before .before .pre .0 .most) }
 
 returns-4 : tie.Need-returns-4
-unfolding madeSeen half
+unfolding madeMeaning half
 returns-4 c =
     let start = c .before .before .before .before .before .before in
     let x : ℕ = c .before .before .before .c .given .0 .0 in

@@ -1,7 +1,7 @@
 -- The ends are small, so their differences fit.
 use Rattle.meaning.specs.Known.{apart}
 use Rattle.number.proofs.Bounded.{bounded-difference, difference-fits}
-use Rattle.rules.specs.Rule.{endsSeen}
+use Rattle.rules.specs.Rule.{endsMeaning}
 use Rattle.rules.proofs.rule.apart.Statement.{statement}
 use Rattle.rules.proofs.rule.apart.Tie as tie
 
@@ -14,7 +14,7 @@ whole-difference-requires-2 c κs =
     difference-fits (S .args .u .high .0) (S .args .v .low .0) (S .pre .0 .high-sized) (S .pre .1 .low-sized) tt
 
 returns : tie.Need-returns
-unfolding endsSeen apart
+unfolding endsMeaning apart
 returns c =
     let S = c .before .before in
     let low = c .before .whole-difference .ensures in

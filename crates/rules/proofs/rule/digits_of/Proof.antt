@@ -7,7 +7,7 @@ use lib.IntN.{pos}
 use lib.Signed.{leZ, pos-natAbs}
 use Rattle.meaning.specs.Refusal.{isDigits, mostDigits}
 use Rattle.number.proofs.Word.{back}
-use Rattle.rules.specs.Rule.{digitsAllowed, digitsSeen}
+use Rattle.rules.specs.Rule.{digitsAllowed, digitsMeaning}
 use Rattle.rules.proofs.Tests.{less, not-less, counts-below}
 use Rattle.rules.proofs.Digits.{digits-allowed}
 use Rattle.rules.proofs.rule.digits_of.Statement.{statement}
@@ -32,17 +32,17 @@ all-passed c =
     )
 
 returns : tie.Need-returns
-unfolding digitsAllowed digitsSeen isDigits
+unfolding digitsAllowed digitsMeaning isDigits
 returns c = let start = c .before in rw (less (start .args .b) (pos 2) (rw (back (start .fits .b)) at (c .if1 .taken)))
 
 returns-2 : tie.Need-returns-2
-unfolding digitsAllowed digitsSeen isDigits
+unfolding digitsAllowed digitsMeaning isDigits
 returns-2 c =
     let start = c .before .before in
     rw (base-two (c .before), less (start .args .k) (pos 1) (rw (back (start .fits .k)) at (c .if2 .taken)))
 
 returns-3 : tie.Need-returns-3
-unfolding digitsAllowed digitsSeen isDigits
+unfolding digitsAllowed digitsMeaning isDigits
 returns-3 c =
     let start = c .before .before .before in
     rw (base-two (c .before .before), count-one (c .before), less (pos mostDigits) (start .args .k) (rw (back (start .fits .k)) at (c .if3 .taken)))
@@ -66,7 +66,7 @@ cast-t5 c =
     rw (back (start .fits .k)) (allowed .count-counts, record { fits = omega arith })
 
 returns-4 : tie.Need-returns-4
-unfolding digitsAllowed digitsSeen
+unfolding digitsAllowed digitsMeaning
 returns-4 c =
     let start = c .before .before .before in
     let allowed = digits-allowed (start .args .b) (start .args .k) (all-passed c) in

@@ -1,11 +1,11 @@
 -- The larger of each two ends.
-use Rattle.rules.specs.Rule.{endsSeen}
+use Rattle.rules.specs.Rule.{endsMeaning}
 use borrow.Author.Needs.{needs}
 use Rattle.rules.proofs.rule.greater.Statement.{statement}
 use Rattle.rules.proofs.rule.greater.Tie as tie
 
 returns : tie.Need-returns
-unfolding endsSeen
+unfolding endsMeaning
 returns c = rw (c .before .larger .ensures, c .larger2 .ensures)
 
 pub greater-spec : {M : Type 1} → statement M

@@ -9,7 +9,7 @@ use Rattle.number.specs.Bounded.{Bounded}
 use Rattle.number.proofs.Word.{back, small}
 use Rattle.number.proofs.Bounded.{bounded-sum, sum-fits, difference-fits}
 use Rattle.rules.specs.Ready.{greatest}
-use Rattle.rules.specs.Rule.{endsSeen}
+use Rattle.rules.specs.Rule.{endsMeaning}
 use Rattle.rules.proofs.Tests.{less, not-less}
 use borrow.Author.Needs.{needs}
 use Rattle.rules.proofs.rule.is_narrow.Statement.{statement}
@@ -38,7 +38,7 @@ above-is c =
     back (sub-above c) ∙ rw (back f, back (start .fits .shift))
 
 returns : tie.Need-returns
-unfolding endsSeen
+unfolding endsMeaning
 returns c =
     let start = c .before .before .before in
     let a = start .args in
@@ -66,7 +66,7 @@ sub-below c =
     rw (top-is (c .before .before), back f) (difference-fits (a .shift +ℤ pos (a .c - 1)) (a .e .low .0) top (start .pre .3 .low-sized) tt)
 
 returns-2 : tie.Need-returns-2
-unfolding endsSeen
+unfolding endsMeaning
 returns-2 c =
     let start = c .before .before .before .before .before in
     let a = start .args in

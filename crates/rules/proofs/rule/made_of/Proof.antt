@@ -2,14 +2,14 @@
 use mir.Syntax.{w64}
 use mir.Val.{SFits}
 use Rattle.number.proofs.Word.{back}
-use Rattle.rules.specs.Told.{madeSeen}
-use Rattle.rules.specs.Rule.{endsSeen}
+use Rattle.rules.specs.Yield.{madeMeaning}
+use Rattle.rules.specs.Rule.{endsMeaning}
 use borrow.Author.Needs.{needs}
 use Rattle.rules.proofs.rule.made_of.Statement.{statement}
 use Rattle.rules.proofs.rule.made_of.Tie as tie
 
 returns : tie.Need-returns
-unfolding madeSeen endsSeen
+unfolding madeMeaning endsMeaning
 returns c =
     let e = c .before .args .e in
     let f : SFits w64 (e .low .0) = search needs in

@@ -11,7 +11,7 @@ use Rattle.number.specs.Bounded.{Bounded}
 use Rattle.number.proofs.Word.{back, small}
 use Rattle.number.proofs.Bounded.{bounded-negation, bounded-fits}
 use Rattle.rules.specs.Ready.{greatest}
-use Rattle.rules.specs.Rule.{endsSeen}
+use Rattle.rules.specs.Rule.{endsMeaning}
 use Rattle.rules.proofs.Digits.{Power, power-above, power-within, rule-above, rule-within, step-above, part-power, part-within, part-less, top-part, part-fits}
 use borrow.Author.Needs.{needs}
 use Rattle.rules.proofs.rule.sign_rule.Statement.{statement}
@@ -22,7 +22,7 @@ returns c =
     let start = c .before .before .before in
     let a = start .args in
     let above = power-above (a .p) (a .b) (a .k - 1) (c .before .before .capped-power .ensures) (c .enum-told .given .1) in
-    sym (rule-above (a .p) (a .b) (a .k) (endsSeen (a .e)) (signShift (a .b) (a .k)) (step-above (a .p) (a .b) (a .k) (start .pre .1) above))
+    sym (rule-above (a .p) (a .b) (a .k) (endsMeaning (a .e)) (signShift (a .b) (a .k)) (step-above (a .p) (a .b) (a .k) (start .pre .1) above))
 
 part : (c : tie.After-known-told) → let a = c .before .before .before .before .args in Power (a .p) (a .b) (a .k - 1) (c .before .part .given .0 .0)
 part c = power-within _ _ _ (c .before .before .before .capped-power .ensures) (c .before .before .before .before .pre .1) (c .before .part .given .1)
@@ -36,7 +36,7 @@ returns-2 : tie.Need-returns-2
 returns-2 c =
     let start = c .before .before .before .before .before in
     let a = start .args in
-    sym (rule-above (a .p) (a .b) (a .k) (endsSeen (a .e)) (signShift (a .b) (a .k))
+    sym (rule-above (a .p) (a .b) (a .k) (endsMeaning (a .e)) (signShift (a .b) (a .k))
     (rw (part-power (start .pre .1) (start .pre .2) (part (c .before))) at (c .if1 .taken)))
 
 sub-top : tie.Need-sub-top

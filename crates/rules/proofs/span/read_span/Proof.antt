@@ -7,8 +7,8 @@ use mir.Syntax.{w64}
 use mir.Val.{SFits}
 use Rattle.meaning.specs.Gadget.Span.{spanLine}
 use Rattle.number.proofs.Word.{back}
-use Rattle.rules.specs.Told.{madeSeen}
-use Rattle.rules.specs.Rule.{sharedTold}
+use Rattle.rules.specs.Yield.{madeMeaning}
+use Rattle.rules.specs.Rule.{sharedYield}
 use Rattle.rules.proofs.Values.{read-sized, ready-field, ready-lows, ready-highs, ends-known}
 use Rattle.rules.proofs.Rules.{late}
 use Rattle.rules.proofs.DigitLines.{BegunBy, Begins, spanLayout, begins, span-stop, span-late}
@@ -16,12 +16,12 @@ use borrow.Author.Needs.{needs}
 use Rattle.rules.proofs.span.read_span.Statement.{statement}
 use Rattle.rules.proofs.span.read_span.Tie as tie
 
-told-begun : (c : tie.After-begin-line) → let a = c .before .before .before .args in BegunBy spanLayout (a .p) (a .values) (a .cells) (a .numbers .now) (c .begin-line .result)
-told-begun c = record { answer = rw (← c .before .is-made .ensures, ← c .before .before .is-ranged .ensures) (c .begin-line .ensures) }
+yield-begun : (c : tie.After-begin-line) → let a = c .before .before .before .args in BegunBy spanLayout (a .p) (a .values) (a .cells) (a .numbers .now) (c .begin-line .result)
+yield-begun c = record { answer = rw (← c .before .is-made .ensures, ← c .before .before .is-ranged .ensures) (c .begin-line .ensures) }
 
 well : (c : tie.After-known-told2)
     → let a = c .before .before .before .before .before .before .args in Begins spanLayout (a .values) (a .numbers .now) (c .before .begun2 .given .0 .0) (c .before .begun2 .given .0 .1 .0)
-well c = begins (told-begun (c .before .before .before)) (c .before .begun2 .given .1)
+well c = begins (yield-begun (c .before .before .before)) (c .before .begun2 .given .1)
 
 ends-named-requires : tie.Need-ends-named-requires
 ends-named-requires c κs =
@@ -36,20 +36,20 @@ span-ends-requires c κs =
     rw (back f) (ready-field (start .pre .0), w .base-one, read-sized (start .pre .0) (w .are-made) (c .before .ends-named .ensures), record { size = start .pre .2 3 (omega arith) })
 
 returns : tie.Need-returns
-unfolding madeSeen
+unfolding madeMeaning
 returns c =
     let at-begun = c .before .before .before in
-    λ s seen. span-stop (told-begun at-begun) (at-begun .before .before .before .pre .0) seen (c .before .begun .given .1)
+    λ s meaning. span-stop (yield-begun at-begun) (at-begun .before .before .before .pre .0) meaning (c .before .begun .given .1)
 
 returns-2 : tie.Need-returns-2
-unfolding late spanLine sharedTold
+unfolding late spanLine sharedYield
 returns-2 c =
     let at-begun = c .before .before .before .before .before .before in
     let start = at-begun .before .before .before in
     let f : SFits w64 (getD (start .args .numbers .now) 3 (pos 0)) = search needs in
-    λ s seen. (rw (back f) at (c .span-ends .ensures))
-    ∙ sym (span-late (told-begun at-begun) (start .pre .0) seen (c .before .before .before .before .begun2 .given .1)
-    ∙ rw (ends-known (start .pre .0) seen (well (c .before .before .before) .are-made) (c .before .before .ends-named .ensures), seen .prime))
+    λ s meaning. (rw (back f) at (c .span-ends .ensures))
+    ∙ sym (span-late (yield-begun at-begun) (start .pre .0) meaning (c .before .before .before .before .begun2 .given .1)
+    ∙ rw (ends-known (start .pre .0) meaning (well (c .before .before .before) .are-made) (c .before .before .ends-named .ensures), meaning .prime))
 
 pub read-span-spec : {M : Type 1} → statement M
 read-span-spec =

@@ -9,8 +9,8 @@ use Rattle.number.specs.Bounded.{Bounded}
 use Rattle.number.proofs.Word.{back, small}
 use Rattle.number.proofs.Bounded.{sum-fits}
 use Rattle.rules.specs.Ready.{greatest}
-use Rattle.rules.specs.Told.{madeSeen}
-use Rattle.rules.specs.Rule.{sharedTold}
+use Rattle.rules.specs.Yield.{madeMeaning}
+use Rattle.rules.specs.Rule.{sharedYield}
 use Rattle.rules.proofs.Tests.{less, not-less}
 use borrow.Author.Needs.{needs}
 use Rattle.rules.proofs.span.shared_ends.Statement.{statement}
@@ -34,7 +34,7 @@ module _ (c : tie.After-smaller) where
   high-is = rw (back (add-top start), back (start .fits .shift), small (start .args .last) (omega (arith, start .pre .0))) at (c .smaller .ensures)
 
 returns : tie.Need-returns
-unfolding madeSeen sharedTold
+unfolding madeMeaning sharedYield
 returns c =
     let at-smaller = c .before .before .before .before .before in
     let low = at-smaller .before .larger .result .0 in
@@ -44,7 +44,7 @@ returns c =
     rw (← low-is at-smaller, ← high-is at-smaller, less high low (rw (back f, back g) at (c .if1 .taken)))
 
 returns-2 : tie.Need-returns-2
-unfolding madeSeen sharedTold
+unfolding madeMeaning sharedYield
 returns-2 c =
     let at-if1 = c .before .before in
     let at-smaller = at-if1 .before .before .before .before .before in

@@ -5,8 +5,8 @@ use borrow.Author.Tests.{not-true, not-false}
 use Rattle.meaning.specs.Known.{digitRule}
 use Rattle.meaning.specs.Gadget.Span.{spanTop, shared}
 use Rattle.number.proofs.Word.{back}
-use Rattle.rules.specs.Told.{madeSeen}
-use Rattle.rules.specs.Rule.{endsSeen}
+use Rattle.rules.specs.Yield.{madeMeaning}
+use Rattle.rules.specs.Rule.{endsMeaning}
 use Rattle.rules.proofs.Values.{sized-more}
 use Rattle.rules.proofs.Digits.{Power, power-above, power-within, rule-above, rule-within}
 use borrow.Author.Needs.{needs}
@@ -14,10 +14,10 @@ use Rattle.rules.proofs.span.span_ends.Statement.{statement}
 use Rattle.rules.proofs.span.span_ends.Tie as tie
 
 returns : tie.Need-returns
-unfolding madeSeen
+unfolding madeMeaning
 returns c =
     let a = c .before .before .before .args in
-    rw (rule-above (a .p) (a .b) (a .k) (endsSeen (a .old)) (a .shift) (power-above _ _ _ (c .before .before .capped-power .ensures) (c .enum-told .given .1)))
+    rw (rule-above (a .p) (a .b) (a .k) (endsMeaning (a .old)) (a .shift) (power-above _ _ _ (c .before .before .capped-power .ensures) (c .enum-told .given .1)))
 
 power : (c : tie.After-known-told) → let a = c .before .before .before .before .args in Power (a .p) (a .b) (a .k) (c .before .c .given .0 .0)
 power c = power-within _ _ _ (c .before .before .before .capped-power .ensures) (c .before .before .before .before .pre .1) (c .before .c .given .1)
@@ -29,12 +29,12 @@ is-narrow-requires c κs =
     rw (back (start .fits .shift)) (start .pre .0, r .positive, r .within, sized-more (start .pre .2), start .pre .3)
 
 rule-is : (c : tie.After-is-narrow)
-    → let a = c .before .before .before .before .before .args in digitRule (a .p) (a .b) (a .k) (endsSeen (a .old)) (a .shift)
+    → let a = c .before .before .before .before .before .args in digitRule (a .p) (a .b) (a .k) (endsMeaning (a .old)) (a .shift)
     ≡ c .is-narrow .result
 rule-is c = rule-within _ _ _ _ _ (power (c .before)) ∙ sym (rw (back (c .before .before .before .before .before .fits .shift)) at (c .is-narrow .ensures))
 
 returns-2 : tie.Need-returns-2
-unfolding madeSeen
+unfolding madeMeaning
 returns-2 c = rw (rule-is (c .before), not-true (c .before .is-narrow .result) (c .if1 .taken))
 
 sub-last : tie.Need-sub-last
@@ -47,7 +47,7 @@ shared-ends-requires c κs =
     rw (back (start .fits .shift)) (omega (arith, start .pre .0 .most), start .pre .3)
 
 returns-3 : tie.Need-returns-3
-unfolding shared spanTop endsSeen
+unfolding shared spanTop endsMeaning
 returns-3 c =
     let start = c .before .before .before .before .before .before .before in
     let at-is-narrow = c .before .before in

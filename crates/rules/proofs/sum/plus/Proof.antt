@@ -1,7 +1,7 @@
 -- The ends are small enough for their sums to fit.
 use Rattle.meaning.specs.Gadget.Sum.{added}
 use Rattle.number.proofs.Bounded.{sum-fits}
-use Rattle.rules.specs.Rule.{endsSeen}
+use Rattle.rules.specs.Rule.{endsMeaning}
 use Rattle.rules.proofs.sum.plus.Statement.{statement}
 use Rattle.rules.proofs.sum.plus.Tie as tie
 
@@ -14,7 +14,7 @@ whole-sum-requires-2 c κs =
     sum-fits (S .args .a .high .0) (S .args .b .high .0) (S .pre .0 .high-sized) (S .pre .1 .high-sized) tt
 
 returns : tie.Need-returns
-unfolding endsSeen added
+unfolding endsMeaning added
 returns c = rw (c .before .whole-sum .ensures, c .whole-sum2 .ensures)
 
 pub plus-spec : {M : Type 1} → statement M

@@ -10,7 +10,7 @@ use borrow.Author.Tests.{not-true, not-false}
 use Rattle.meaning.specs.Word.{alternate}
 use Rattle.meaning.specs.Number.{inRange}
 use Rattle.meaning.specs.Refusal.{all, isMade}
-use Rattle.rules.specs.Told.{madeSeen}
+use Rattle.rules.specs.Yield.{madeMeaning}
 use Rattle.rules.specs.Rule.{earlyBroken}
 use Rattle.rules.proofs.Rules.{early-named}
 use Rattle.rules.proofs.SumLine.{all-first, sum-6, sum-early, sum-late}
@@ -24,10 +24,10 @@ coefficients-ranged-requires : tie.Need-coefficients-ranged-requires
 coefficients-ranged-requires c κs = (c .pre .1, c .pre .2, some c, c .pre .0 .p-low)
 
 returns : tie.Need-returns
-unfolding madeSeen
+unfolding madeMeaning
 returns c =
     let start = c .before .before in
-    λ s seen. sym (sum-6 (start .pre .0) seen (start .args .numbers .now) (start .args .count) (some start)
+    λ s meaning. sym (sum-6 (start .pre .0) meaning (start .args .numbers .now) (start .args .count) (some start)
     (sym (c .before .coefficients-ranged .ensures) ∙ not-true (c .before .coefficients-ranged .result) (c .if1 .taken)))
 
 ranged : (c : tie.Else1)
@@ -49,11 +49,11 @@ early : (c : tie.After-early-broken)
 early c = rw (← c .before .names-made .ensures) (c .early-broken .ensures)
 
 returns-2 : tie.Need-returns-2
-unfolding madeSeen
+unfolding madeMeaning
 returns-2 c =
     let at-if1 = c .before .before .before in
     let start = at-if1 .before .before in
-    λ s seen. sym (sum-early (start .pre .0) seen (start .args .numbers .now) (start .args .count) (some start) (ranged at-if1)
+    λ s meaning. sym (sum-early (start .pre .0) meaning (start .args .numbers .now) (start .args .count) (some start) (ranged at-if1)
     (early (c .before)) (c .if2 .taken))
 
 sum-ends-requires : tie.Need-sum-ends-requires
@@ -76,8 +76,8 @@ returns-3 c =
     let at-if2 = c .before in
     let at-if1 = at-if2 .before .before .before in
     let start = at-if1 .before .before in
-    λ s seen. c .sum-ends .ensures
-    ∙ sym (sum-late (start .pre .0) seen (start .args .numbers .now) (start .args .count) (some start) (ranged at-if1)
+    λ s meaning. c .sum-ends .ensures
+    ∙ sym (sum-late (start .pre .0) meaning (start .args .numbers .now) (start .args .count) (some start) (ranged at-if1)
     (early (at-if2 .before)) (at-if2 .if2 .left))
 
 pub read-sum-spec : {M : Type 1} → statement M

@@ -5,7 +5,7 @@ use Rattle.number.specs.Bounded.{Bounded}
 use Rattle.number.proofs.Word.{back}
 use Rattle.number.proofs.Bounded.{bounded-product, larger-bounded, smaller-bounded, product-fits}
 use Rattle.rules.specs.Ready.{greatestProduct}
-use Rattle.rules.specs.Rule.{endsSeen}
+use Rattle.rules.specs.Rule.{endsMeaning}
 use borrow.Author.Needs.{needs}
 use Rattle.rules.proofs.sum.scaled.Statement.{statement}
 use Rattle.rules.proofs.sum.scaled.Tie as tie
@@ -19,7 +19,7 @@ whole-product-requires-2 c κs =
     rw (back (S .fits .c)) (product-fits (S .args .c) (S .args .e .high .0) (S .pre .0) (S .pre .1 .high-sized) tt)
 
 returns : tie.Need-returns
-unfolding endsSeen scaled
+unfolding endsMeaning scaled
 returns c =
     let S = c .before .before .before .before in
     let one = rw (back (S .fits .c)) at (c .before .before .before .whole-product .ensures) in

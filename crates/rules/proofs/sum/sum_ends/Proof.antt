@@ -13,9 +13,9 @@ use Rattle.meaning.specs.Known.{ends}
 use Rattle.meaning.specs.Refusal.{all, isMade}
 use Rattle.meaning.specs.Gadget.Sum.{termsOf, scaled, added, endsInRange}
 use Rattle.number.proofs.Word.{back}
-use Rattle.rules.specs.Told.{madeSeen}
-use Rattle.rules.specs.Rule.{endsSeen}
-use Rattle.rules.specs.Sum.{endsAt, sumTold}
+use Rattle.rules.specs.Yield.{madeMeaning}
+use Rattle.rules.specs.Rule.{endsMeaning}
+use Rattle.rules.specs.Sum.{endsAt, sumYield}
 use Rattle.rules.proofs.Values.{read-sized, ready-lows, ready-highs}
 use Rattle.rules.proofs.SumLine.{all-here, read-at, sum-end, sum-next, sum-leaves, range-sized}
 use borrow.Author.Needs.{needs}
@@ -24,10 +24,10 @@ use Rattle.rules.proofs.sum.sum_ends.Tie as tie
 
 abbrev Inv-loop : tie.InvT-loop
 Inv-loop numbers count p values cells lows highs so-far₀ i₀ so-far i =
-    (i % 2 ≡ 1) × (i ≤ count) × (endsInRange p (endsSeen so-far) ≡ true)
+    (i % 2 ≡ 1) × (i ≤ count) × (endsInRange p (endsMeaning so-far) ≡ true)
     × (all (isMade values) (alternate (drop (i + 1) (take count numbers))) ≡ true)
-    × (sumTold p lows highs (ends (getD numbers 0 (pos 0)) (getD numbers 0 (pos 0))) (termsOf (drop 1 (take count numbers)))
-    ≡ sumTold p lows highs (endsSeen so-far) (termsOf (drop i (take count numbers))))
+    × (sumYield p lows highs (ends (getD numbers 0 (pos 0)) (getD numbers 0 (pos 0))) (termsOf (drop 1 (take count numbers)))
+    ≡ sumYield p lows highs (endsMeaning so-far) (termsOf (drop i (take count numbers))))
 
 abbrev μ-loop : tie.MeasureT-loop
 μ-loop numbers count p values cells lows highs so-far₀ i₀ so-far i = count - i
@@ -86,8 +86,8 @@ next : (c : tie.After-plus Inv-loop μ-loop)
     → let at-loop = c .before .before .before .before .before in
     let a = at-loop .before .before .args in
     let i = at-loop .loop .i in
-    endsSeen (c .plus .result)
-    ≡ added (endsSeen (at-loop .loop .so-far))
+    endsMeaning (c .plus .result)
+    ≡ added (endsMeaning (at-loop .loop .so-far))
     (scaled (getD (a .numbers .now) i (pos 0)) (endsAt (a .lows .now) (a .highs .now) (natAbs (getD (a .numbers .now) (i + 1) (pos 0)))))
 next c =
     let at-ends-named = c .before .before .before in
@@ -96,7 +96,7 @@ next c =
     c .plus .ensures ∙ rw (rw (back f) at (c .before .scaled .ensures .1), read-at (at-ends-named .ends-named .ensures))
 
 returns : tie.Need-returns Inv-loop μ-loop
-unfolding madeSeen
+unfolding madeMeaning
 returns c =
     let at-is-within = c .before in
     let at-plus = at-is-within .before in
@@ -104,7 +104,7 @@ returns c =
     let at-loop = at-test .before in
     let start = at-loop .before .before in
     let a = start .args in
-    sym (at-loop .loop .inv .4 ∙ sum-leaves (a .p) (a .lows .now) (a .highs .now) (a .numbers .now) (endsSeen (at-loop .loop .so-far))
+    sym (at-loop .loop .inv .4 ∙ sum-leaves (a .p) (a .lows .now) (a .highs .now) (a .numbers .now) (endsMeaning (at-loop .loop .so-far))
     (a .count) (at-loop .loop .i) (start .pre .1) (pair at-test)
     (next at-plus) (sym (at-is-within .is-within .ensures) ∙ not-true (at-is-within .is-within .result) (c .if1 .taken)))
 
@@ -122,7 +122,7 @@ loop-again c =
       omega (arith, pair at-test),
       within,
       rw place (made at-test .1),
-      at-loop .loop .inv .4 ∙ sum-next (a .p) (a .lows .now) (a .highs .now) (a .numbers .now) (endsSeen (at-loop .loop .so-far)) (a .count)
+      at-loop .loop .inv .4 ∙ sum-next (a .p) (a .lows .now) (a .highs .now) (a .numbers .now) (endsMeaning (at-loop .loop .so-far)) (a .count)
           (at-loop .loop .i) (start .pre .1) (pair at-test)
           (next at-plus) within,
     )
@@ -133,7 +133,7 @@ returns-2 c =
     let start = at-loop .before .before in
     let a = start .args in
     c .made-of .ensures
-    ∙ sym (at-loop .loop .inv .4 ∙ sum-end (a .p) (a .lows .now) (a .highs .now) (a .numbers .now) (endsSeen (at-loop .loop .so-far))
+    ∙ sym (at-loop .loop .inv .4 ∙ sum-end (a .p) (a .lows .now) (a .highs .now) (a .numbers .now) (endsMeaning (at-loop .loop .so-far))
     (a .count) (at-loop .loop .i) (start .pre .1) (c .before .loop-test .left))
 
 pub sum-ends-spec : {M : Type 1} → statement M

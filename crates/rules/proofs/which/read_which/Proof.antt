@@ -6,7 +6,7 @@ use lib.IntN.{pos}
 use lib.ListN.{getD}
 use Rattle.meaning.specs.Refusal.{isMade}
 use Rattle.meaning.specs.Gadget.Which.{whichLine}
-use Rattle.rules.specs.Told.{madeSeen}
+use Rattle.rules.specs.Yield.{madeMeaning}
 use Rattle.rules.proofs.Tests.{both-true}
 use Rattle.rules.proofs.Values.{read-sized, ready-field, ready-lows, ready-highs, ends-known}
 use Rattle.rules.proofs.Rules.{late}
@@ -15,12 +15,12 @@ use borrow.Author.Needs.{needs}
 use Rattle.rules.proofs.which.read_which.Statement.{statement}
 use Rattle.rules.proofs.which.read_which.Tie as tie
 
-told-begun : (c : tie.After-begin-line) → let a = c .before .before .args in BegunBy whichLayout (a .p) (a .values) (a .cells) (a .numbers .now) (c .begin-line .result)
-told-begun c = record { answer = rw (← c .before .are-made .ensures) (c .begin-line .ensures) }
+yield-begun : (c : tie.After-begin-line) → let a = c .before .before .args in BegunBy whichLayout (a .p) (a .values) (a .cells) (a .numbers .now) (c .begin-line .result)
+yield-begun c = record { answer = rw (← c .before .are-made .ensures) (c .begin-line .ensures) }
 
 well : (c : tie.After-known-told2)
     → let a = c .before .before .before .before .before .args in Begins whichLayout (a .values) (a .numbers .now) (c .before .begun2 .given .0 .0) (c .before .begun2 .given .0 .1 .0)
-well c = begins (told-begun (c .before .before .before)) (c .before .begun2 .given .1)
+well c = begins (yield-begun (c .before .before .before)) (c .before .begun2 .given .1)
 
 made : (c : tie.After-known-told2)
     → let a = c .before .before .before .before .before .args in
@@ -45,10 +45,10 @@ which-ends-requires c κs =
     (ready-field ready, w .base-one, w .count-one, read-sized ready (m .0) (c .before .ends-named .ensures), read-sized ready (m .1) (c .ends-named2 .ensures))
 
 returns : tie.Need-returns
-unfolding madeSeen
+unfolding madeMeaning
 returns c =
     let at-begun = c .before .before .before in
-    λ s seen. digits-stop (told-begun at-begun) which-shape (at-begun .before .before .pre .0) seen (c .before .begun .given .1)
+    λ s meaning. digits-stop (yield-begun at-begun) which-shape (at-begun .before .before .pre .0) meaning (c .before .begun .given .1)
 
 returns-2 : tie.Need-returns-2
 unfolding late whichLine
@@ -56,8 +56,8 @@ returns-2 c =
     let at-begun = c .before .before .before .before .before .before in
     let ready = at-begun .before .before .pre .0 in
     let m = made (c .before .before .before) in
-    λ s seen. c .which-ends .ensures ∙ sym (digits-late (told-begun at-begun) which-shape ready seen (c .before .before .before .before .begun2 .given .1)
-    ∙ rw (ends-known ready seen (m .0) (c .before .before .ends-named .ensures), ends-known ready seen (m .1) (c .before .ends-named2 .ensures), seen .prime))
+    λ s meaning. c .which-ends .ensures ∙ sym (digits-late (yield-begun at-begun) which-shape ready meaning (c .before .before .before .before .begun2 .given .1)
+    ∙ rw (ends-known ready meaning (m .0) (c .before .before .ends-named .ensures), ends-known ready meaning (m .1) (c .before .ends-named2 .ensures), meaning .prime))
 
 pub read-which-spec : {M : Type 1} → statement M
 read-which-spec =

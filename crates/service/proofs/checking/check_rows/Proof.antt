@@ -5,10 +5,10 @@ use lib.ListN.{length}
 use denote.Ref.{now}
 use borrow.Author.Needs.{needs}
 use Rattle.meaning.specs.Machine.{pastU64}
-use Rattle.service.specs.Reply.{replySeen}
+use Rattle.service.specs.Reply.{replyMeaning}
 use Rattle.service.proofs.Standing.{keeps-rules}
 use Rattle.service.proofs.Places.{placed-next}
-use Rattle.service.proofs.Checked.{Checking, checking-first, checking-end, checking-fails, checking-next, row-inside, row-fits, at-line, rows-asked}
+use Rattle.service.proofs.Checked.{Checking, checking-first, checking-end, checking-fails, checking-next, row-inside, row-fits, at-line, rows-given}
 use Rattle.service.proofs.checking.check_rows.Statement.{statement}
 use Rattle.service.proofs.checking.check_rows.Tie as tie
 
@@ -33,26 +33,26 @@ line-rows-requires c κs =
     let w = c .before .before .before .before .before .before .loop .inv in
     let inside = c .before .before .before .before .before .loop-test .taken in
     let took = c .before .before .before .take-line .ensures .0 (at-line w inside) in
-    rows-asked w inside took
+    rows-given w inside took
 
 add-t23 : tie.Need-add-t23 Inv-loop μ-loop
 add-t23 c =
     let w = c .before .before .before .before .before .before .before .before .before .before .before .loop .inv in
     let inside = c .before .before .before .before .before .before .before .before .before .before .loop-test .taken in
     let took = c .before .before .before .before .before .before .before .before .take-line .ensures .0 (at-line w inside) in
-    let told = c .before .before .before .before .line-rows .ensures (rows-asked w inside took) in
-    let row = row-inside w _ _ (took .left-is) _ told _ (c .before .before .rows .given .1) in
+    let yields = c .before .before .before .before .line-rows .ensures (rows-given w inside took) in
+    let row = row-inside w _ _ (took .left-is) _ yields _ (c .before .before .rows .given .1) in
     let small : c .before .before .before .before .before .before .before .before .before .before .before .loop .counts .rows + c .before .before .rows .given .0 .0 < pastU64 = row-fits w _ (keeps-rules took) row in
     search (needs, small)
 
 returns : tie.Need-returns Inv-loop μ-loop
-unfolding replySeen
+unfolding replyMeaning
 returns c =
     let w = c .before .before .before .before .before .before .before .before .before .before .before .loop .inv in
     let inside = c .before .before .before .before .before .before .before .before .before .before .loop-test .taken in
     let took = c .before .before .before .before .before .before .before .before .take-line .ensures .0 (at-line w inside) in
-    let told = c .before .before .before .before .line-rows .ensures (rows-asked w inside took) in
-    checking-fails w _ _ (took .left-is) _ told _ (c .before .before .rows .given .1)
+    let yields = c .before .before .before .before .line-rows .ensures (rows-given w inside took) in
+    checking-fails w _ _ (took .left-is) _ yields _ (c .before .before .rows .given .1)
 
 take-place-requires : tie.Need-take-place-requires Inv-loop μ-loop
 take-place-requires c κs =
@@ -66,13 +66,13 @@ loop-again c =
     let w = c .before .before .before .before .before .before .before .before .before .before .before .before .before .loop .inv in
     let inside = c .before .before .before .before .before .before .before .before .before .before .before .before .loop-test .taken in
     let took = c .before .before .before .before .before .before .before .before .before .before .take-line .ensures .0 (at-line w inside) in
-    let told = c .before .before .before .before .before .before .line-rows .ensures (rows-asked w inside took) in
+    let yields = c .before .before .before .before .before .before .line-rows .ensures (rows-given w inside took) in
     let placed = placed-next _ _ _ _ _ _ (w .stands .sound) (keeps-rules took) (w .placed) (w .stands .counted) (took .next .counted) (took .one-more)
     (took .next .few .values-most) in
-    checking-next w _ _ (took .left-is) _ told (c .before .before .before .before .enum-told .given .1) _ _ (took .next) (took .long) (rw (c .before .take-place .ensures) placed)
+    checking-next w _ _ (took .left-is) _ yields (c .before .before .before .before .enum-told .given .1) _ _ (took .next) (took .long) (rw (c .before .take-place .ensures) placed)
 
 returns-2 : tie.Need-returns-2 Inv-loop μ-loop
-unfolding replySeen
+unfolding replyMeaning
 returns-2 c = checking-end (c .before .loop .inv) (c .loop-test .left)
 
 pub check-rows-spec : {M : Type 1} → statement M

@@ -1,15 +1,15 @@
 -- `service::checking::check_table`: the length, then the cells, then the rows.
 use mathlib.Core.Path.{sym, _∙_}
 use denote.Ref.{now}
-use Rattle.service.specs.Reply.{replySeen}
-use Rattle.service.proofs.Listed.{prime-by, cells-by}
+use Rattle.service.specs.Reply.{replyMeaning}
+use Rattle.service.proofs.ReadList.{prime-by, cells-by}
 use Rattle.service.proofs.Checked.{large-found, none-large, all-below, checked-wrong-length, checked-cell, checked-rows}
 use borrow.Author.Needs.{needs}
 use Rattle.service.proofs.checking.check_table.Statement.{statement}
 use Rattle.service.proofs.checking.check_table.Tie as tie
 
 returns : tie.Need-returns
-unfolding replySeen
+unfolding replyMeaning
 returns c l =
     let S = c .before .before .before .before in
     checked-wrong-length (l .last) (l .lines) (now (S .args .table)) (λ e. c .if1 .taken (e ∙ sym (cells-by (S .pre) l)))
@@ -25,7 +25,7 @@ check-rows-requires c κs =
     }
 
 returns-2 : tie.Need-returns-2
-unfolding replySeen
+unfolding replyMeaning
 returns-2 c l =
     let S = c .before .before .before .before .before .before .before .before in
     let found = large-found (now (S .args .table)) (S .args .p) _ (c .before .before .before .first-large .ensures) _ (c .before .found .given .1) in

@@ -4,7 +4,7 @@ use Prim.Native.Nat.{_-_, _<_}
 use lib.ListN.{length}
 use borrow.Author.Needs.{needs}
 use Rattle.meaning.specs.Reply.{isCell, refusalAt}
-use Rattle.service.specs.Check.{cellsSeen}
+use Rattle.service.specs.Check.{cellsMeaning}
 use Rattle.service.proofs.Scan.{Scanned, all-none, scanned-none, scan-inside, scan-here, scan-next}
 use Rattle.service.proofs.Checked.{cell-large, cell-below}
 use Rattle.service.proofs.checking.first_large.Statement.{statement}
@@ -17,7 +17,7 @@ abbrev μ-loop : tie.MeasureT-loop
 μ-loop table p i₀ i = length table - i
 
 returns : tie.Need-returns Inv-loop μ-loop
-unfolding cellsSeen refusalAt
+unfolding cellsMeaning refusalAt
 returns c = ap (refusalAt 14) (all-none _ _ (sym (c .before .all-below .ensures) ∙ c .if1 .taken))
 
 loop-holds : tie.Need-loop-holds Inv-loop μ-loop
@@ -34,7 +34,7 @@ loop-again c =
     (scan-inside _ _ _ _ next (sym (at-test .before .all-below .ensures) ∙ at-test .if1 .left), next)
 
 returns-2 : tie.Need-returns-2 Inv-loop μ-loop
-unfolding cellsSeen refusalAt
+unfolding cellsMeaning refusalAt
 returns-2 c =
     let scanned = c .before .before .loop .inv in
     ap (refusalAt 14) (scan-here _ _ _ _ (scanned .1) (scanned .0) (cell-large _ _ (c .if2 .left)))

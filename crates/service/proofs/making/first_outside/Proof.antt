@@ -11,7 +11,7 @@ use borrow.Author.Tests.{not-true, not-false}
 use Rattle.meaning.specs.Number.{inRange}
 use Rattle.meaning.specs.Reply.{refusalAt}
 use Rattle.number.proofs.Word.{back}
-use Rattle.service.specs.Make.{inputsSeen}
+use Rattle.service.specs.Make.{inputsMeaning}
 use Rattle.service.proofs.Scan.{Scanned, scanned-none, scan-end, scan-here, scan-next}
 use Rattle.service.proofs.making.first_outside.Statement.{statement}
 use Rattle.service.proofs.making.first_outside.Tie as tie
@@ -26,7 +26,7 @@ loop-holds : tie.Need-loop-holds Inv-loop μ-loop
 loop-holds c = scanned-none _ _ _
 
 returns : tie.Need-returns Inv-loop μ-loop
-unfolding inputsSeen refusalAt
+unfolding inputsMeaning refusalAt
 returns c =
     let f : SFits w64 (getD (now (c .before .before .before .before .before .args .inputs)) (c .before .before .before .before .loop .i) (pos 0)) = search needs in
     ap (refusalAt 17) (scan-here (inRange (c .before .before .before .before .before .args .p)) (pos 0) (now (c .before .before .before .before .before .args .inputs)) _ (c .before .before .before .before .loop .inv) (c .before .before .before .loop-test .taken) (rw (back f) at (sym (c .before .in-range .ensures) ∙ not-true _ (c .if1 .taken))))
@@ -37,7 +37,7 @@ loop-again c =
     scan-next (inRange (c .before .before .before .before .before .args .p)) (pos 0) (now (c .before .before .before .before .before .args .inputs)) _ (c .before .before .before .before .loop .inv) (c .before .before .before .loop-test .taken) (rw (back f) at (sym (c .before .in-range .ensures) ∙ not-false _ (c .if1 .left)))
 
 returns-2 : tie.Need-returns-2 Inv-loop μ-loop
-unfolding inputsSeen refusalAt
+unfolding inputsMeaning refusalAt
 returns-2 c = ap (refusalAt 17) (scan-end (inRange (c .before .before .args .p)) (pos 0) (now (c .before .before .args .inputs)) _ (c .before .loop .inv) (c .loop-test .left))
 
 pub first-outside-spec : {M : Type 1} → statement M

@@ -1,8 +1,8 @@
 -- `service::making::make`: the list's own refusal, or the making of the table.
 use mathlib.Core.Path.{_∙_}
 use denote.Ref.{now}
-use Rattle.service.specs.Reply.{replySeen}
-use Rattle.service.proofs.Listed.{survey-refused, survey-counted}
+use Rattle.service.specs.Reply.{replyMeaning}
+use Rattle.service.proofs.ReadList.{survey-refused, survey-counted}
 use Rattle.service.proofs.Made.{make-refused, make-read, makes-by}
 use borrow.Author.Needs.{needs}
 use Rattle.service.proofs.making.make.Statement.{statement}
@@ -13,14 +13,14 @@ make-table-requires c κs =
     survey-counted (now (c .before .before .before .before .before .before .before .args .list)) _ (c .before .before .before .before .survey .ensures .0) (c .before .before .before .before .survey .ensures .1) _ _ (c .before .before .found2 .given .1)
 
 returns : tie.Need-returns
-unfolding replySeen
+unfolding replyMeaning
 returns c =
     let S = c .before .before .before .before .before .before in
     makes-by (make-refused (now (S .args .list)) (now (S .args .inputs)) (now (S .args .table)) _ _
     (survey-refused _ _ (c .before .before .before .survey .ensures .0) _ _ (c .before .found .given .1)))
 
 returns-2 : tie.Need-returns-2
-unfolding replySeen
+unfolding replyMeaning
 returns-2 c =
     let S = c .before .before .before .before .before .before .before .before .before .before in
     let l = survey-counted (now (S .args .list)) _ (c .before .before .before .before .before .before .before .survey .ensures .0) (c .before .before .before .before .before .before .before .survey .ensures .1) _ _ (c .before .before .before .before .before .found2 .given .1) .listed in

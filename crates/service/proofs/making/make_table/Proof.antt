@@ -1,21 +1,21 @@
 -- `service::making::make_table`: the length, the count of inputs, each input, and then the lines.
 use mathlib.Core.Path.{sym, _∙_}
 use denote.Ref.{now}
-use Rattle.service.specs.Reply.{replySeen}
-use Rattle.service.proofs.Listed.{prime-by, cells-by, inputs-by}
+use Rattle.service.specs.Reply.{replyMeaning}
+use Rattle.service.proofs.ReadList.{prime-by, cells-by, inputs-by}
 use Rattle.service.proofs.Made.{outside-found, none-outside, column-of, made-wrong-length, made-wrong-count, made-outside, made-worked}
 use borrow.Author.Needs.{needs}
 use Rattle.service.proofs.making.make_table.Statement.{statement}
 use Rattle.service.proofs.making.make_table.Tie as tie
 
 returns : tie.Need-returns
-unfolding replySeen
+unfolding replyMeaning
 returns c l =
     let S = c .before .before .before .before in
     made-wrong-length (l .last) (l .lines) (now (S .args .inputs)) (now (S .args .table)) (λ e. c .if1 .taken (e ∙ sym (cells-by (S .pre) l)))
 
 returns-2 : tie.Need-returns-2
-unfolding replySeen
+unfolding replyMeaning
 returns-2 c l =
     let S = c .before .before .before .before .before .before in
     made-wrong-count (l .last) (l .lines) (now (S .args .inputs)) (now (S .args .table)) (c .before .before .if1 .left ∙ cells-by (S .pre) l)
@@ -27,7 +27,7 @@ first-outside-requires c κs =
     search (needs, odd)
 
 returns-3 : tie.Need-returns-3
-unfolding replySeen
+unfolding replyMeaning
 returns-3 c l =
     let S = c .before .before .before .before .before .before .before .before .before .before in
     let found = outside-found (now (S .args .inputs)) (S .args .p) _ (c .before .before .before .first-outside .ensures) _ (c .before .found .given .1) in
@@ -45,7 +45,7 @@ make-true-requires c κs =
     )
 
 returns-4 : tie.Need-returns-4
-unfolding replySeen
+unfolding replyMeaning
 returns-4 c l =
     let S = c .before .before .before .before .before .before .before .before .before .before .before .before .before in
     let none-found = none-outside (now (S .args .inputs)) (S .args .p) _ (c .before .before .before .before .before .before .first-outside .ensures) (c .before .before .before .before .enum-told .given .1) in

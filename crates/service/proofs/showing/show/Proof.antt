@@ -5,7 +5,7 @@ use native.Mathlib.Omega.{arith}
 use lib.ListN.{length}
 use denote.Ref.{now, ptr}
 use Rattle.service.specs.Show.{cellPlace}
-use Rattle.service.proofs.Listed.{survey-refused, survey-counted}
+use Rattle.service.proofs.ReadList.{survey-refused, survey-counted}
 use Rattle.service.proofs.Shown.{shown-refused, shown-wrong-length, shown-stretch, from-refused, from-wrong-length, from-stretch}
 use borrow.Author.Needs.{needs}
 use Rattle.service.proofs.showing.show.Statement.{statement}

@@ -9,8 +9,8 @@ use borrow.Author.Needs.{needs}
 use borrow.Author.Tests.{not-true, not-false}
 use Rattle.number.proofs.Word.{back}
 use Rattle.service.specs.Make.{isTrue}
-use Rattle.service.proofs.Listed.{read-short}
-use Rattle.service.proofs.Worked.{WorkingOn, working-first, working-end, working-false, working-next, value-inside, at-line, values-asked}
+use Rattle.service.proofs.ReadList.{read-short}
+use Rattle.service.proofs.Worked.{WorkingOn, working-first, working-end, working-false, working-next, value-inside, at-line, values-given}
 use Rattle.service.proofs.working.work_lines.Statement.{statement}
 use Rattle.service.proofs.working.work_lines.Tie as tie
 use Rattle.meaning.specs.Refusal.{textLimit}
@@ -36,7 +36,7 @@ line-works-requires c κs =
     let w = c .before .before .before .before .before .before .before .loop .inv in
     let inside = c .before .before .before .before .before .before .loop-test .taken in
     let took = c .before .before .before .before .take-line .ensures .0 (at-line w inside) in
-    values-asked w inside took
+    values-given w inside took
 
 take-value-requires : tie.Need-take-value-requires Inv-loop μ-loop
 unfolding isTrue
@@ -45,8 +45,8 @@ take-value-requires c κs z value =
     let inside = c .before .before .before .before .before .before .before .before .loop-test .taken in
     let took = c .before .before .before .before .before .before .take-line .ensures .0 (at-line w inside) in
     let fits : SFits w64 (c .before .before .before .before .input-at .result) = search needs in
-    let told = rw (back fits, c .before .before .before .before .input-at .ensures) at (c .before .line-works .ensures (values-asked w inside took)) in
-    value-inside w _ _ (took .left-is) _ told (ap isTrue value) (took .kept) z value
+    let yields = rw (back fits, c .before .before .before .before .input-at .ensures) at (c .before .line-works .ensures (values-given w inside took)) in
+    value-inside w _ _ (took .left-is) _ yields (ap isTrue value) (took .kept) z value
 
 returns : tie.Need-returns Inv-loop μ-loop
 returns c =
@@ -54,9 +54,9 @@ returns c =
     let inside = c .before .before .before .before .before .before .before .before .before .before .before .loop-test .taken in
     let took = c .before .before .before .before .before .before .before .before .before .take-line .ensures .0 (at-line w inside) in
     let fits : SFits w64 (c .before .before .before .before .before .before .before .input-at .result) = search needs in
-    let told = rw (back fits, c .before .before .before .before .before .before .before .input-at .ensures) at (c .before .before .before .before .line-works .ensures (values-asked w inside took)) in
+    let yields = rw (back fits, c .before .before .before .before .before .before .before .input-at .ensures) at (c .before .before .before .before .line-works .ensures (values-given w inside took)) in
     let answer = sym (c .before .before .take-value .ensures .0) ∙ not-true _ (c .if1 .taken) in
-    (λ m. working-false w _ _ (took .left-is) _ told answer m _, c .before .values .given ∙ w .values-long)
+    (λ m. working-false w _ _ (took .left-is) _ yields answer m _, c .before .values .given ∙ w .values-long)
 
 add-n : tie.Need-add-n Inv-loop μ-loop
 add-n c =
@@ -64,7 +64,7 @@ add-n c =
     let w = c .before .before .before .before .before .before .before .before .before .before .before .before .before .loop .inv in
     let numbered : c .before .before .before .before .before .before .before .before .before .before .before .before .before .loop .n ≤ c .before .before .before .before .before .before .before .before .before .before .before .before .before .loop .at = w .stands .numbered in
     let inside : c .before .before .before .before .before .before .before .before .before .before .before .before .before .loop .at ≤ length list = w .stands .inside in
-    let short : length list ≤ textLimit = read-short _ _ _ (w .asked .listed .is-read) in
+    let short : length list ≤ textLimit = read-short _ _ _ (w .given .listed .is-read) in
     search (needs, numbered, inside, short)
 
 loop-again : tie.Need-loop-again Inv-loop μ-loop
@@ -73,9 +73,9 @@ loop-again c =
     let inside = c .before .before .before .before .before .before .before .before .before .before .before .before .loop-test .taken in
     let took = c .before .before .before .before .before .before .before .before .before .before .take-line .ensures .0 (at-line w inside) in
     let fits : SFits w64 (c .before .before .before .before .before .before .before .before .input-at .result) = search needs in
-    let told = rw (back fits, c .before .before .before .before .before .before .before .before .input-at .ensures) at (c .before .before .before .before .before .line-works .ensures (values-asked w inside took)) in
+    let yields = rw (back fits, c .before .before .before .before .before .before .before .before .input-at .ensures) at (c .before .before .before .before .before .line-works .ensures (values-given w inside took)) in
     let answer = sym (c .before .before .before .take-value .ensures .0) ∙ not-false _ (c .before .if1 .left) in
-    rw (c .before .before .before .take-value .ensures .1) (working-next w _ _ (took .left-is) _ told answer (took .kept) _ (took .next) (took .long))
+    rw (c .before .before .before .take-value .ensures .1) (working-next w _ _ (took .left-is) _ yields answer (took .kept) _ (took .next) (took .long))
 
 returns-2 : tie.Need-returns-2 Inv-loop μ-loop
 returns-2 c = (working-end (c .before .loop .inv) (c .loop-test .left), c .before .loop .inv .values-long)

@@ -4,7 +4,7 @@ use Prim.Native.Nat.{_-_, _≤_}
 use lib.ListN.{length}
 use denote.Ref.{now}
 use borrow.Author.Needs.{needs}
-use Rattle.service.proofs.Written.{Writing, writing-first, table-long, writing-end, writing-next, at-line, first-inside, cells-asked, made-stand, next}
+use Rattle.service.proofs.Written.{Writing, writing-first, table-long, writing-end, writing-next, at-line, first-inside, cells-given, made-stand, next}
 use Rattle.service.proofs.writing.write_lines.Statement.{statement}
 use Rattle.service.proofs.writing.write_lines.Tie as tie
 
@@ -35,20 +35,20 @@ line-cells-requires c κs =
     let w = c .before .before .before .before .before .before .loop .inv in
     let inside = c .before .before .before .before .before .loop-test .taken in
     let took = c .before .before .before .take-line .ensures .0 (at-line w inside) in
-    cells-asked w inside took
+    cells-given w inside took
 
 loop-again : tie.Need-loop-again Inv-loop μ-loop
 loop-again c =
     let w = c .before .before .before .before .before .before .before .before .before .before .loop .inv in
     let inside = c .before .before .before .before .before .before .before .before .before .loop-test .taken in
     let took = c .before .before .before .before .before .before .before .take-line .ensures .0 (at-line w inside) in
-    let written = c .before .before .before .line-cells .ensures (cells-asked w inside took) (next w _ _ (took .left-is) (took .kept)) (made-stand w _ _ (took .left-is) (took .kept)) in
+    let written = c .before .before .before .line-cells .ensures (cells-given w inside took) (next w _ _ (took .left-is) (took .kept)) (made-stand w _ _ (took .left-is) (took .kept)) in
     writing-next w _ _ (took .left-is) (took .kept) _ _ written (took .next) (took .long)
 
 same-length : tie.Need-same-length Inv-loop μ-loop
 same-length c =
     let w = c .before .loop .inv in
-    let same = table-long w ∙ sym (w .asked .long) in
+    let same = table-long w ∙ sym (w .given .long) in
     search (needs, same)
 
 returns : tie.Need-returns Inv-loop μ-loop

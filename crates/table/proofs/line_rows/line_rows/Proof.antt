@@ -6,7 +6,7 @@ use Rattle.meaning.specs.Gadget.Input.{inputLine}
 use Rattle.text.specs.Word.{wordOf}
 use Rattle.text.specs.declared.Word.{Word as Coded}
 use Rattle.groups.specs.declared.rows.Rows.{Rows}
-use Rattle.table.specs.LineRows.{RowsAsked, RowsTold}
+use Rattle.table.specs.LineRows.{RowsGiven, RowsYield}
 use Rattle.table.proofs.LineWord.{countOf, at-kind, by-word}
 use Rattle.table.proofs.RowsLine.{no-row}
 use borrow.Author.Needs.{needs}
@@ -15,17 +15,17 @@ use Rattle.table.proofs.line_rows.line_rows.Tie as tie
 
 -- what is asked at the kind, and what is told by the word
 module _ (s : tie.Start) {v : Coded} (is : s .args .word ≡ v) where
-  asked : RowsAsked (s .args .p) (wordOf v) (s .args .numbers .now) (countOf v (s .args .count)) (s .args .table .now) (s .args .at .0) (s .args .places .now)
-  asked =
-      at-kind (λ u m. RowsAsked (s .args .p) u (s .args .numbers .now) m (s .args .table .now) (s .args .at .0) (s .args .places .now))
+  given : RowsGiven (s .args .p) (wordOf v) (s .args .numbers .now) (countOf v (s .args .count)) (s .args .table .now) (s .args .at .0) (s .args .places .now)
+  given =
+      at-kind (λ u m. RowsGiven (s .args .p) u (s .args .numbers .now) m (s .args .table .now) (s .args .at .0) (s .args .places .now))
       (s .args .count) is (s .pre .kept) (s .pre)
 
-  told : (r : Rows)
-      → RowsTold (s .args .p) (wordOf v) (s .args .numbers .now) (countOf v (s .args .count)) (s .args .table .now) (s .args .at .0) (s .args .places .now) r
-      → RowsTold (s .args .p) (wordOf (s .args .word)) (s .args .numbers .now) (s .args .count) (s .args .table .now) (s .args .at .0)
+  yields : (r : Rows)
+      → RowsYield (s .args .p) (wordOf v) (s .args .numbers .now) (countOf v (s .args .count)) (s .args .table .now) (s .args .at .0) (s .args .places .now) r
+      → RowsYield (s .args .p) (wordOf (s .args .word)) (s .args .numbers .now) (s .args .count) (s .args .table .now) (s .args .at .0)
       (s .args .places .now) r
-  told r =
-      by-word (λ u m. RowsTold (s .args .p) u (s .args .numbers .now) m (s .args .table .now) (s .args .at .0) (s .args .places .now) r)
+  yields r =
+      by-word (λ u m. RowsYield (s .args .p) u (s .args .numbers .now) m (s .args .table .now) (s .args .at .0) (s .args .places .now) r)
       (s .args .count) is (s .pre .kept)
 
 pub line-rows-spec : {M : Type 1} → statement M
@@ -36,22 +36,22 @@ line-rows-spec =
     (λ c. search needs)
     (λ c. search needs)
     (λ c. search needs)
-    (λ c κs. asked (c .before .before .before .before) (c .enum-told3 .given .1))
+    (λ c κs. given (c .before .before .before .before) (c .enum-told3 .given .1))
     (λ c. search needs)
-    (λ c κs. asked (c .before .before .before .before) (c .enum-told4 .given .1))
+    (λ c κs. given (c .before .before .before .before) (c .enum-told4 .given .1))
     (λ c. search needs)
-    (λ c κs. asked (c .before .before .before .before) (c .enum-told5 .given .1))
+    (λ c κs. given (c .before .before .before .before) (c .enum-told5 .given .1))
     (λ c. search needs)
-    (λ c κs. asked (c .before .before .before .before) (c .enum-told6 .given .1))
+    (λ c κs. given (c .before .before .before .before) (c .enum-told6 .given .1))
     (λ c. search needs)
-    (λ c κs. asked (c .before .before .before .before) (c .enum-told7 .given .1))
+    (λ c κs. given (c .before .before .before .before) (c .enum-told7 .given .1))
     (λ c. search needs)
-    (λ c κs. asked (c .before .before .before .before) (c .enum-told8 .given .1))
-    (λ c. told (c .before .before .before .before) (c .enum-told .given .1) _ (no-row _ _ _ _ _ _ _ (λ s ns. refl)))
-    (λ c. told (c .before .before .before .before) (c .enum-told2 .given .1) _ (no-row _ _ _ _ _ _ _ (λ s ns. refl)))
-    (λ c. told (c .before .before .before .before .before) (c .before .enum-told3 .given .1) _ (c .span-line-rows .ensures))
-    (λ c. told (c .before .before .before .before .before) (c .before .enum-told4 .given .1) _ (c .sum-line-rows .ensures))
-    (λ c. told (c .before .before .before .before .before) (c .before .enum-told5 .given .1) _ (c .relu-line-rows .ensures))
-    (λ c. told (c .before .before .before .before .before) (c .before .enum-told6 .given .1) _ (c .which-line-rows .ensures))
-    (λ c. told (c .before .before .before .before .before) (c .before .enum-told7 .given .1) _ (c .max-line-rows .ensures))
-    (λ c. told (c .before .before .before .before .before) (c .before .enum-told8 .given .1) _ (c .root-line-rows .ensures)))
+    (λ c κs. given (c .before .before .before .before) (c .enum-told8 .given .1))
+    (λ c. yields (c .before .before .before .before) (c .enum-told .given .1) _ (no-row _ _ _ _ _ _ _ (λ s ns. refl)))
+    (λ c. yields (c .before .before .before .before) (c .enum-told2 .given .1) _ (no-row _ _ _ _ _ _ _ (λ s ns. refl)))
+    (λ c. yields (c .before .before .before .before .before) (c .before .enum-told3 .given .1) _ (c .span-line-rows .ensures))
+    (λ c. yields (c .before .before .before .before .before) (c .before .enum-told4 .given .1) _ (c .sum-line-rows .ensures))
+    (λ c. yields (c .before .before .before .before .before) (c .before .enum-told5 .given .1) _ (c .relu-line-rows .ensures))
+    (λ c. yields (c .before .before .before .before .before) (c .before .enum-told6 .given .1) _ (c .which-line-rows .ensures))
+    (λ c. yields (c .before .before .before .before .before) (c .before .enum-told7 .given .1) _ (c .max-line-rows .ensures))
+    (λ c. yields (c .before .before .before .before .before) (c .before .enum-told8 .given .1) _ (c .root-line-rows .ensures)))

@@ -4,29 +4,29 @@ use Rattle.text.specs.Word.{wordOf}
 use Rattle.text.specs.declared.Word.{Word as Coded}
 use Rattle.number.proofs.Word.{back}
 use Rattle.groups.specs.declared.value.Worked.{Worked}
-use Rattle.table.specs.LineValues.{ValuesAsked, WorkTold}
+use Rattle.table.specs.LineValues.{ValuesGiven, WorkYield}
 use Rattle.table.proofs.LineWord.{countOf, at-kind, by-word}
-use Rattle.table.proofs.WorksLine.{field-told}
+use Rattle.table.proofs.WorksLine.{field-yield}
 use borrow.Author.Needs.{needs}
 use Rattle.table.proofs.line_works.line_works.Statement.{statement}
 use Rattle.table.proofs.line_works.line_works.Tie as tie
 
 -- what is asked at the kind, and what is told by the word
 module _ (s : tie.Start) {v : Coded} (is : s .args .word ≡ v) where
-  asked : ValuesAsked (wordOf v) (s .args .numbers .now) (countOf v (s .args .count)) (s .args .values .now)
-  asked = at-kind (λ u m. ValuesAsked u (s .args .numbers .now) m (s .args .values .now)) (s .args .count) is (s .pre .kept) (s .pre)
+  given : ValuesGiven (wordOf v) (s .args .numbers .now) (countOf v (s .args .count)) (s .args .values .now)
+  given = at-kind (λ u m. ValuesGiven u (s .args .numbers .now) m (s .args .values .now)) (s .args .count) is (s .pre .kept) (s .pre)
 
-  told : (r : Worked) → WorkTold (wordOf v) (s .args .numbers .now) (countOf v (s .args .count)) (s .args .values .now) (s .args .next) r
-      → WorkTold (wordOf (s .args .word)) (s .args .numbers .now) (s .args .count) (s .args .values .now) (s .args .next) r
-  told r =
-      by-word (λ u m. WorkTold u (s .args .numbers .now) m (s .args .values .now) (s .args .next) r) (s .args .count) is
+  yields : (r : Worked) → WorkYield (wordOf v) (s .args .numbers .now) (countOf v (s .args .count)) (s .args .values .now) (s .args .next) r
+      → WorkYield (wordOf (s .args .word)) (s .args .numbers .now) (s .args .count) (s .args .values .now) (s .args .next) r
+  yields r =
+      by-word (λ u m. WorkYield u (s .args .numbers .now) m (s .args .values .now) (s .args .next) r) (s .args .count) is
       (s .pre .kept)
 
 returns-2 : tie.Need-returns-2
 unfolding wordOf countOf
 returns-2 c =
     let s = c .before .before .before in
-    told s (c .before .enum-told2 .given .1)
+    yields s (c .before .enum-told2 .given .1)
     _ (rw (back (s .fits .next)) at (c .input-line-works .ensures (s .args .numbers .now) (s .args .values .now)))
 
 pub line-works-spec : {M : Type 1} → statement M
@@ -38,22 +38,22 @@ line-works-spec =
     (λ c. search needs)
     (λ c κs. search needs)
     (λ c. search needs)
-    (λ c κs. asked (c .before .before) (c .enum-told3 .given .1))
+    (λ c κs. given (c .before .before) (c .enum-told3 .given .1))
     (λ c. search needs)
-    (λ c κs. asked (c .before .before) (c .enum-told4 .given .1))
+    (λ c κs. given (c .before .before) (c .enum-told4 .given .1))
     (λ c. search needs)
-    (λ c κs. asked (c .before .before) (c .enum-told5 .given .1))
+    (λ c κs. given (c .before .before) (c .enum-told5 .given .1))
     (λ c. search needs)
-    (λ c κs. asked (c .before .before) (c .enum-told6 .given .1))
+    (λ c κs. given (c .before .before) (c .enum-told6 .given .1))
     (λ c. search needs)
-    (λ c κs. asked (c .before .before) (c .enum-told7 .given .1))
+    (λ c κs. given (c .before .before) (c .enum-told7 .given .1))
     (λ c. search needs)
-    (λ c κs. asked (c .before .before) (c .enum-told8 .given .1))
-    (λ c. told (c .before .before) (c .enum-told .given .1) _ (field-told _ _ _))
+    (λ c κs. given (c .before .before) (c .enum-told8 .given .1))
+    (λ c. yields (c .before .before) (c .enum-told .given .1) _ (field-yield _ _ _))
     returns-2
-    (λ c. told (c .before .before .before) (c .before .enum-told3 .given .1) _ (c .span-line-works .ensures _))
-    (λ c. told (c .before .before .before) (c .before .enum-told4 .given .1) _ (c .sum-line-works .ensures _))
-    (λ c. told (c .before .before .before) (c .before .enum-told5 .given .1) _ (c .relu-line-works .ensures _))
-    (λ c. told (c .before .before .before) (c .before .enum-told6 .given .1) _ (c .which-line-works .ensures _))
-    (λ c. told (c .before .before .before) (c .before .enum-told7 .given .1) _ (c .max-line-works .ensures _))
-    (λ c. told (c .before .before .before) (c .before .enum-told8 .given .1) _ (c .root-line-works .ensures _)))
+    (λ c. yields (c .before .before .before) (c .before .enum-told3 .given .1) _ (c .span-line-works .ensures _))
+    (λ c. yields (c .before .before .before) (c .before .enum-told4 .given .1) _ (c .sum-line-works .ensures _))
+    (λ c. yields (c .before .before .before) (c .before .enum-told5 .given .1) _ (c .relu-line-works .ensures _))
+    (λ c. yields (c .before .before .before) (c .before .enum-told6 .given .1) _ (c .which-line-works .ensures _))
+    (λ c. yields (c .before .before .before) (c .before .enum-told7 .given .1) _ (c .max-line-works .ensures _))
+    (λ c. yields (c .before .before .before) (c .before .enum-told8 .given .1) _ (c .root-line-works .ensures _)))

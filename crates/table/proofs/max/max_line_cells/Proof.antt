@@ -2,8 +2,8 @@
 use Rattle.meaning.specs.Gadget.Max.{maxLine}
 use Rattle.groups.proofs.ReadValues.{two-handed}
 use Rattle.table.proofs.LineKinds.{max-word}
-use Rattle.table.proofs.LineValues.{two-asked}
-use Rattle.table.proofs.CellsLine.{two-writes, max-cells-told}
+use Rattle.table.proofs.LineValues.{two-given}
+use Rattle.table.proofs.CellsLine.{two-writes, max-cells-yield}
 use borrow.Author.Needs.{needs}
 use Rattle.table.proofs.max.max_line_cells.Statement.{statement}
 use Rattle.table.proofs.max.max_line_cells.Tie as tie
@@ -18,13 +18,13 @@ max-cells-requires c κs =
 returns : tie.Need-returns
 returns c known =
     let last = c .before .before in
-    max-cells-told (two-handed (last .before .before .before .before .two-values .ensures)) (last .max-cells .ensures)
+    max-cells-yield (two-handed (last .before .before .before .before .two-values .ensures)) (last .max-cells .ensures)
 
 pub max-line-cells-spec : {M : Type 1} → statement M
 max-line-cells-spec =
     tie.close
     (tie.spec
-    (λ c κs. two-asked (c .before .pre .1 .asked) (max-word _))
+    (λ c κs. two-given (c .before .pre .1 .given) (max-word _))
     max-cells-requires
     (λ c. search needs)
     returns)

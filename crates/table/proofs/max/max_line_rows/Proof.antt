@@ -1,7 +1,7 @@
 -- `table::max::max_line_rows`: the line's numbers are what `max_rows` takes.
 use Rattle.meaning.specs.Gadget.Max.{maxLine}
 use Rattle.table.proofs.LineKinds.{max-word}
-use Rattle.table.proofs.RowsLine.{two-places-asked, two-checks, two-told}
+use Rattle.table.proofs.RowsLine.{two-places-given, two-checks, two-yield}
 use borrow.Author.Needs.{needs}
 use Rattle.table.proofs.max.max_line_rows.Statement.{statement}
 use Rattle.table.proofs.max.max_line_rows.Tie as tie
@@ -14,6 +14,6 @@ pub max-line-rows-spec : {M : Type 1} → statement M
 max-line-rows-spec =
     tie.close
     (tie.spec
-    (λ c κs. two-places-asked (c .before .before .pre) (max-word _))
+    (λ c κs. two-places-given (c .before .before .pre) (max-word _))
     max-rows-requires
-    (λ c a. two-told a (max-word _) (c .before .two-places .ensures) (c .max-rows .ensures)))
+    (λ c a. two-yield a (max-word _) (c .before .two-places .ensures) (c .max-rows .ensures)))

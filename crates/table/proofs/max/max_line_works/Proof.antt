@@ -1,8 +1,8 @@
 -- `table::max::max_line_works`: the line's numbers are what `max_works` takes.
 use Rattle.groups.proofs.ReadValues.{two-handed}
 use Rattle.table.proofs.LineKinds.{max-word}
-use Rattle.table.proofs.LineValues.{two-asked}
-use Rattle.table.proofs.WorksLine.{max-told}
+use Rattle.table.proofs.LineValues.{two-given}
+use Rattle.table.proofs.WorksLine.{max-yield}
 use borrow.Author.Needs.{needs}
 use Rattle.table.proofs.max.max_line_works.Statement.{statement}
 use Rattle.table.proofs.max.max_line_works.Tie as tie
@@ -11,13 +11,13 @@ returns : tie.Need-returns
 returns c next =
     let power = c .before .before .before in
     let two = two-handed (power .before .two-values .ensures) in
-    max-told two next _ (c .max-works .ensures _ _ (power .power-of .ensures))
+    max-yield two next _ (c .max-works .ensures _ _ (power .power-of .ensures))
 
 pub max-line-works-spec : {M : Type 1} → statement M
 max-line-works-spec =
     tie.close
     (tie.spec
-    (λ c κs. two-asked (c .pre) (max-word _))
+    (λ c κs. two-given (c .pre) (max-word _))
     (λ c κs. search needs)
     (λ c κs. search needs)
     returns)

@@ -9,8 +9,8 @@ use Rattle.number.proofs.Bounded.{bounded-more}
 use Rattle.groups.specs.Cells.{powerBound}
 use Rattle.groups.proofs.ReadValues.{one-handed}
 use Rattle.table.proofs.LineKinds.{relu-word}
-use Rattle.table.proofs.LineValues.{one-asked, group-power}
-use Rattle.table.proofs.CellsLine.{one-writes, relu-cells-told}
+use Rattle.table.proofs.LineValues.{one-given, group-power}
+use Rattle.table.proofs.CellsLine.{one-writes, relu-cells-yield}
 use borrow.Author.Needs.{needs}
 use Rattle.table.proofs.relu.relu_line_cells.Statement.{statement}
 use Rattle.table.proofs.relu.relu_line_cells.Tie as tie
@@ -30,14 +30,14 @@ returns c known =
     let last = c .before .before in
     let value = last .before .before .before in
     let f : SFits w64 (value .relu-value .result) = search needs in
-    relu-cells-told (one-handed (value .before .before .before .one-value .ensures))
+    relu-cells-yield (one-handed (value .before .before .before .one-value .ensures))
     (rw (back f, value .relu-value .ensures) at (last .signed-cells .ensures))
 
 pub relu-line-cells-spec : {M : Type 1} → statement M
 relu-line-cells-spec =
     tie.close
     (tie.spec
-    (λ c κs. one-asked (c .before .pre .1 .asked) (relu-word _))
+    (λ c κs. one-given (c .before .pre .1 .given) (relu-word _))
     (λ c κs. search needs)
     (λ c κs. search needs)
     signed-cells-requires

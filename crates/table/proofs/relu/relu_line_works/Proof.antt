@@ -1,8 +1,8 @@
 -- `table::relu::relu_line_works`: the line's numbers are what `relu_works` takes.
 use Rattle.groups.proofs.ReadValues.{one-handed}
 use Rattle.table.proofs.LineKinds.{relu-word}
-use Rattle.table.proofs.LineValues.{one-asked}
-use Rattle.table.proofs.WorksLine.{relu-told}
+use Rattle.table.proofs.LineValues.{one-given}
+use Rattle.table.proofs.WorksLine.{relu-yield}
 use borrow.Author.Needs.{needs}
 use Rattle.table.proofs.relu.relu_line_works.Statement.{statement}
 use Rattle.table.proofs.relu.relu_line_works.Tie as tie
@@ -11,13 +11,13 @@ returns : tie.Need-returns
 returns c next =
     let power = c .before .before in
     let one = one-handed (power .before .one-value .ensures) in
-    relu-told one next _ (c .relu-works .ensures _ (one .digits .group .some-digit) (power .power-of .ensures))
+    relu-yield one next _ (c .relu-works .ensures _ (one .digits .group .some-digit) (power .power-of .ensures))
 
 pub relu-line-works-spec : {M : Type 1} → statement M
 relu-line-works-spec =
     tie.close
     (tie.spec
-    (λ c κs. one-asked (c .pre) (relu-word _))
+    (λ c κs. one-given (c .pre) (relu-word _))
     (λ c κs. search needs)
     (λ c κs. search needs)
     returns)

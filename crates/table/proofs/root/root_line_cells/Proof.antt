@@ -2,8 +2,8 @@
 use Rattle.meaning.specs.Gadget.Root.{rootLine}
 use Rattle.groups.proofs.ReadValues.{one-handed}
 use Rattle.table.proofs.LineKinds.{root-word}
-use Rattle.table.proofs.LineValues.{one-asked}
-use Rattle.table.proofs.CellsLine.{one-writes, root-cells-told}
+use Rattle.table.proofs.LineValues.{one-given}
+use Rattle.table.proofs.CellsLine.{one-writes, root-cells-yield}
 use borrow.Author.Needs.{needs}
 use Rattle.table.proofs.root.root_line_cells.Statement.{statement}
 use Rattle.table.proofs.root.root_line_cells.Tie as tie
@@ -18,13 +18,13 @@ root-cells-requires c κs =
 returns : tie.Need-returns
 returns c known =
     let last = c .before .before in
-    root-cells-told (one-handed (last .before .before .before .one-value .ensures)) (last .root-cells .ensures)
+    root-cells-yield (one-handed (last .before .before .before .one-value .ensures)) (last .root-cells .ensures)
 
 pub root-line-cells-spec : {M : Type 1} → statement M
 root-line-cells-spec =
     tie.close
     (tie.spec
-    (λ c κs. one-asked (c .before .pre .1 .asked) (root-word _))
+    (λ c κs. one-given (c .before .pre .1 .given) (root-word _))
     root-cells-requires
     (λ c. search needs)
     returns)

@@ -1,7 +1,7 @@
 -- `table::root::root_line_rows`: the line's numbers are what `root_rows` takes.
 use Rattle.meaning.specs.Gadget.Root.{rootLine}
 use Rattle.table.proofs.LineKinds.{root-word}
-use Rattle.table.proofs.RowsLine.{one-places-asked, one-checks, one-told}
+use Rattle.table.proofs.RowsLine.{one-places-given, one-checks, one-yield}
 use borrow.Author.Needs.{needs}
 use Rattle.table.proofs.root.root_line_rows.Statement.{statement}
 use Rattle.table.proofs.root.root_line_rows.Tie as tie
@@ -14,6 +14,6 @@ pub root-line-rows-spec : {M : Type 1} → statement M
 root-line-rows-spec =
     tie.close
     (tie.spec
-    (λ c κs. one-places-asked (c .before .before .pre) (root-word _))
+    (λ c κs. one-places-given (c .before .before .pre) (root-word _))
     root-rows-requires
-    (λ c a. one-told a (root-word _) (c .before .one-place .ensures) (c .root-rows .ensures)))
+    (λ c a. one-yield a (root-word _) (c .before .one-place .ensures) (c .root-rows .ensures)))

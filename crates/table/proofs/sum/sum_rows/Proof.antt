@@ -10,7 +10,7 @@ use mir.Val.{SFits}
 use Rattle.meaning.specs.Number.{remainder}
 use Rattle.algebra.proofs.Congruence.{remainder-below}
 use Rattle.number.proofs.Word.{back}
-use Rattle.groups.specs.Rows.{rowsSeen}
+use Rattle.groups.specs.Rows.{rowsMeaning}
 use Rattle.groups.proofs.RowsForm.{leaves-read}
 use Rattle.table.proofs.RowsSum.{SoFar, sum-start, sum-next, sum-end, Names, pair-names}
 use Rattle.table.proofs.sum.sum_rows.Statement.{statement}
@@ -100,7 +100,7 @@ loop-again c =
     )
 
 returns : tie.Need-returns Inv-loop μ-loop
-unfolding rowsSeen
+unfolding rowsMeaning
 returns c s n p-is cells-is known named =
     let at-made = c .before .before in
     let at-test = at-made .before in

@@ -11,14 +11,14 @@ use borrow.Author.Needs.{needs}
 use Rattle.number.proofs.Word.{back}
 use Rattle.number.proofs.Bounded.{bounded-fits}
 use Rattle.groups.specs.Cells.{powerBound, valueBound}
-use Rattle.table.specs.Sum.{SumAsked}
+use Rattle.table.specs.Sum.{SumGiven}
 use Rattle.table.proofs.WorksSum.{Summing, Turn, term, summing-start, summing-turn, summing-end}
 use Rattle.table.proofs.sum.sum_works.Statement.{statement}
 use Rattle.table.proofs.sum.sum_works.Tie as tie
 
 abbrev Inv-loop : tie.InvT-loop
 Inv-loop numbers count values total₀ i₀ total i =
-    (n : ℕ) → SumAsked numbers count values n → Summing numbers count values n i (toZ w64 total)
+    (n : ℕ) → SumGiven numbers count values n → Summing numbers count values n i (toZ w64 total)
 
 abbrev μ-loop : tie.MeasureT-loop
 μ-loop numbers count values total₀ i₀ total i = count - i
@@ -27,14 +27,14 @@ loop-holds : tie.Need-loop-holds Inv-loop μ-loop
 loop-holds c =
     let s = c .before in
     let f : SFits w64 (getD (s .args .numbers .now) 0 (pos 0)) = search needs in
-    λ n asked. rw (back f) (summing-start _ _ _ n asked)
+    λ n given. rw (back f) (summing-start _ _ _ n given)
 
 -- a turn
 turn : (c : tie.In-loop Inv-loop μ-loop)
     → let a = c .before .before .before .args in
-    (n : ℕ) → SumAsked (a .numbers .now) (a .count) (a .values .now) n
+    (n : ℕ) → SumGiven (a .numbers .now) (a .count) (a .values .now) n
     → Turn (a .numbers .now) (a .count) (a .values .now) n (c .before .loop .i) (toZ w64 (c .before .loop .total))
-turn c n asked = summing-turn _ _ _ n asked _ _ (c .before .loop .inv n asked) (c .loop-test .taken)
+turn c n given = summing-turn _ _ _ n given _ _ (c .before .loop .inv n given) (c .loop-test .taken)
 
 value-named-requires : tie.Need-value-named-requires Inv-loop μ-loop
 value-named-requires c κs =
@@ -73,12 +73,12 @@ add-total c =
     rw (product c, back (product-fits c)) (bounded-fits valueBound (t .total) tt)
 
 loop-again : tie.Need-loop-again Inv-loop μ-loop
-loop-again c n asked =
-    let t = turn (c .before .before) n asked in
+loop-again c n given =
+    let t = turn (c .before .before) n given in
     rw (product c, back (product-fits c), back (bounded-fits valueBound (t .total) tt)) (t .next)
 
 returns : tie.Need-returns Inv-loop μ-loop
-returns c n asked = summing-end _ _ _ n asked _ _ (c .before .loop .inv n asked) (c .loop-test .left)
+returns c n given = summing-end _ _ _ n given _ _ (c .before .loop .inv n given) (c .loop-test .left)
 
 pub sum-works-spec : {M : Type 1} → statement M
 sum-works-spec =

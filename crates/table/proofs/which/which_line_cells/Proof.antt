@@ -6,8 +6,8 @@ use Rattle.number.proofs.Word.{back}
 use Rattle.number.proofs.Bounded.{bounded-difference, difference-fits}
 use Rattle.groups.proofs.ReadValues.{two-handed}
 use Rattle.table.proofs.LineKinds.{which-word}
-use Rattle.table.proofs.LineValues.{two-asked, group-power}
-use Rattle.table.proofs.CellsLine.{two-writes, which-cells-told}
+use Rattle.table.proofs.LineValues.{two-given, group-power}
+use Rattle.table.proofs.CellsLine.{two-writes, which-cells-yield}
 use borrow.Author.Needs.{needs}
 use Rattle.table.proofs.which.which_line_cells.Statement.{statement}
 use Rattle.table.proofs.which.which_line_cells.Tie as tie
@@ -31,14 +31,14 @@ returns c known =
     let last = c .before .before in
     let value = last .before .before .before .before in
     let f : SFits w64 (value .which-value .result) = search needs in
-    which-cells-told (two-handed (value .before .before .before .before .two-values .ensures))
+    which-cells-yield (two-handed (value .before .before .before .before .two-values .ensures))
     (rw (back f, value .which-value .ensures, back (sub-x (last .before .before))) at (last .signed-cells .ensures))
 
 pub which-line-cells-spec : {M : Type 1} → statement M
 which-line-cells-spec =
     tie.close
     (tie.spec
-    (λ c κs. two-asked (c .before .pre .1 .asked) (which-word _))
+    (λ c κs. two-given (c .before .pre .1 .given) (which-word _))
     (λ c κs. search needs)
     (λ c κs. search needs)
     sub-x

@@ -15,8 +15,8 @@ fits c = search needs
 add-print-decimal : tie.Need-add-print-decimal
 add-print-decimal c =
     let s = c .before .before .before in
-    let told : s .magnitude .result ≡ mag (s .before .args .n) = s .magnitude .ensures ∙ ap mag (back (fits (s .before))) in
-    record { fits = omega (arith, told, fits (s .before) .sfits) }
+    let yields : s .magnitude .result ≡ mag (s .before .args .n) = s .magnitude .ensures ∙ ap mag (back (fits (s .before))) in
+    record { fits = omega (arith, yields, fits (s .before) .sfits) }
 
 pub print-whole-spec : {M : Type 1} → statement M
 print-whole-spec =

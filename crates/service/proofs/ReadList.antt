@@ -13,11 +13,11 @@ use Rattle.meaning.specs.Known.{Known, fresh}
 use Rattle.meaning.specs.Refusal.{textLimit, plain, Reading, refused, read, onReading, readFrom, readingBy, reading}
 use Rattle.meaning.specs.Number.{OddPrime}
 use Rattle.rules.specs.Ready.{greatest}
-use Rattle.reader.specs.Read.{Survey, counted, refusedAt, surveyOf, surveySeen, PrimeFound}
+use Rattle.reader.specs.Read.{Survey, counted, refusedAt, surveyOf, surveyMeaning, PrimeFound}
 use Rattle.reader.specs.declared.state.Counts.{Counts}
 use Rattle.reader.specs.declared.reading.Surveyed.{Surveyed}
 use Rattle.reader.specs.declared.reading.Surveyed.the-variants.{Counted, NotRead}
-use Rattle.service.specs.Walk.{ListRead, Listed}
+use Rattle.service.specs.Walk.{ListRead, CountsGiven}
 
 abbrev IsRead : Reading → Type 0
 IsRead (refused n i) = ⊥
@@ -88,7 +88,7 @@ refused-by (refused m i) n at e = sym (ap₂ refused (ap numberIn e) (ap placeIn
 refused-by (read ls s) n at e = absurd (subst IsCounted (sym e) tt)
 
 counted-by : (list : List ℕ) (r : Reading) (p : ℕ) (c : Counts) → reading list ≡ r → OddPrime p × (p ≤ greatest)
-    → counted p (c .values) (c .inputs) (c .cells) (c .rows) ≡ surveyOf r → Listed list p c
+    → counted p (c .values) (c .inputs) (c .cells) (c .rows) ≡ surveyOf r → CountsGiven list p c
 unfolding surveyOf onReading
 counted-by list (refused m i) p c is h e = absurd (subst IsCounted e tt)
 counted-by list (read ls s) p c is h e =
@@ -105,19 +105,19 @@ counted-by list (read ls s) p c is h e =
       };
     }
 
-module _ (list : List ℕ) (x : Surveyed) (told : surveySeen x ≡ surveyOf (reading list)) where
+module _ (list : List ℕ) (x : Surveyed) (yields : surveyMeaning x ≡ surveyOf (reading list)) where
   pub survey-refused : (n at : ℕ) → x ≡ NotRead n at → reading list ≡ refused n at
-  unfolding surveySeen
-  survey-refused n at is = refused-by (reading list) n at (ap surveySeen (sym is) ∙ told)
+  unfolding surveyMeaning
+  survey-refused n at is = refused-by (reading list) n at (ap surveyMeaning (sym is) ∙ yields)
 
-  pub survey-counted : PrimeFound x → (p : ℕ) (c : Counts) → x ≡ Counted p c → Listed list p c
-  unfolding surveySeen PrimeFound
+  pub survey-counted : PrimeFound x → (p : ℕ) (c : Counts) → x ≡ Counted p c → CountsGiven list p c
+  unfolding surveyMeaning PrimeFound
   survey-counted found p c is =
-      counted-by list (reading list) p c refl (subst PrimeFound is found) (ap surveySeen (sym is) ∙ told)
+      counted-by list (reading list) p c refl (subst PrimeFound is found) (ap surveyMeaning (sym is) ∙ yields)
 
 -- ---- p and the counts, by any reading of the list
 
-module _ {list : List ℕ} {p : ℕ} {counts : Counts} (a : Listed list p counts) (l : ListRead list) where
+module _ {list : List ℕ} {p : ℕ} {counts : Counts} (a : CountsGiven list p counts) (l : ListRead list) where
   pub prime-by : p ≡ l .last .p
   prime-by = sym (a .prime) ∙ ap (λ (s : Known). s .p) (same-last (a .listed) l)
 

@@ -12,23 +12,23 @@ use Rattle.rules.specs.declared.rule.Made.{Made}
 use Rattle.rules.specs.declared.rule.Made.the-variants.{EndsOf, Breaks}
 
 -- the first rule that a line breaks, or the ends of the values that it makes. The rule of refusal 4 is the same for every line after line 0
-pub data Told : Type 0 where
-  refuses : (number : ℕ) → Told
-  makes : List Ends → Told
+pub data Yield : Type 0 where
+  refuses : (number : ℕ) → Yield
+  makes : List Ends → Yield
 
-unfoldable pub toldOf : Known → Line → Told
-toldOf s l = onSome (firstBroken rules 1 s l) refuses (makes (gadget s l .made))
+unfoldable pub yieldOf : Known → Line → Yield
+yieldOf s l = onSome (firstBroken rules 1 s l) refuses (makes (gadget s l .made))
 
 -- the same for a span line, which makes no value: the first rule that it breaks, or the new ends of v
-unfoldable pub spanTold : Known → Line → Told
-spanTold s l =
+unfoldable pub spanYield : Known → Line → Yield
+spanYield s l =
     let ns : List ℤ = l .numbers in
     onSome (firstBroken rules 1 s l) refuses
     (makes (shared (sizeAt ns 1) (sizeAt ns 2) (numberAt ns 3) (endsOf s (sizeAt ns 0)) ∷ []))
 
-unfoldable pub madeSeen : Made → Told
-madeSeen (EndsOf low high) = makes (ends low high ∷ [])
-madeSeen (Breaks n) = refuses n
+unfoldable pub madeMeaning : Made → Yield
+madeMeaning (EndsOf low high) = makes (ends low high ∷ [])
+madeMeaning (Breaks n) = refuses n
 
 abbrev pub lineWith : Word → List ℤ → Line
 lineWith w ns = record { word = w; numbers = ns }
