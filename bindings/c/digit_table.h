@@ -6,9 +6,9 @@
  *  - what a call writes (all that is not const) overlaps nothing else that is lent to the same call.
  * Nothing is kept after a call and nothing is allocated: calls may run at the same time. A call takes less than 64 KiB of stack.
  *
- * A reply is a number and a place (FORMAT 9.3 and 9.18 in docs/FORMAT.md): number 0 for a list that was read, a table that was accepted and a
- * table that was made, 1 to 20 for a refusal, whose clause has its number (FORMAT 10.1 to 10.20). The place is a line, a cell, a row or an input, by the number. Lines, cells, rows,
- * values and inputs count from 0. */
+ * A reply is a number and a place (FORMAT 9.3 and 9.18 in docs/FORMAT.md): number 0 for a list that was read, a table that was accepted
+ * and a table that was made, 1 to 20 for a refusal, whose clause has its number (FORMAT 10.1 to 10.20). The place is a line, a cell, a row
+ * or an input, by the number. Lines, cells, rows, values and inputs count from 0. */
 #ifndef DIGIT_TABLE_H
 #define DIGIT_TABLE_H
 
@@ -62,8 +62,8 @@ uint32_t digit_table_desk_call(uint64_t *heard, uint64_t *accepted, uint64_t *re
                                const uint32_t *table, size_t table_length,
                                size_t *place);
 
-/* Answers an input as the program does (FORMAT 9.16, 9.17): a list, the line `end`, then one input a line, by the lines of the table or by one line
- * `refused`, number, place.
+/* Answers an input as the program does (FORMAT 9.16, 9.17): a list, the line `end`, then one input a line, by the lines of the table or by
+ * one line `refused`, number, place.
  * Reads: the input's bytes.
  * Writes: the answer, at the start of the output, where it has room; the rest of the output, or all of it where the answer has no room, is
  *   left as it is.

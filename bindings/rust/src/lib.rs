@@ -86,8 +86,8 @@ pub fn check(list: &[u8], table: &[u32]) -> Result<(), Refusal> {
     reply(number, place)
 }
 
-/// Makes the table of a column of inputs (FORMAT 9.7, 9.8), in a slice of as many cells as the list has. A refusal, 1 to 13 or 16 to 18, leaves the slice
-/// as it was.
+/// Makes the table of a column of inputs (FORMAT 9.7, 9.8), in a slice of as many cells as the list has. A refusal, 1 to 13 or 16 to
+/// 18, leaves the slice as it was.
 pub fn make(list: &[u8], inputs: &[i64], table: &mut [u32]) -> Result<(), Refusal> {
     let mut place = 0;
     // SAFETY: the slices are there for the call, `table` is borrowed for it alone, and the place is apart from them.
@@ -105,8 +105,8 @@ pub fn make(list: &[u8], inputs: &[i64], table: &mut [u32]) -> Result<(), Refusa
     reply(number, place)
 }
 
-/// Hands back the part of the table that holds the cells of a line (FORMAT 9.9, 9.10). It is empty for the field line, for a line that is not there, for a
-/// refused list and for a wrong table length.
+/// Hands back the part of the table that holds the cells of a line (FORMAT 9.9, 9.10). It is empty for the field line, for a line
+/// that is not there, for a refused list and for a wrong table length.
 pub fn show<'a>(list: &[u8], table: &'a [u32], line: usize) -> &'a [u32] {
     let mut first = 0;
     // SAFETY: the slices are there for the call, and the number is apart from them.
@@ -127,8 +127,8 @@ pub fn show<'a>(list: &[u8], table: &'a [u32], line: usize) -> &'a [u32] {
 /// In an output of so many bytes every answer has room (FORMAT 9.17).
 pub const LONGEST_ANSWER: usize = 65_547;
 
-/// Answers an input as the program does (FORMAT 9.16): a list, the line `end`, then one input a line, by the lines of the table or by one line `refused`,
-/// number, place.
+/// Answers an input as the program does (FORMAT 9.16): a list, the line `end`, then one input a line, by the lines of the table or by
+/// one line `refused`, number, place.
 pub fn respond(input: &[u8]) -> Vec<u8> {
     let mut output = vec![0; LONGEST_ANSWER];
     let length = respond_into(input, &mut output);
@@ -136,8 +136,8 @@ pub fn respond(input: &[u8]) -> Vec<u8> {
     output
 }
 
-/// The same into a lent output. It begins with the answer, whose length is returned; where the answer has no room the output is as it was,
-/// and 0 is returned.
+/// The same into a lent output. It begins with the answer, whose length is returned; where the answer has no room the output is as it
+/// was, and 0 is returned.
 pub fn respond_into(input: &[u8], output: &mut [u8]) -> usize {
     // SAFETY: the slices are there for the call, and `output` is borrowed for it alone.
     unsafe {
@@ -162,8 +162,8 @@ impl Desk {
         Desk::default()
     }
 
-    /// Checks a table and counts the call (FORMAT 9.12, 9.13). Refusals 19, where the counts do not agree, and 20, at the full count, come before all others
-    /// and leave the counts as they are.
+    /// Checks a table and counts the call (FORMAT 9.12, 9.13). Refusals 19, where the counts do not agree, and 20, at the full count,
+    /// come before all others and leave the counts as they are.
     pub fn call(&mut self, list: &[u8], table: &[u32]) -> Result<(), Refusal> {
         let mut place = 0;
         // SAFETY: the slices are there for the call; the counts are borrowed for it alone, and the place is apart from all.
