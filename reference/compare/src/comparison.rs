@@ -37,15 +37,15 @@ impl Comparison {
         }
     }
 
-    /// A case built on purpose: the two agree, and on the reply that the document gives. Where a source has a true table, making from its
+    /// A case built on purpose: the two agree, and on the reply that the format gives. Where a source has a true table, making from its
     /// inputs writes that table.
     pub fn compare_directed(&mut self, directed: &Directed, lines: &[usize]) {
         let Directed { way, call, case, reply } = directed;
         self.compare(way, case, lines);
         let actual = directed.actual();
         if actual != *reply {
-            let seen = [("reference", format!("{actual:?}")), ("document", format!("{reply:?}"))];
-            self.differ(&format!("{way}: the document's reply"), case, lines, seen);
+            let seen = [("reference", format!("{actual:?}")), ("format", format!("{reply:?}"))];
+            self.differ(&format!("{way}: the format's reply"), case, lines, seen);
         }
         if case.kind == SOURCE && *call == Call::Check && *reply == (0, 0) {
             let mut made = vec![u32::MAX; case.table.len()];

@@ -1,17 +1,17 @@
-//! The worked examples of the source documents 000 to 004 and of the paper itself, as cases with
-//! the figures that stand on their pages.
+//! The worked examples of the source documents 000 to 004, which the mathematics is from, and of
+//! the format itself (chapter 12), as cases with the figures that stand on their pages.
 //!
 //! Every figure is copied from a page or, where a list stores more than a source does (w, the
-//! zeros above a number's highest digit, the digits of a span), worked by hand from the paper's
-//! rules; none was taken from a program. Where a source differs from the paper, the paper's reply
+//! zeros above a number's highest digit, the digits of a span), worked by hand from the format's
+//! rules; none was taken from a program. Where a source differs from the format, the format's reply
 //! is given, and the example says how they differ.
 //!
 //! What no list can state, and why:
-//! - 000 and 004, the prime of BN254: 254 bits, while p is at most 2,147,483,647.
+//! - 000 and 004, the prime of BN254: 254 bits, while p is at most 2,147,483,647 (FORMAT 1.1).
 //! - 000, section 3 by the upper bound (digits of B-a): `relu` has its group over v+B only.
 //! - 000, 001 and 002, the columns q and RHS: the whole number left over by the digits and their
 //!   sum stand in no cell.
-//! - 003, example 1.1: bits in -99..100: a cell holds a remainder from 0 to p-1.
+//! - 003, example 1.1: bits in -99..100: a cell holds a remainder from 0 to p-1 (FORMAT 1.5).
 //! - 003, example 1.7 and proposition 3.6: no line divides, and none multiplies two values.
 //! - 003, propositions 3.1 and 3.2: no line says that a value is a constant or another value.
 //! - 003, proposition 3.3: no line says that a value is in a set that is not a stretch.
@@ -21,7 +21,7 @@
 
 use super::directed::{Call, Directed};
 use super::{
-    program_text, sources_paper, sources_range, sources_relu, sources_root, sources_whole, text,
+    program_text, sources_format, sources_range, sources_relu, sources_root, sources_whole, text,
     Case,
 };
 
@@ -38,12 +38,12 @@ pub fn sources() -> Vec<Directed> {
         sources_relu::cases(),
         sources_whole::cases(),
         sources_root::cases(),
-        sources_paper::cases(),
+        sources_format::cases(),
     ]
     .concat()
 }
 
-/// An example: its place in the sources, and the list that states it.
+/// An example: its place in a source, or its clause of the format, and the list that states it.
 #[derive(Clone, Copy)]
 pub struct Example {
     pub place: &'static str,
