@@ -61,11 +61,10 @@ pub fn size_of(x: Whole) -> usize
 pub fn natural(x: Whole) -> usize
     ensures { λ r. ⌜ (pos 0 ≤ℤ x .0 → r ≡ natAbs (x .0)) ⌝ }
 {
-    let z = x.0;
-    if z < 0 {
+    if x.0 < 0 {
         return 0;
     }
-    z as usize
+    size_of(x)
 }
 
 // ---- order
