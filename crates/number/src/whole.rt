@@ -5,7 +5,7 @@ ghost use Prim.Native.Nat.{_<_};
 ghost use lib.Dec.{ltb};
 ghost use lib.IntN.{pos, natAbs, negℤ, _+ℤ_, _-ℤ_, _*ℤ_};
 ghost use lib.ListN.{length, getD, set};
-ghost use lib.Signed.{mag, nonNeg, leZ, _≤ℤ_};
+ghost use lib.Signed.{mag, nonNeg, leZ, ltZ, _≤ℤ_};
 ghost use mir.Syntax.{w64};
 ghost use mir.Val.{SFits};
 ghost use Rattle.meaning.specs.Known.{larger, smaller};
@@ -68,6 +68,12 @@ pub fn natural(x: Whole) -> usize
 }
 
 // ---- order
+
+pub fn is_negative(x: Whole) -> bool
+    ensures { λ r. ⌜ r ≡ ltZ (x .0) (pos 0) ⌝ }
+{
+    x.0 < 0
+}
 
 pub fn is_at_most(a: Whole, b: Whole) -> bool
     ensures { λ r. ⌜ r ≡ leZ (a .0) (b .0) ⌝ }

@@ -1,15 +1,15 @@
 -- Line 0: what reading tells of it, by its word and its number.
 use mathlib.Core.Path.{_≡_, refl, sym, ap, _∙_}
-use mathlib.Core.Bool.{true, false, _&&_}
+use mathlib.Core.Bool.{true, false, not, _&&_}
 use mathlib.Core.List.{List, [], _∷_}
 use Prim.Native.Nat.{ℕ, _≤_}
 use native.Mathlib.Omega.{arith}
 use lib.ListN.{getD, take}
 use lib.Seq.{getD-take}
-use lib.IntN.{ℤ, pos, negsuc, natAbs}
-use lib.Signed.{nonNeg, leZ, _≤ℤ_}
-use Rattle.algebra.proofs.Test.{≡-test, test-≡, leZ-iff}
+use lib.IntN.{ℤ, pos, natAbs}
+use lib.Signed.{ltZ, _≤ℤ_}
 use Rattle.algebra.proofs.Integer.Linear.{linear}
+use Rattle.number.proofs.Word.{from-zero, not-below-zero}
 use Rattle.text.specs.Word.{wordOf}
 use Rattle.text.specs.declared.Word.{Word}
 use Rattle.text.specs.declared.Word.the-variants.{Field, In, Span, Sum, Relu, Which, Max, Root}
@@ -57,11 +57,6 @@ not-field Which h = refl
 not-field Max h = refl
 not-field Root h = refl
 
--- a number is not negative where 0 is at most it
-same-test : (z : ℤ) → leZ (pos 0) z ≡ nonNeg z
-same-test (pos n) = test-≡ (leZ (pos 0) (pos n)) (leZ-iff (pos 0) (pos n) .1 (omega linear))
-same-test (negsuc n) = refl
-
 module _ {w : Word} {n : ℕ} {numbers : List ℤ} (parsed : ParsedLine w n numbers) (is : w ≡ Field) where
   abbrev z : ℤ
   z = getD numbers 0 (pos 0)
@@ -77,17 +72,17 @@ module _ {w : Word} {n : ℕ} {numbers : List ℤ} (parsed : ParsedLine w n numb
   pub first-size : natAbs z ≤ greatest
   first-size = parsed .small 0 (omega (arith, one))
 
-  over-prime : isOverPrime field (take n numbers) ≡ leZ (pos 0) z && oddPrime (natAbs z)
+  over-prime : isOverPrime field (take n numbers) ≡ not (ltZ z (pos 0)) && oddPrime (natAbs z)
   unfolding isOverPrime kindOf
-  over-prime = rw (number-first, same-test z)
+  over-prime = rw (number-first, not-below-zero z)
 
-  pub first-negative : leZ (pos 0) z ≡ false → stops 5 ≡ stepOf 0 fresh (lineWith (wordOf w) (take n numbers))
+  pub first-negative : ltZ z (pos 0) ≡ true → stops 5 ≡ stepOf 0 fresh (lineWith (wordOf w) (take n numbers))
   unfolding wordOf
   first-negative t = rw is (first-not-prime (take n numbers) (over-prime ∙ rw t))
 
-  module _ (t : leZ (pos 0) z ≡ true) where
+  module _ (t : ltZ z (pos 0) ≡ false) where
     pub first-natural : pos 0 ≤ℤ z
-    first-natural = leZ-iff (pos 0) z .0 (≡-test (leZ (pos 0) z) t)
+    first-natural = let is = from-zero z t in omega linear
 
     pub first-composite : oddPrime (natAbs z) ≡ false → stops 5 ≡ stepOf 0 fresh (lineWith (wordOf w) (take n numbers))
     unfolding wordOf

@@ -1,9 +1,8 @@
 // Line 0 in reading: a field line over an odd prime, or its refusal.
 use number::prime::is_odd_prime;
-use number::whole::is_at_most;
+use number::whole::is_negative;
 use number::whole::size_of;
 use number::whole::whole_at;
-use number::whole::whole_of;
 use text::Word;
 ghost use mathlib.Core.Path.{_≡_};
 ghost use Prim.Native.Nat.{_≤_};
@@ -31,7 +30,7 @@ pub fn first_parsed(word: Word, numbers: &[i64], count: usize) -> First
         return First::NotFirst(4);
     };
     let n = whole_at(numbers, 0);
-    if !is_at_most(whole_of(0), n) {
+    if is_negative(n) {
         return First::NotFirst(5);
     }
     let p = size_of(n) as u32;

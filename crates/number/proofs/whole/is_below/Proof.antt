@@ -1,27 +1,17 @@
 -- `number::whole::is_below`: a number that is not negative is its own size, which is what the second test asks of.
-use mathlib.Core.Path.{_≡_, refl}
-use mathlib.Core.Bool.{false}
-use Prim.Native.Nat.{suc}
 use native.Mathlib.Omega.{arith}
-use lib.IntN.{ℤ, pos, negsuc}
-use lib.Signed.{mag, nonNeg}
 use mir.Syntax.{w64}
 use mir.Val.{SFits}
-use Rattle.algebra.proofs.Integer.Order.{negativePart}
 use borrow.Author.Needs.{needs}
-use Rattle.number.proofs.Word.{back, negative, not-negative}
+use Rattle.number.proofs.Word.{back, not-negative, not-below-zero}
 use Rattle.number.proofs.whole.is_below.Statement.{statement}
 use Rattle.number.proofs.whole.is_below.Tie as tie
 
 fits : (c : tie.Start) → SFits w64 (c .args .x .0)
 fits c = search needs
 
-below-zero : (z : ℤ) → negativePart z ≡ suc (mag z) → nonNeg z ≡ false
-below-zero (pos n) e = absurd (omega arith)
-below-zero (negsuc n) e = refl
-
 returns : tie.Need-returns
-returns c = let s = c .before .before in rw (below-zero (s .args .x .0) (negative (fits s) (c .if1 .taken) .1))
+returns c = let s = c .before .before in rw (not-below-zero (s .args .x .0), rw (back (fits s)) at (c .if1 .taken))
 
 cast-result : tie.Need-cast-result
 cast-result c =

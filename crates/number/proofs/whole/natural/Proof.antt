@@ -1,6 +1,4 @@
 -- `number::whole::natural`: a number that is not negative is its own size.
-use lib.IntN.{pos}
-use lib.Signed.{_≤ℤ_}
 use mir.Syntax.{w64}
 use mir.Val.{SFits}
 use Rattle.algebra.proofs.Integer.Linear.{linear}

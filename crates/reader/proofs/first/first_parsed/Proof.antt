@@ -1,11 +1,11 @@
 -- `reader::first::first_parsed`: line 0 is a field line over an odd prime, or it is refused 4 or 5.
 use mathlib.Core.Path.{_≡_, sym, ap, _∙_}
-use mathlib.Core.Bool.{true}
+use mathlib.Core.Bool.{false}
 use Prim.Native.Nat.{ℕ}
 use native.Mathlib.Omega.{arith}
 use lib.IntN.{pos, natAbs}
 use lib.ListN.{getD}
-use lib.Signed.{leZ}
+use lib.Signed.{ltZ}
 use denote.Ref.{now}
 use borrow.Author.Tests.{not-true, not-false}
 use Rattle.meaning.specs.Number.{oddPrime}
@@ -24,20 +24,20 @@ returns c = (first-other _ _ (not-field (c .before .args .word) (c .match .keys2
 whole-at-requires : tie.Need-whole-at-requires
 whole-at-requires c κs = omega (arith, c .before .before .pre .numbers-long)
 
--- the test of the number, at the number
-test : (c : tie.After-is-at-most) → leZ (pos 0) (getD (now (c .before .before .before .before .before .args .numbers)) 0 (pos 0)) ≡ c .is-at-most .result
-test c = sym (rw (c .before .whole-of .ensures, c .before .before .whole-at .ensures) at (c .is-at-most .ensures))
+-- the test of the number that was read
+test : (c : tie.After-is-negative) → ltZ (getD (now (c .before .before .before .before .args .numbers)) 0 (pos 0)) (pos 0) ≡ c .is-negative .result
+test c = sym (rw (c .before .whole-at .ensures) at (c .is-negative .ensures))
 
 returns-2 : tie.Need-returns-2
 unfolding firstMeaning primeIn
 returns-2 c =
-    let at-word = c .before .before .before .before in
-    (first-negative (at-word .before .before .pre) (at-word .enum-told .given .1) (test (c .before) ∙ not-true _ (c .if1 .taken)), omega arith)
+    let at-word = c .before .before .before in
+    (first-negative (at-word .before .before .pre) (at-word .enum-told .given .1) (test (c .before) ∙ c .if1 .taken), omega arith)
 
 -- where it is not negative
 module _ (c : tie.Else1) where
   abbrev at-word : tie.After-enum-told
-  at-word = c .before .before .before .before
+  at-word = c .before .before .before
 
   abbrev parsed : ParsedLine (at-word .before .before .args .word) (at-word .before .before .args .count) (now (at-word .before .before .args .numbers))
   parsed = at-word .before .before .pre
@@ -45,14 +45,14 @@ module _ (c : tie.Else1) where
   abbrev is-field : at-word .before .before .args .word ≡ Field
   is-field = at-word .enum-told .given .1
 
-  passed : leZ (pos 0) (getD (now (at-word .before .before .args .numbers)) 0 (pos 0)) ≡ true
-  passed = test (c .before) ∙ not-false _ (c .if1 .left)
+  passed : ltZ (getD (now (at-word .before .before .args .numbers)) 0 (pos 0)) (pos 0) ≡ false
+  passed = test (c .before) ∙ c .if1 .left
 
 size-of-requires : tie.Need-size-of-requires
-size-of-requires c κs = rw (c .before .before .before .whole-at .ensures) (first-natural (parsed c) (is-field c) (passed c))
+size-of-requires c κs = rw (c .before .before .whole-at .ensures) (first-natural (parsed c) (is-field c) (passed c))
 
 number : (c : tie.After-size-of) → c .size-of .result ≡ natAbs (getD (now (at-word (c .before) .before .before .args .numbers)) 0 (pos 0))
-number c = c .size-of .ensures ∙ ap natAbs (c .before .before .before .before .whole-at .ensures)
+number c = c .size-of .ensures ∙ ap natAbs (c .before .before .before .whole-at .ensures)
 
 cast-p : tie.Need-cast-p
 cast-p c = record { fits = omega (arith, number c, first-size (parsed (c .before)) (is-field (c .before))) }
@@ -75,4 +75,4 @@ returns-4 c =
     )
 
 pub first-parsed-spec : {M : Type 1} → statement M
-first-parsed-spec = tie.close (tie.spec (λ c. search needs) returns whole-at-requires (λ c κs. search needs) (λ c κs. search needs) returns-2 size-of-requires cast-p (λ c κs. search needs) returns-3 returns-4)
+first-parsed-spec = tie.close (tie.spec (λ c. search needs) returns whole-at-requires (λ c κs. search needs) returns-2 size-of-requires cast-p (λ c κs. search needs) returns-3 returns-4)
