@@ -1,7 +1,7 @@
 // The public calls for programs in other languages, by the C ABI: numbers pass as themselves, a slice as a pointer and a length, and a place that
 // is lent for one number as a pointer. No function asks anything of its caller but that what it lends is there and that what is written overlaps
 // nothing else that is lent. Each returns the number of its reply, but for showing and answering, which return a count.
-// FORMAT 9.1, 9.2, 9.18, 9.21
+// FORMAT 9.1, 9.2, 9.18, 9.21, 9.22
 use desk::Desk;
 use program::respond;
 use service::Answer;
