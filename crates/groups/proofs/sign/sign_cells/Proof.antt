@@ -1,12 +1,11 @@
 -- `groups::sign::sign_cells`: the digits of x + B are written first, then f and w into the part after them.
 use mathlib.Core.Path.{_≡_, refl, ap, _∙_}
 use mathlib.Core.List.{_++_}
-use Prim.Native.Nat.{_+_, _-_, _/_, _%_, _^_, _≤_, _<_}
+use Prim.Native.Nat.{_+_, _-_, _/_, _%_, _^_, _<_}
 use native.Mathlib.Omega.{arith}
 use native.Mathlib.Nat.{div-le-self, mod-lt}
-use lib.Dec.{lit≤}
 use lib.IntN.{pos, natAbs, _-ℤ_}
-use lib.ListN.{drop, getD, List·getD-append}
+use lib.ListN.{drop, List·getD-append}
 use Rattle.algebra.specs.Congruence.{remainder}
 use Rattle.algebra.specs.Digits.{digits}
 use Rattle.algebra.proofs.Digits.{length-digits, digit-at}

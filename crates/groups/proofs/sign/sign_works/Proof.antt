@@ -1,5 +1,5 @@
 -- `groups::sign::sign_works`: c / b is b^(k-1), and the rest of c is B, so `within` tests the definition's range.
-use mathlib.Core.Path.{_≡_, ap₂, _∙_}
+use mathlib.Core.Path.{ap₂, _∙_}
 use Prim.Native.Nat.{ℕ, _≤_}
 use native.Mathlib.Omega.{arith}
 use native.Mathlib.Nat.{div-le-self}
