@@ -1,13 +1,14 @@
 -- Whole numbers in a machine word. A signed local holds bits, so a use of x reads `toZ w64 (ofZ w64 x)`: `back` takes the bits away
 -- where x fits. What fits is said by the two parts of an integer, as algebra has them, so that `omega` decides it.
 use mathlib.Core.Path.{_≡_, refl, ap, _∙_}
-use mathlib.Core.Bool.{Bool, true, false}
+use mathlib.Core.Bool.{Bool, true, false, not}
 use Prim.Native.Nat.{ℕ, suc, _+_, _-_, _*_, _%_, _≤_, _<_}
 use native.Mathlib.Omega.{arith}
 use native.Mathlib.Nat.{mul-le-mul, mod-lt}
 use lib.Dec.{T, ltb, ltb→lt}
 use lib.IntN.{ℤ, pos, negsuc, negℤ, natAbs, _-ℤ_}
 use lib.Signed.{mag, ltZ, leZ, nonNeg, _≤ℤ_, _<ℤ_, ltZ-no}
+use borrow.Author.Tests.{le-ltb}
 use mir.Syntax.{w32, w64}
 use mir.Val.{Fits, SFits, toZ, ofZ}
 use mir.ValLaws.{toZ-ofZ, toZ-pos}
@@ -40,21 +41,25 @@ parts-fit (negsuc n) h k = record { sfits = omega arith }
 pub literal : (z : ℤ) → T (ltb (mag z) pastI64) → SFits w64 z
 literal z t = record { sfits = ltb→lt (mag z) pastI64 t }
 
--- ---- the test `z < 0` of an i64, and the cast to a u64
+-- ---- the test z < 0: what is known by it, of an i64 too, whose test reads bits; and the cast to a u64
+
+pub below-zero : (z : ℤ) → ltZ z (pos 0) ≡ true → (positivePart z ≡ 0) × (negativePart z ≡ suc (mag z))
+below-zero (pos n) e = let h : pos n <ℤ pos 0 = record { lt = ≡-test (ltZ (pos n) (pos 0)) e } in absurd (omega integer)
+below-zero (negsuc n) e = (refl, refl)
+
+pub from-zero : (z : ℤ) → ltZ z (pos 0) ≡ false → z ≡ pos (mag z)
+from-zero (pos n) e = refl
+from-zero (negsuc n) e = let h : pos 0 ≤ℤ negsuc n = ltZ-no (false-test (ltZ (negsuc n) (pos 0)) e) in absurd (omega integer)
+
+pub not-below-zero : (z : ℤ) → nonNeg z ≡ not (ltZ z (pos 0))
+not-below-zero (pos n) = rw (le-ltb n 0 (omega arith))
+not-below-zero (negsuc n) = refl
 
 pub negative : {z : ℤ} → SFits w64 z → ltZ (toZ w64 (ofZ w64 z)) (pos 0) ≡ true → (positivePart z ≡ 0) × (negativePart z ≡ suc (mag z))
-negative {z} f e = below z (record { lt = ≡-test (ltZ z (pos 0)) (rw (back f) at e) })
-  where
-    below : (z : ℤ) → z <ℤ pos 0 → (positivePart z ≡ 0) × (negativePart z ≡ suc (mag z))
-    below (pos n) h = absurd (omega integer)
-    below (negsuc n) h = (refl, refl)
+negative {z} f e = below-zero z (rw (back f) at e)
 
 pub not-negative : {z : ℤ} → SFits w64 z → ltZ (toZ w64 (ofZ w64 z)) (pos 0) ≡ false → z ≡ pos (mag z)
-not-negative {z} f e = above z (ltZ-no (false-test (ltZ z (pos 0)) (rw (back f) at e)))
-  where
-    above : (z : ℤ) → pos 0 ≤ℤ z → z ≡ pos (mag z)
-    above (pos n) h = refl
-    above (negsuc n) h = absurd (omega integer)
+not-negative {z} f e = from-zero z (rw (back f) at e)
 
 -- a number that is not negative goes into a u64
 pub cast-fits : (z : ℤ) → SFits w64 z → pos 0 ≤ℤ z → T (nonNeg z) × Fits w64 (natAbs z)

@@ -1,9 +1,11 @@
 // Whole numbers in a machine word: order, choice and range, and the operations where the result fits.
 ghost use mathlib.Core.Path.{_≡_};
+ghost use mathlib.Core.Bool.{_&&_};
 ghost use Prim.Native.Nat.{_<_};
+ghost use lib.Dec.{ltb};
 ghost use lib.IntN.{pos, natAbs, negℤ, _+ℤ_, _-ℤ_, _*ℤ_};
 ghost use lib.ListN.{length, getD, set};
-ghost use lib.Signed.{mag, leZ, _≤ℤ_};
+ghost use lib.Signed.{mag, nonNeg, leZ, ltZ, _≤ℤ_};
 ghost use mir.Syntax.{w64};
 ghost use mir.Val.{SFits};
 ghost use Rattle.meaning.specs.Known.{larger, smaller};
@@ -59,19 +61,35 @@ pub fn size_of(x: Whole) -> usize
 pub fn natural(x: Whole) -> usize
     ensures { λ r. ⌜ (pos 0 ≤ℤ x .0 → r ≡ natAbs (x .0)) ⌝ }
 {
-    let z = x.0;
-    if z < 0 {
+    if x.0 < 0 {
         return 0;
     }
-    z as usize
+    size_of(x)
 }
 
 // ---- order
+
+pub fn is_negative(x: Whole) -> bool
+    ensures { λ r. ⌜ r ≡ ltZ (x .0) (pos 0) ⌝ }
+{
+    x.0 < 0
+}
 
 pub fn is_at_most(a: Whole, b: Whole) -> bool
     ensures { λ r. ⌜ r ≡ leZ (a .0) (b .0) ⌝ }
 {
     a.0 <= b.0
+}
+
+// Whether x is one of the n numbers from 0 on.
+pub fn is_below(x: Whole, n: usize) -> bool
+    ensures { λ r. ⌜ r ≡ nonNeg (x .0) && ltb (natAbs (x .0)) n ⌝ }
+{
+    let z = x.0;
+    if z < 0 {
+        return false;
+    }
+    (z as usize) < n
 }
 
 pub fn larger(a: Whole, b: Whole) -> Whole

@@ -1,6 +1,7 @@
 // Writes text into a part of the output that is lent: bytes, numbers and fields. Each writer is given a part with room for its text,
 // writes the text at its start and leaves what comes after it; the part that is left then goes to the next writer.
 use number::Whole;
+use number::whole::is_negative;
 use number::whole::magnitude;
 ghost use mathlib.Core.Path.{_≡_};
 ghost use Prim.Native.Nat.{_≤_};
@@ -68,23 +69,23 @@ pub fn write_field(part: &mut [u8], n: u64, end: u8) -> usize
 // ---- a signed number, with - before it if negative. The size of the lowest i64 is no i64, but a u64
 
 // How many bytes it has.
-pub fn number_length(z: i64) -> usize
-    ensures { λ r. ⌜ r ≡ length (numberText z) ⌝ }
+pub fn number_length(z: Whole) -> usize
+    ensures { λ r. ⌜ r ≡ length (numberText (z .0)) ⌝ }
 {
-    let size = magnitude(Whole(z));
-    if z < 0 {
+    let size = magnitude(z);
+    if is_negative(z) {
         return 1 + decimal_length(size + 1);
     }
     decimal_length(size)
 }
 
 // Writes the sign, and then the size.
-pub fn write_number(part: &mut [u8], z: i64) -> usize
-    requires { ⌜ length (numberText z) ≤ length (now part) ⌝ }
-    ensures { λ r. ⌜ Written (numberText z) (now (part .entry)) (now (part .exit)) r ⌝ }
+pub fn write_number(part: &mut [u8], z: Whole) -> usize
+    requires { ⌜ length (numberText (z .0)) ≤ length (now part) ⌝ }
+    ensures { λ r. ⌜ Written (numberText (z .0)) (now (part .entry)) (now (part .exit)) r ⌝ }
 {
-    let size = magnitude(Whole(z));
-    if z < 0 {
+    let size = magnitude(z);
+    if is_negative(z) {
         let at = write_bytes(part, b"-");
         return at + write_decimal(&mut part[at..], size + 1);
     }

@@ -33,7 +33,7 @@ module _ (text : List ℕ) (x : Surveyed) (yields : surveyMeaning x ≡ surveyOf
   unfolding replyOf surveyMeaning
   refused-replied n i is = ap (λ (y : Surveyed). replyOf (surveyMeaning y)) (sym is) ∙ found-replied
 
-  pub counts-replied : (p : ℕ) (c : Counts) → x ≡ Counted p c → counts p (c .values) (c .cells) (c .rows) ≡ readReply text
+  pub counts-replied : (p : ℕ) (c : Counts) → x ≡ Counted p c → counts p (c .values) (c .cells .0) (c .rows) ≡ readReply text
   unfolding replyOf surveyMeaning
   counts-replied p c is = ap (λ (y : Surveyed). replyOf (surveyMeaning y)) (sym is) ∙ found-replied
 

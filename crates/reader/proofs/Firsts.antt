@@ -1,17 +1,15 @@
 -- Line 0: what reading tells of it, by its word and its number.
 use mathlib.Core.Path.{_≡_, refl, sym, ap, _∙_}
-use mathlib.Core.Bool.{true, false}
+use mathlib.Core.Bool.{true, false, not, _&&_}
 use mathlib.Core.List.{List, [], _∷_}
-use Prim.Native.Nat.{ℕ, suc, _≤_}
+use Prim.Native.Nat.{ℕ, _≤_}
 use native.Mathlib.Omega.{arith}
 use lib.ListN.{getD, take}
 use lib.Seq.{getD-take}
-use lib.IntN.{ℤ, pos, negsuc, natAbs}
-use lib.Signed.{nonNeg, mag, ltZ}
-use mir.Syntax.{w64}
-use mir.Val.{SFits, toZ, ofZ}
-use Rattle.algebra.proofs.Integer.Order.{positivePart, negativePart, natAbs-parts}
-use Rattle.number.proofs.Word.{back, parts-fit, negative, not-negative}
+use lib.IntN.{ℤ, pos, natAbs}
+use lib.Signed.{ltZ, _≤ℤ_}
+use Rattle.algebra.proofs.Integer.Linear.{linear}
+use Rattle.number.proofs.Word.{from-zero, not-below-zero}
 use Rattle.text.specs.Word.{wordOf}
 use Rattle.text.specs.declared.Word.{Word}
 use Rattle.text.specs.declared.Word.the-variants.{Field, In, Span, Sum, Relu, Which, Max, Root}
@@ -59,10 +57,6 @@ not-field Which h = refl
 not-field Max h = refl
 not-field Root h = refl
 
-below-zero : (z : ℤ) → positivePart z ≡ 0 → negativePart z ≡ suc (mag z) → nonNeg z ≡ false
-below-zero (pos n) h k = absurd (omega arith)
-below-zero (negsuc n) h k = refl
-
 module _ {w : Word} {n : ℕ} {numbers : List ℤ} (parsed : ParsedLine w n numbers) (is : w ≡ Field) where
   abbrev z : ℤ
   z = getD numbers 0 (pos 0)
@@ -75,36 +69,25 @@ module _ {w : Word} {n : ℕ} {numbers : List ℤ} (parsed : ParsedLine w n numb
   unfolding numberAt
   number-first = getD-take n numbers 0 (pos 0) (omega (arith, one))
 
-  first-small : natAbs z ≤ greatest
-  first-small = parsed .small 0 (omega (arith, one))
+  pub first-size : natAbs z ≤ greatest
+  first-size = parsed .small 0 (omega (arith, one))
 
-  pub first-fits : SFits w64 z
-  first-fits = parts-fit z (omega (arith, first-small, natAbs-parts z)) (omega (arith, first-small, natAbs-parts z))
+  over-prime : isOverPrime field (take n numbers) ≡ not (ltZ z (pos 0)) && oddPrime (natAbs z)
+  unfolding isOverPrime kindOf
+  over-prime = rw (number-first, not-below-zero z)
 
-  pub first-negative : ltZ (toZ w64 (ofZ w64 z)) (pos 0) ≡ true → stops 5 ≡ stepOf 0 fresh (lineWith (wordOf w) (take n numbers))
-  unfolding wordOf isOverPrime kindOf
-  first-negative t =
-      let h = negative first-fits t in
-      rw is (first-not-prime (take n numbers) (rw (number-first, below-zero z (h .0) (h .1)) refl))
+  pub first-negative : ltZ z (pos 0) ≡ true → stops 5 ≡ stepOf 0 fresh (lineWith (wordOf w) (take n numbers))
+  unfolding wordOf
+  first-negative t = rw is (first-not-prime (take n numbers) (over-prime ∙ rw t))
 
-  module _ (t : ltZ (toZ w64 (ofZ w64 z)) (pos 0) ≡ false) where
-    pub first-is : z ≡ pos (mag z)
-    first-is = not-negative first-fits t
+  module _ (t : ltZ z (pos 0) ≡ false) where
+    pub first-natural : pos 0 ≤ℤ z
+    first-natural = let is = from-zero z t in omega linear
 
-    pub first-number : natAbs (toZ w64 (ofZ w64 z)) ≡ mag z
-    first-number = rw (back first-fits) (ap natAbs first-is)
-
-    pub first-size : mag z ≤ greatest
-    first-size = omega (arith, first-small, ap natAbs first-is)
-
-    over-prime : isOverPrime field (take n numbers) ≡ oddPrime (mag z)
-    unfolding isOverPrime kindOf
-    over-prime = rw number-first (rw first-is refl)
-
-    pub first-composite : oddPrime (mag z) ≡ false → stops 5 ≡ stepOf 0 fresh (lineWith (wordOf w) (take n numbers))
+    pub first-composite : oddPrime (natAbs z) ≡ false → stops 5 ≡ stepOf 0 fresh (lineWith (wordOf w) (take n numbers))
     unfolding wordOf
-    first-composite o = rw is (first-not-prime (take n numbers) (over-prime ∙ o))
+    first-composite o = rw is (first-not-prime (take n numbers) (over-prime ∙ rw (t, o)))
 
-    pub first-odd-prime : oddPrime (mag z) ≡ true → goes (only (mag z)) ≡ stepOf 0 fresh (lineWith (wordOf w) (take n numbers))
+    pub first-odd-prime : oddPrime (natAbs z) ≡ true → goes (only (natAbs z)) ≡ stepOf 0 fresh (lineWith (wordOf w) (take n numbers))
     unfolding wordOf sizeAt
-    first-odd-prime o = rw is (ap (λ (y : ℤ). goes (only (natAbs y))) (sym (number-first ∙ first-is)) ∙ first-prime (take n numbers) (over-prime ∙ o))
+    first-odd-prime o = rw is (ap (λ (y : ℤ). goes (only (natAbs y))) (sym number-first) ∙ first-prime (take n numbers) (over-prime ∙ rw (t, o)))

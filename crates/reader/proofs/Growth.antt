@@ -17,7 +17,8 @@ use Rattle.meaning.specs.Refusal.{valueLimit, onSome, rules, firstBroken}
 use Rattle.meaning.specs.Kept.{Keeps}
 use Rattle.meaning.proofs.Kept.{keeps-all}
 use Rattle.rules.specs.Ready.{endsFrom}
-use Rattle.rules.specs.Yield.{refuses, makes, yieldOf, madeMeaning}
+use Rattle.rules.specs.Yield.{refuses, makes, yieldOf, madeMeaning, endsMeaning}
+use Rattle.rules.specs.declared.rule.Ends.{Ends as ReadEnds}
 use Rattle.rules.specs.declared.rule.Made.{Made}
 use Rattle.rules.specs.declared.rule.Made.the-variants.{EndsOf, Breaks}
 use Rattle.rules.proofs.Rules.{yieldWith}
@@ -66,15 +67,15 @@ module _ (n : ℕ) (lows highs : List ℤ) (a b : ℤ) (in-lows : n < length low
 
 -- ---- what is left of the arrays
 
-left-entered : {A : Type 0} (made : Made) (at : ℕ) (c : Counts) (entry : ℤ → ℤ → A) (xs : List A)
-    → ((low high : ℤ) → made ≡ EndsOf low high → at < c .values) → Left (answered made c) xs (entered made at entry xs)
+left-entered : {A : Type 0} (made : Made) (at : ℕ) (c : Counts) (entry : ReadEnds → A) (xs : List A)
+    → ((e : ReadEnds) → made ≡ EndsOf e → at < c .values) → Left (answered made c) xs (entered made at entry xs)
 unfolding answered entered untouched
-left-entered (EndsOf low high) at c entry xs h = record { long = length-set xs at (entry low high); same = drop-set-lt (c .values) xs at (entry low high) (h low high refl) }
+left-entered (EndsOf e) at c entry xs h = record { long = length-set xs at (entry e); same = drop-set-lt (c .values) xs at (entry e) (h e refl) }
 left-entered (Breaks n) at c entry xs h = record { long = refl; same = refl }
 
 -- an entry that stands among the values leaves what is past them
-pub left-by-entry : {A : Type 0} {r : Stepped} {after : List A} (made : Made) (at : ℕ) (c : Counts) (entry : ℤ → ℤ → A) (before : List A)
-    → ((low high : ℤ) → made ≡ EndsOf low high → at < c .values) → r ≡ answered made c → after ≡ entered made at entry before → Left r before after
+pub left-by-entry : {A : Type 0} {r : Stepped} {after : List A} (made : Made) (at : ℕ) (c : Counts) (entry : ReadEnds → A) (before : List A)
+    → ((e : ReadEnds) → made ≡ EndsOf e → at < c .values) → r ≡ answered made c → after ≡ entered made at entry before → Left r before after
 left-by-entry made at c entry before h e f = rw (e, f) (left-entered made at c entry before h)
 
 -- ---- taking in a line
@@ -93,8 +94,8 @@ module _ {p : ℕ} {s : Known} {c : Counts} {lows highs : List ℤ} {places : Li
   pub values-are : length (s .known) ≡ c .values
   unfolding stateOf
   values-are =
-      known-long s (c .values) lows highs (ap (λ (q : Known). q .known) (held .is)) (omega (arith, held .sized .values-most, held .sized .lows-long))
-      (omega (arith, held .sized .values-most, held .sized .highs-long))
+      known-long s (c .values) lows highs (ap (λ (q : Known). q .known) (held .is)) (omega (arith, held .sized .few .values-most, held .sized .lows-long))
+      (omega (arith, held .sized .few .values-most, held .sized .highs-long))
 
   -- what a line does that breaks no rule
   module _ (size : Counts) (adds : Adds s l size) (prime-is : after s l .p ≡ s .p) (kept : firstBroken rules 1 s l ≡ none) where
@@ -114,8 +115,8 @@ module _ {p : ℕ} {s : Known} {c : Counts} {lows highs : List ℤ} {places : Li
 
   -- no more than 256 values, by the line's own rules
   pub few-values : (size : Counts) → (Keeps 1 s l → Adds s l size) → (es : List Ends) (made : Made) → madeMeaning made ≡ yieldWith s l es → valueCount (answered made (added c size)) ≤ valueLimit
-  unfolding valueCount answered counted added madeMeaning
-  few-values size adds es (EndsOf low high) yields =
+  unfolding valueCount answered counted added madeMeaning endsMeaning
+  few-values size adds es (EndsOf e) yields =
       let kept = keeps-all 1 s l (kept-ends s l es yields .0) in
       omega (arith, leb→le (length (s .known) + length (gadget s l .made)) valueLimit (kept .values-fit), values-are, adds kept .values-are)
   few-values size adds es (Breaks n) yields = omega arith
@@ -151,23 +152,23 @@ module _ {p : ℕ} {s : Known} {c : Counts} {lows highs : List ℤ} {places : Li
       grown-with long = stepped held l size (grows .adds) (grows .prime-is) (parts .0) (set lows (c .values) low) (set highs (c .values) high)
           (rw one (ends-grown (c .values) lows highs low high (omega (arith, room-for, held .sized .lows-long)) (omega (arith, room-for, held .sized .highs-long))
           ∙ ap₂ (λ (xs ys : List Ends). xs ++ ys) (sym (grows .narrowed-is ∙ ap (λ (z : Known). z .known) (held .is))) (sym (parts .1))))
-          (rw (one, add-one (c .values), take-suc-set places (c .values) (c .cells) (omega (arith, room-for, long)))
+          (rw (one, add-one (c .values), take-suc-set places (c .values) (c .cells .0) (omega (arith, room-for, long)))
           (ap₂ (λ (xs ys : List ℕ). xs ++ ys) (ap (λ (z : Known). z .places) (sym (held .is)))
           (ap (λ (i : ℕ). i ∷ []) (ap (λ (z : Known). z .cells) (sym (held .is))) ∙ ap (placesFrom (s .cells)) (sym (parts .1)))))
 
-  pub room : (made : Made) → madeMeaning made ≡ yieldOf s l → (low high : ℤ) → made ≡ EndsOf low high → c .values < valueLimit
-  unfolding madeMeaning
-  room made yields low high q = room-for (rw q at yields)
+  pub room : (made : Made) → madeMeaning made ≡ yieldOf s l → (e : ReadEnds) → made ≡ EndsOf e → c .values < valueLimit
+  unfolding madeMeaning endsMeaning
+  room made yields e q = room-for (rw q at yields)
 
   module _ (size : Counts) (grows : Keeps 1 s l → Grows s l size) where
-    pub entry-counted : (made : Made) → madeMeaning made ≡ yieldOf s l → (low high : ℤ) → made ≡ EndsOf low high → c .values < c .values + size .values
-    unfolding madeMeaning
-    entry-counted made yields low high q = let t : makes (ends low high ∷ []) ≡ yieldOf s l = rw q at yields in omega (arith, one t size (grows (kept t)))
+    pub entry-counted : (made : Made) → madeMeaning made ≡ yieldOf s l → (e : ReadEnds) → made ≡ EndsOf e → c .values < c .values + size .values
+    unfolding madeMeaning endsMeaning
+    entry-counted made yields e q = let t : makes (ends (e .low .0) (e .high .0) ∷ []) ≡ yieldOf s l = rw q at yields in omega (arith, one t size (grows (kept t)))
 
     pub grown : (made : Made) → madeMeaning made ≡ yieldOf s l → length places ≡ valueLimit
-        → stepMeaning p (answered made (added c size)) (entered made (c .values) (λ low high. low) lows) (entered made (c .values) (λ low high. high) highs) (placedAt c places) ≡ stepOf 1 s l
-    unfolding stepMeaning answered entered yieldOf madeMeaning
-    grown (EndsOf low high) yields long = grown-with yields size (grows (kept yields)) long
+        → stepMeaning p (answered made (added c size)) (entered made (c .values) (λ e. e .low .0) lows) (entered made (c .values) (λ e. e .high .0) highs) (placedAt c places) ≡ stepOf 1 s l
+    unfolding stepMeaning answered entered yieldOf madeMeaning endsMeaning
+    grown (EndsOf e) yields long = grown-with yields size (grows (kept yields)) long
     grown (Breaks n) yields long = refused-step s l (gadget s l .made) n yields
 
     pub few-grown : (made : Made) → madeMeaning made ≡ yieldOf s l → valueCount (answered made (added c size)) ≤ valueLimit

@@ -18,9 +18,10 @@ use Rattle.meaning.proofs.Kept.{keeps-all}
 use Rattle.meaning.proofs.Lines.{first-named}
 use Rattle.rules.specs.Ready.{endsFrom}
 use Rattle.reader.specs.State.{stateOf}
-use Rattle.rules.specs.Yield.{makes, spanYield, madeMeaning, lineWith}
+use Rattle.rules.specs.Yield.{makes, spanYield, madeMeaning, lineWith, endsMeaning}
 use Rattle.reader.specs.Size.{added, Adds}
 use Rattle.reader.specs.Step.{goes, stepOf, stepMeaning, placedAt, answered, entered, valueCount}
+use Rattle.rules.specs.declared.rule.Ends.{Ends as ReadEnds}
 use Rattle.rules.specs.declared.rule.Made.{Made}
 use Rattle.rules.specs.declared.rule.Made.the-variants.{EndsOf, Breaks}
 use Rattle.reader.specs.declared.state.Counts.{Counts}
@@ -58,8 +59,8 @@ module _ {p : ℕ} {s : Known} {c : Counts} {lows highs : List ℤ} {places : Li
     known-narrowed : endsFrom (take (c .values) (set lows at low)) (take (c .values) (set highs at high)) ≡ set (s .known) (sizeAt ns 0) new
     unfolding stateOf
     known-narrowed =
-        let h : c .values ≤ length lows = omega (arith, held .sized .values-most, held .sized .lows-long) in
-        let k : c .values ≤ length highs = omega (arith, held .sized .values-most, held .sized .highs-long) in
+        let h : c .values ≤ length lows = omega (arith, held .sized .few .values-most, held .sized .lows-long) in
+        let k : c .values ≤ length highs = omega (arith, held .sized .few .values-most, held .sized .highs-long) in
         let new-is : ends low high ≡ new = ap (λ (es : List Ends). getD es 0 new) (sym (parts .1)) in
         rw (take-set-lt (c .values) lows at low named-for, take-set-lt (c .values) highs at high named-for)
         (ends-set (take (c .values) lows) (take (c .values) highs) at low high (length-take-le (c .values) lows h ∙ sym (length-take-le (c .values) highs k))
@@ -72,21 +73,21 @@ module _ {p : ℕ} {s : Known} {c : Counts} {lows highs : List ℤ} {places : Li
         let none-made : c .values + size .values ≡ c .values = omega (arith, adds .values-are) in
         stepped held line size adds refl (parts .0) (set lows at low) (set highs at high)
         (rw none-made (known-narrowed ∙ sym (append-nil (set (s .known) (sizeAt ns 0) new))))
-        (rw none-made (take-set-le (c .values) places (c .values) (c .cells) (omega arith) ∙ ap (λ (z : Known). z .places) (sym (held .is)) ∙ sym (append-nil (s .places))))
+        (rw none-made (take-set-le (c .values) places (c .values) (c .cells .0) (omega arith) ∙ ap (λ (z : Known). z .places) (sym (held .is)) ∙ sym (append-nil (s .places))))
 
-  pub named : (made : Made) → madeMeaning made ≡ spanYield s line → (low high : ℤ) → made ≡ EndsOf low high → at < c .values
-  unfolding madeMeaning
-  named made yields low high q = named-for (rw q at yields)
+  pub named : (made : Made) → madeMeaning made ≡ spanYield s line → (e : ReadEnds) → made ≡ EndsOf e → at < c .values
+  unfolding madeMeaning endsMeaning
+  named made yields e q = named-for (rw q at yields)
 
   module _ (size : Counts) (adds : Keeps 1 s line → Adds s line size) where
     pub narrowed : (made : Made) → madeMeaning made ≡ spanYield s line
-        → stepMeaning p (answered made (added c size)) (entered made at (λ low high. low) lows) (entered made at (λ low high. high) highs) (placedAt c places) ≡ stepOf 1 s line
-    unfolding stepMeaning answered entered spanYield madeMeaning
-    narrowed (EndsOf low high) yields = narrowed-with yields size (adds (kept yields))
+        → stepMeaning p (answered made (added c size)) (entered made at (λ e. e .low .0) lows) (entered made at (λ e. e .high .0) highs) (placedAt c places) ≡ stepOf 1 s line
+    unfolding stepMeaning answered entered spanYield madeMeaning endsMeaning
+    narrowed (EndsOf e) yields = narrowed-with yields size (adds (kept yields))
     narrowed (Breaks n) yields = refused-step s line (new ∷ []) n yields
 
-    pub named-counted : (made : Made) → madeMeaning made ≡ spanYield s line → (low high : ℤ) → made ≡ EndsOf low high → at < c .values + size .values
-    named-counted made yields low high q = omega (arith, named made yields low high q)
+    pub named-counted : (made : Made) → madeMeaning made ≡ spanYield s line → (e : ReadEnds) → made ≡ EndsOf e → at < c .values + size .values
+    named-counted made yields e q = omega (arith, named made yields e q)
 
     pub few-narrowed : (made : Made) → madeMeaning made ≡ spanYield s line → valueCount (answered made (added c size)) ≤ valueLimit
     unfolding spanYield

@@ -10,7 +10,6 @@ use lib.ListN.{length, getD, take, length-set}
 use lib.Seq.{getD-take}
 use lib.IntN.{ℤ, pos, natAbs}
 use lib.Signed.{_≤ℤ_, nonNeg}
-use Rattle.algebra.proofs.Integer.Linear.{linear}
 use Rattle.algebra.proofs.Test.{left}
 use Rattle.meaning.specs.Word.{field, input, span, sum, relu, which, max, root, numberAt, sizeAt, kindOf, mostNumbers}
 use Rattle.meaning.specs.Line.{Line}
@@ -51,7 +50,7 @@ use Rattle.reader.proofs.Sizes.{HasCount, count-is}
 
 -- ---- the arguments of a line's reader
 
-pub meaning-state : {p : ℕ} {s : Known} {c : Counts} {lows highs : List ℤ} {places : List ℕ} → Held p s c lows highs places → Represented s p (c .values) (c .cells) lows highs
+pub meaning-state : {p : ℕ} {s : Known} {c : Counts} {lows highs : List ℤ} {places : List ℕ} → Held p s c lows highs places → Represented s p (c .values) (c .cells .0) lows highs
 unfolding stateOf
 meaning-state held = record {
   prime = ap (λ (q : Known). q .p) (held .is);

@@ -28,6 +28,7 @@ use Rattle.text.proofs.Ends.{in-line, lines-at}
 use Rattle.rules.specs.Ready.{greatest, endsFrom, Ready}
 use Rattle.reader.specs.State.{stateOf}
 use Rattle.reader.specs.Step.{stops, goes, stepOption, placedAt, WithinLimits}
+use Rattle.reader.specs.Size.{counted as counts}
 use Rattle.reader.specs.Read.{only, counted, refusedAt, surveyOf}
 use Rattle.reader.specs.declared.state.Counts.{Counts}
 use Rattle.rules.proofs.Values.{known-long}
@@ -67,10 +68,10 @@ module _ (p : ℕ) (c : Counts) (lows highs : List ℤ) (places : List ℕ) (siz
   state = stateOf p c lows highs places
 
   low-enough : c .values ≤ length lows
-  low-enough = omega (arith, sized .values-most, sized .lows-long)
+  low-enough = omega (arith, sized .few .values-most, sized .lows-long)
 
   high-enough : c .values ≤ length highs
-  high-enough = omega (arith, sized .values-most, sized .highs-long)
+  high-enough = omega (arith, sized .few .values-most, sized .highs-long)
 
   same-length : length (take (c .values) lows) ≡ length (take (c .values) highs)
   same-length = length-take-le (c .values) lows low-enough ∙ sym (length-take-le (c .values) highs high-enough)
@@ -79,7 +80,7 @@ module _ (p : ℕ) (c : Counts) (lows highs : List ℤ) (places : List ℕ) (siz
   unfolding stateOf
   known-count = known-long state (c .values) lows highs refl low-enough high-enough
 
-  pub walk-ready : (n : ℕ) → 1 ≤ n → p ≤ greatest → Sound n state → Ordered (state .known) → Ready p (c .values) (c .cells) lows highs
+  pub walk-ready : (n : ℕ) → 1 ≤ n → p ≤ greatest → Sound n state → Ordered (state .known) → Ready p (c .values) (c .cells .0) lows highs
   unfolding stateOf
   walk-ready n h k sound ordered =
       let small = small-ends p (take (c .values) lows) (take (c .values) highs) k same-length (sound .ranged) ordered in
@@ -87,8 +88,8 @@ module _ (p : ℕ) (c : Counts) (lows highs : List ℤ) (places : List ℕ) (siz
       record {
         p-low = sound .prime (omega arith) .three;
         p-high = k;
-        values-most = sized .values-most;
-        cells-most = sized .cells-most;
+        values-most = sized .few .values-most;
+        cells-most = sized .few .cells-most;
         lows-long = sized .lows-long;
         highs-long = sized .highs-long;
         lows-small = λ i l. subst (λ (z : ℤ). natAbs z ≤ greatest) (getD-take (c .values) lows i (pos 0) l) (small i (omega (arith, count)) .0);
@@ -104,12 +105,12 @@ count-of p c lows highs l m places h = known-long (stateOf p c lows highs places
 
 pub placed-long : (c : Counts) (places : List ℕ) → length (placedAt c places) ≡ length places
 unfolding placedAt
-placed-long c places = length-set places (c .values) (c .cells)
+placed-long c places = length-set places (c .values) (c .cells .0)
 
 pub walk-start : (list : List ℕ) (start p : ℕ) (numbers lows highs : List ℤ) (places : List ℕ) → 1 ≤ start → start ≤ length list → OddPrime p
     → length numbers ≡ mostNumbers → length lows ≡ valueLimit → length highs ≡ valueLimit → length places ≡ valueLimit
-    → Walked list start p numbers lows highs places (record { values = 0; inputs = 0; cells = 0; rows = 0 }) start 1
-unfolding stateOf endsFrom only
+    → Walked list start p numbers lows highs places (counts 0 0 0 0) start 1
+unfolding counts stateOf endsFrom only
 walk-start list start p numbers lows highs places h k odd n l m o = record {
   inside = k;
   later = omega arith;
@@ -118,10 +119,7 @@ walk-start list start p numbers lows highs places h k odd n l m o = record {
   sized = record {
     lows-long = l;
     highs-long = m;
-    values-most = omega arith;
-    inputs-most = omega arith;
-    cells-most = omega arith;
-    rows-most = omega arith;
+    few = record { values-most = omega arith; inputs-most = omega arith; cells-most = omega arith; rows-most = omega arith };
   };
   places-long = o;
   sound = record { start = λ e. absurd (omega arith); prime = λ _. odd; ranged = tt };
@@ -132,9 +130,9 @@ walk-start list start p numbers lows highs places h k odd n l m o = record {
 module _ {list : List ℕ} {start p : ℕ} {numbers lows highs : List ℤ} {places : List ℕ} {c : Counts} {at n : ℕ}
     (w : Walked list start p numbers lows highs places c at n) where
   pub walk-end : length list ≤ at
-      → counted p (c .values) (c .inputs) (c .cells) (c .rows) ≡ surveyOf (readFrom plain 1 (only p) (linesFrom list start))
+      → counted p (c .values) (c .inputs) (c .cells .0) (c .rows) ≡ surveyOf (readFrom plain 1 (only p) (linesFrom list start))
   unfolding surveyOf readFrom onReading stateOf
-  walk-end h = sym (w .survey-left ∙ rw (lines-none list at h) (ap (λ (v : ℕ). counted p v (c .inputs) (c .cells) (c .rows)) (known-count p c lows highs places (w .sized))))
+  walk-end h = sym (w .survey-left ∙ rw (lines-none list at h) (ap (λ (v : ℕ). counted p v (c .inputs) (c .cells .0) (c .rows)) (known-count p c lows highs places (w .sized))))
 
   module _ (ended : isEnded list ≡ true) (h : at < length list) where
     abbrev line : List ℕ
@@ -172,7 +170,7 @@ module _ {list : List ℕ} {start p : ℕ} {numbers lows highs : List ℤ} {plac
       room =
           let g = gadget s (gone .0) in
           let f = few n s (gone .0) keeps in
-          let cells-are : next .cells ≡ c .cells + g .width = ap (λ (z : Known). z .cells) (gone .2) in
+          let cells-are : next .cells .0 ≡ c .cells .0 + g .width = ap (λ (z : Known). z .cells) (gone .2) in
           let rows-are : next .rows ≡ c .rows + length (g .rows) = ap (λ (z : Known). z .rows) (gone .2) in
           let inputs-are : next .inputs ≡ c .inputs + g .inputs = ap (λ (z : Known). z .inputs) (gone .2) in
           let count : length (t .known) ≡ next .values = count-of p next ls hs (lows-long ∙ w .sized .lows-long) (highs-long ∙ w .sized .highs-long) ps few-values in
@@ -181,10 +179,12 @@ module _ {list : List ℕ} {start p : ℕ} {numbers lows highs : List ℤ} {plac
           record {
             lows-long = lows-long ∙ w .sized .lows-long;
             highs-long = highs-long ∙ w .sized .highs-long;
-            values-most = few-values;
-            inputs-most = omega (arith, inputs-are, count, known-are, length-append (g .narrowed) (g .made), f .0, f .2, before, w .sized .inputs-most);
-            cells-most = omega (arith, cells-are, leb→le (c .cells + g .width) cellLimit (keeps .cells-fit));
-            rows-most = omega (arith, cells-are, rows-are, f .1, w .sized .rows-most);
+            few = record {
+              values-most = few-values;
+              inputs-most = omega (arith, inputs-are, count, known-are, length-append (g .narrowed) (g .made), f .0, f .2, before, w .sized .few .inputs-most);
+              cells-most = omega (arith, cells-are, leb→le (c .cells .0 + g .width) cellLimit (keeps .cells-fit));
+              rows-most = omega (arith, cells-are, rows-are, f .1, w .sized .few .rows-most);
+            };
           }
 
       pub walk-next : Walked list start p numbers′ ls hs ps next (endOf list at + 1) (n + 1)

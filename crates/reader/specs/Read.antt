@@ -40,7 +40,7 @@ unfoldable pub surveyOf : Reading → Survey
 surveyOf r = onReading r refusedAt (λ ls s. counted (s .p) (length (s .known)) (s .inputs) (s .cells) (s .rows))
 
 unfoldable pub surveyMeaning : Surveyed → Survey
-surveyMeaning (Counted p c) = counted p (c .values) (c .inputs) (c .cells) (c .rows)
+surveyMeaning (Counted p c) = counted p (c .values) (c .inputs) (c .cells .0) (c .rows)
 surveyMeaning (NotRead number place) = refusedAt number place
 
 -- p of a read list is an odd prime, and of a number's size

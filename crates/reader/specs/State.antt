@@ -15,6 +15,6 @@ stateOf p c lows highs places = record {
   known = endsFrom (take (c .values) lows) (take (c .values) highs);
   places = take (c .values) places;
   inputs = c .inputs;
-  cells = c .cells;
+  cells = c .cells .0;
   rows = c .rows;
 }

@@ -1,7 +1,7 @@
 -- What one line does to what is known, and how the code's answer is read as it.
 use mathlib.Core.Path.{_≡_}
 use mathlib.Core.Bool.{true}
-use Prim.Native.Nat.{ℕ, _*_, _≤_, _<_}
+use Prim.Native.Nat.{ℕ, _≤_, _<_}
 use mathlib.Core.List.{List}
 use mathlib.Core.Option.{Option, none, some}
 use lib.ListN.{length, take, drop, set}
@@ -10,12 +10,14 @@ use Rattle.meaning.specs.Word.{Word, field, input, span, sum, relu, which, max,
 use Rattle.meaning.specs.Line.{Line}
 use Rattle.meaning.specs.Known.{Known}
 use Rattle.meaning.specs.Meaning.{after}
-use Rattle.meaning.specs.Refusal.{onSome, rules, firstBroken, cellLimit, valueLimit}
+use Rattle.meaning.specs.Refusal.{onSome, rules, firstBroken, valueLimit}
 use Rattle.text.specs.Word.{wordOf}
 use Rattle.text.specs.declared.Word.{Word as WordYield}
 use Rattle.rules.specs.Ready.{Small}
 use Rattle.rules.specs.Yield.{Yield, yieldOf, spanYield}
 use Rattle.reader.specs.State.{stateOf}
+use Rattle.reader.specs.Size.{Few}
+use Rattle.rules.specs.declared.rule.Ends.{Ends}
 use Rattle.rules.specs.declared.rule.Made.{Made}
 use Rattle.rules.specs.declared.rule.Made.the-variants.{EndsOf, Breaks}
 use Rattle.reader.specs.declared.state.Counts.{Counts}
@@ -63,16 +65,16 @@ stepMeaning p (Refused n) lows highs places = stops n
 
 -- the cells of the values after a line: its own first cell stands behind them, and counts where the line makes a value
 unfoldable pub placedAt : Counts → List ℕ → List ℕ
-placedAt c places = set places (c .values) (c .cells)
+placedAt c places = set places (c .values) (c .cells .0)
 
 -- what taking in a line answers: the counts after it, or its refusal
 unfoldable pub answered : Made → Counts → Stepped
-answered (EndsOf low high) c = Next c
+answered (EndsOf e) c = Next c
 answered (Breaks n) c = Refused n
 
 -- a lent array after that: it has the line's entry at a place, and is as it was where the line is refused
-unfoldable pub entered : {A : Type 0} → Made → (at : ℕ) → (entry : (low high : ℤ) → A) → List A → List A
-entered (EndsOf low high) at entry xs = set xs at (entry low high)
+unfoldable pub entered : {A : Type 0} → Made → (at : ℕ) → (entry : Ends → A) → List A → List A
+entered (EndsOf e) at entry xs = set xs at (entry e)
 entered (Breaks n) at entry xs = xs
 
 -- the part of a lent array that a line leaves as it was: all of it where the line is refused, and else what stands past the values
@@ -89,15 +91,12 @@ unfoldable pub valueCount : Stepped → ℕ
 valueCount (Next c) = c .values
 valueCount (Refused n) = 0
 
--- arrays of 256, and counts that no sum overflows
+-- arrays of 256, and few counts
 pub record WithinLimits (c : Counts) (lows highs : ℕ) : Type 0 where
   pub lows-long : lows ≡ valueLimit
   pub highs-long : highs ≡ valueLimit
-  pub values-most : c .values ≤ valueLimit
-  pub inputs-most : c .inputs ≤ c .values
-  pub cells-most : c .cells ≤ cellLimit
-  pub rows-most : c .rows ≤ 2 * c .cells
+  pub few : Few c
 
 -- where a line has ends, its place is one of the arrays'
 abbrev pub PlaceInside : Made → ℕ → Type 0
-PlaceInside made at = (low high : ℤ) → made ≡ EndsOf low high → at < valueLimit
+PlaceInside made at = (e : Ends) → made ≡ EndsOf e → at < valueLimit

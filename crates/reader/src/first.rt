@@ -1,5 +1,8 @@
 // Line 0 in reading: a field line over an odd prime, or its refusal.
 use number::prime::is_odd_prime;
+use number::whole::is_negative;
+use number::whole::size_of;
+use number::whole::whole_at;
 use text::Word;
 ghost use mathlib.Core.Path.{_≡_};
 ghost use Prim.Native.Nat.{_≤_};
@@ -26,11 +29,11 @@ pub fn first_parsed(word: Word, numbers: &[i64], count: usize) -> First
     let Word::Field = word else {
         return First::NotFirst(4);
     };
-    let n = numbers[0];
-    if n < 0 {
+    let n = whole_at(numbers, 0);
+    if is_negative(n) {
         return First::NotFirst(5);
     }
-    let p = n as u32;
+    let p = size_of(n) as u32;
     if !is_odd_prime(p) {
         return First::NotFirst(5);
     }

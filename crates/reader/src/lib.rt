@@ -1,5 +1,6 @@
-// Reads a list: what is known, line by line, and the refusals in their order. Others read a list by `read` or by `survey`, and count a line
-// of a list that was read by `line_size`. The rest is for reading alone.
+// Reads a list: what is known, line by line, and the refusals in their order. Others read a list by `read` or by `survey`. A walk over a list
+// that was read counts its lines: it starts with no counts (`counts_of`), and `counts_with` adds what each line has (`line_size`). The rest is
+// for reading alone.
 mod first;
 mod reading;
 mod size;
@@ -10,5 +11,7 @@ pub use reading::Answer;
 pub use reading::Surveyed;
 pub use reading::read;
 pub use reading::survey;
+pub use size::counts_of;
 pub use size::line_size;
 pub use state::Counts;
+pub use state::counts_with;

@@ -1,9 +1,11 @@
 // Reading a list: the text as a whole, line 0, then line after line until one is refused. A line is parsed here, and read in `first` and `step`.
 use super::first::First;
 use super::first::first_parsed;
+use super::size::counts_of;
 use super::state::Counts;
 use super::state::Stepped;
 use super::step::step_parsed;
+use number::cell::cell_number;
 use text::Parsed;
 use text::is_ended;
 use text::line_of;
@@ -40,7 +42,9 @@ pub fn read(list: &[u8]) -> Answer
     let found = survey(list);
     match found {
         Surveyed::NotRead(number, place) => Answer::Refused(number, place),
-        Surveyed::Counted(p, counts) => Answer::Read(p, counts.values, counts.cells, counts.rows),
+        Surveyed::Counted(p, counts) => {
+            Answer::Read(p, counts.values, cell_number(counts.cells), counts.rows)
+        }
     }
 }
 
@@ -75,12 +79,7 @@ fn survey_from(list: &[u8], start: usize, p: u32, numbers: &mut [i64]) -> Survey
 {
     let mut lows: [i64; 256] = [0; 256];
     let mut highs: [i64; 256] = [0; 256];
-    let mut counts = Counts {
-        values: 0,
-        inputs: 0,
-        cells: 0,
-        rows: 0,
-    };
+    let mut counts = counts_of(0, 0, 0, 0);
     let mut at = start;
     let mut n: usize = 1;
     while at < list.len() {

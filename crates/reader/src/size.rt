@@ -1,13 +1,15 @@
 // How many values, inputs, cells and rows a line has. It goes by the line's word and digit count alone, so that reading counts them
 // with the same function as the walks over a list that was read.
 use super::state::Counts;
+use number::cell::nth_cell;
+use number::whole::Whole;
+use number::whole::natural;
+use number::whole::whole_at;
 use text::Word;
 ghost use mathlib.Core.Path.{_≡_};
 ghost use mathlib.Core.Bool.{true};
 ghost use Prim.Native.Nat.{ℕ, _≤_, _<_};
 ghost use lib.ListN.{length, take};
-ghost use lib.IntN.{pos, natAbs};
-ghost use lib.Signed.{_≤ℤ_};
 ghost use Rattle.meaning.specs.Word.{kindOf, mostNumbers};
 ghost use Rattle.meaning.specs.Known.{Known};
 ghost use Rattle.meaning.specs.Kept.{Keeps};
@@ -15,31 +17,21 @@ ghost use Rattle.text.specs.Word.{wordOf};
 ghost use Rattle.rules.specs.Yield.{lineWith};
 ghost use Rattle.reader.specs.Size.{counted, Adds, FewCounts, DigitCount, DigitSize};
 
-// A number that is not negative, as a count: 0 where it is negative.
-pub fn natural(z: i64) -> usize
-    ensures { λ r. ⌜ (pos 0 ≤ℤ z → r ≡ natAbs z) ⌝ }
-{
-    if z < 0 {
-        return 0;
-    }
-    z as usize
-}
-
 // A digit count that a line may have, and 31 in the place of a larger one.
-fn digit_count(k: i64) -> usize
-    ensures { λ r. ⌜ DigitCount k r ⌝ }
+fn digit_count(k: Whole) -> usize
+    ensures { λ r. ⌜ DigitCount (k .0) r ⌝ }
 {
     let count = natural(k);
     if 31 < count { 31 } else { count }
 }
 
-fn counts_of(values: usize, inputs: usize, cells: usize, rows: usize) -> Counts
+pub fn counts_of(values: usize, inputs: usize, cells: usize, rows: usize) -> Counts
     ensures { λ r. ⌜ r ≡ counted values inputs cells rows ⌝ }
 {
     Counts {
         values: values,
         inputs: inputs,
-        cells: cells,
+        cells: nth_cell(cells),
         rows: rows,
     }
 }
@@ -57,7 +49,7 @@ fn digit_size(
     requires { ⌜ (at < length (now numbers)) × (each ≤ 4) × (cells ≤ 3) × (rows ≤ 5) ⌝ }
     ensures { λ r. ⌜ DigitSize (now (numbers .entry)) at values each cells rows r ⌝ }
 {
-    let digits = each * digit_count(numbers[at]);
+    let digits = each * digit_count(whole_at(numbers, at));
     counts_of(values, 0, digits + cells, digits + rows)
 }
 

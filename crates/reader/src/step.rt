@@ -1,10 +1,12 @@
-// One line after line 0 in reading: the rules of its kind, and what is known after it. The walks over a list that was read test no rule
-// again, and do not come here.
+// One line after line 0 in reading: its numbers and what is known before it go to the rules of its kind, and the ends that these answer with
+// are taken in. The walks over a list that was read test no rule again, and do not come here.
 use super::size::line_size;
-use super::size::natural;
 use super::state::Counts;
 use super::state::Stepped;
 use super::state::enter;
+use number::cell::cell_number;
+use number::whole::natural;
+use number::whole::whole_at;
 use rules::Made;
 use rules::read_input;
 use rules::read_max;
@@ -64,7 +66,7 @@ pub fn step_parsed(
     lows: &mut [i64],
     highs: &mut [i64],
 ) -> Stepped
-    requires { ⌜ Ready p (counts .values) (counts .cells) (now lows) (now highs) × WithinLimits counts (length (now lows)) (length (now highs))
+    requires { ⌜ Ready p (counts .values) (counts .cells .0) (now lows) (now highs) × WithinLimits counts (length (now lows)) (length (now highs))
         × ParsedLine word count (now numbers) ⌝ }
     ensures yields { λ r. ⌜ ((s : Known) (places : List ℕ) → length places ≡ valueLimit → s ≡ stateOf p counts (now (lows .entry)) (now (highs .entry)) places
         → stepMeaning p r (now (lows .exit)) (now (highs .exit)) (placedAt counts places) ≡ stepOf 1 s (lineWith (wordOf word) (take count (now (numbers .entry))))) ⌝ }
@@ -76,7 +78,7 @@ pub fn step_parsed(
         count,
         p,
         counts.values,
-        counts.cells,
+        cell_number(counts.cells),
         lows,
         highs,
     );
@@ -84,6 +86,6 @@ pub fn step_parsed(
     let Word::Span = word else {
         return enter(made, counts.values, size, counts, lows, highs);
     };
-    let at = natural(numbers[0]);
+    let at = natural(whole_at(numbers, 0));
     enter(made, at, size, counts, lows, highs)
 }

@@ -25,8 +25,8 @@ use Rattle.number.specs.declared.power.Power.{Power as PowerRead}
 use Rattle.number.specs.declared.power.Power.the-variants.{Of as PowerOf, AboveCap}
 use Rattle.number.proofs.Word.{wide-product}
 use Rattle.number.proofs.CappedPower.{of-capped, above-capped, power-one}
-use Rattle.rules.specs.declared.rule.Digits.{Digits as DigitsRead}
-use Rattle.rules.specs.declared.rule.Digits.the-variants.{Of, NoDigits}
+use Rattle.rules.specs.declared.rule.DigitsFound.{DigitsFound}
+use Rattle.rules.specs.declared.rule.DigitsFound.the-variants.{Of, NoDigits}
 use Rattle.rules.specs.Yield.{refuses, makes}
 use Rattle.rules.specs.Rule.{digitsAllowed, digitsMeaning, narrow, rootYield}
 
@@ -74,7 +74,7 @@ pub record Read (x y : ℤ) (b k : ℕ) : Type 0 where
   pub count-one : 1 ≤ k
   pub count-most : k ≤ mostDigits
 
-pub digits-read : (x y : ℤ) {r : DigitsRead} {b k : ℕ} → r ≡ Of b k → digitsMeaning r ≡ digitsAllowed x y → Read x y b k
+pub digits-read : (x y : ℤ) {r : DigitsFound} {b k : ℕ} → r ≡ Of b k → digitsMeaning r ≡ digitsAllowed x y → Read x y b k
 unfolding digitsMeaning digitsAllowed
 digits-read x y {r} {b} {k} q e =
     let w = value-cond (isDigits (record { b = x; k = y })) 6 (record { b = pos b; k = pos k }) (record { b = x; k = y }) (rw q at e) in
@@ -83,7 +83,7 @@ digits-read x y {r} {b} {k} q e =
     let a = digits-allowed x y (w .0) in
     record { digits = w .0; base-is = base-is; count-is = count-is; base-two = omega arith; count-one = omega arith; count-most = omega arith }
 
-pub digits-none : (x y : ℤ) {r : DigitsRead} → r ≡ NoDigits → digitsMeaning r ≡ digitsAllowed x y → isDigits (record { b = x; k = y }) ≡ false
+pub digits-none : (x y : ℤ) {r : DigitsFound} → r ≡ NoDigits → digitsMeaning r ≡ digitsAllowed x y → isDigits (record { b = x; k = y }) ≡ false
 unfolding digitsMeaning digitsAllowed
 digits-none x y q e = refused-cond (isDigits (record { b = x; k = y })) 6 6 (record { b = x; k = y }) (rw q at e)
 

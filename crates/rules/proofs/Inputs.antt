@@ -2,15 +2,9 @@
 use mathlib.Core.Path.{_≡_, refl, sym, _∙_}
 use mathlib.Core.Bool.{true, false}
 use mathlib.Core.List.{List, [], _∷_}
-use Prim.Native.Nat.{ℕ, _-_, _/_, _<_}
-use lib.IntN.{ℤ, pos, negℤ, _-ℤ_}
-use mir.Syntax.{w64}
-use mir.Val.{SFits}
-use native.Mathlib.Omega.{arith}
-use Rattle.meaning.specs.Machine.{pastI64}
-use Rattle.algebra.proofs.Integer.Order.{minus, integer}
-use Rattle.number.proofs.Word.{parts-fit}
-use Rattle.meaning.specs.Number.{half, lowest, highest}
+use Prim.Native.Nat.{ℕ}
+use lib.IntN.{ℤ}
+use Rattle.meaning.specs.Number.{lowest, highest}
 use Rattle.meaning.specs.Word.{input, kindOf}
 use Rattle.meaning.specs.Known.{ends, Known}
 use Rattle.meaning.specs.Gadget.Input.{inputLine}
@@ -36,15 +30,6 @@ module _ {p values cells : ℕ} {lows highs : List ℤ} (ready : Ready p values 
   unfolding kindOf inputLine all
   early-too = rw (known-count ready meaning, meaning .cells-are) (sym early)
 
-  pub input-yield : yieldOf s (lineWith input []) ≡ yieldUnless n (makes (ends (negℤ (pos ((p - 1) / 2))) (pos ((p - 1) / 2)) ∷ []))
-  unfolding yieldOf gadget kindOf late inputLine lowest highest half
+  pub input-yield : yieldOf s (lineWith input []) ≡ yieldUnless n (makes (ends (lowest p) (highest p) ∷ []))
+  unfolding yieldOf gadget kindOf late inputLine
   input-yield = yield-by-rules s input [] (kindOf input .gadget s [] .made) input-plain ∙ rw (input-ranged, early-too, meaning .prime) refl
-
--- ---- M in a machine word
-
-module _ {p values cells : ℕ} {lows highs : List ℤ} (r : Ready p values cells lows highs) where
-  pub half-small : (p - 1) / 2 < pastI64
-  half-small = omega (arith, r .p-high)
-
-  pub half-fits : SFits w64 (pos 0 -ℤ pos ((p - 1) / 2))
-  half-fits = parts-fit (pos 0 -ℤ pos ((p - 1) / 2)) (omega (integer, minus (pos 0) (pos ((p - 1) / 2)))) (omega (integer, half-small, minus (pos 0) (pos ((p - 1) / 2))))

@@ -19,8 +19,8 @@ use Rattle.number.specs.Bounded.{Bounded}
 use Rattle.number.proofs.Bounded.{bounded-range, bounded-more}
 use Rattle.rules.specs.declared.rule.Ends.{Ends as ReadEnds}
 use Rattle.rules.specs.Ready.{greatest, Ready, Represented}
-use Rattle.rules.specs.Yield.{refuses, makes, yieldOf, lineWith}
-use Rattle.rules.specs.Rule.{earlyBroken, endsMeaning, EndsRead, BoundedEnds}
+use Rattle.rules.specs.Yield.{refuses, makes, yieldOf, lineWith, endsMeaning}
+use Rattle.rules.specs.Rule.{earlyBroken, EndsRead, BoundedEnds}
 use Rattle.rules.specs.Sum.{endsAt, sumYield}
 use Rattle.rules.proofs.Tests.{both-true, made-name}
 use Rattle.rules.proofs.Values.{known-count, known-ends}

@@ -12,7 +12,8 @@ use Rattle.meaning.specs.Refusal.{isMade}
 use Rattle.number.specs.Bounded.{Bounded}
 use Rattle.number.proofs.Bounded.{bounded-more}
 use Rattle.rules.specs.Ready.{endsFrom, greatest, Ready, Represented, greatestApart}
-use Rattle.rules.specs.Rule.{endsMeaning, EndsRead, BoundedEnds, Field}
+use Rattle.rules.specs.Yield.{endsMeaning}
+use Rattle.rules.specs.Rule.{EndsRead, BoundedEnds, Field}
 use Rattle.rules.specs.declared.rule.Ends.{Ends as ReadEnds}
 use Rattle.rules.proofs.Tests.{made-name}
 

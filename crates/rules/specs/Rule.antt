@@ -13,8 +13,8 @@ use Rattle.meaning.specs.Known.{Ends as KnownEnds}
 use Rattle.meaning.specs.Number.{half}
 use Rattle.meaning.specs.Refusal.{Result, value, refusedBy, isDigits, valueLimit, cellLimit}
 use Rattle.number.specs.Bounded.{Bounded}
-use Rattle.rules.specs.declared.rule.Digits.{Digits as DigitsRead}
-use Rattle.rules.specs.declared.rule.Digits.the-variants.{Of, NoDigits}
+use Rattle.rules.specs.declared.rule.DigitsFound.{DigitsFound}
+use Rattle.rules.specs.declared.rule.DigitsFound.the-variants.{Of, NoDigits}
 use Rattle.rules.specs.declared.rule.Begun.{Begun}
 use Rattle.rules.specs.declared.rule.Begun.the-variants.{Digits, Stops}
 use Rattle.rules.specs.declared.rule.Ends.{Ends}
@@ -26,7 +26,7 @@ unfoldable pub digitsAllowed : (b k : ℤ) → Result Meant
 digitsAllowed b k = let d : Meant = record { b = b; k = k } in cond (isDigits d) (value d) (refusedBy 6)
 
 -- the same as the code has it
-unfoldable pub digitsMeaning : DigitsRead → Result Meant
+unfoldable pub digitsMeaning : DigitsFound → Result Meant
 digitsMeaning (Of b k) = value (record { b = pos b; k = pos k })
 digitsMeaning NoDigits = refusedBy 6
 
@@ -44,9 +44,6 @@ unfoldable pub begun : (b k : ℤ) (ranged : Bool) (early : ℕ) → Begun
 begun b k ranged early = cond (isDigits (record { b = b; k = k }) && ranged) (begunUnless early (natAbs b) (natAbs k)) (Stops 6)
 
 -- ---- known ends
-
-unfoldable pub endsMeaning : Ends → KnownEnds
-endsMeaning e = ends (e .low .0) (e .high .0)
 
 -- the ends that the arrays have of the value that z names
 pub record EndsRead (lows highs : List ℤ) (z : ℤ) (e : Ends) : Type 0 where

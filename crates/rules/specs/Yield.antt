@@ -8,6 +8,7 @@ use Rattle.meaning.specs.Known.{Ends, ends, Known, endsOf}
 use Rattle.meaning.specs.Gadget.Span.{shared}
 use Rattle.meaning.specs.Meaning.{gadget}
 use Rattle.meaning.specs.Refusal.{onSome, rules, firstBroken}
+use Rattle.rules.specs.declared.rule.Ends.{Ends as ReadEnds}
 use Rattle.rules.specs.declared.rule.Made.{Made}
 use Rattle.rules.specs.declared.rule.Made.the-variants.{EndsOf, Breaks}
 
@@ -26,8 +27,11 @@ spanYield s l =
     onSome (firstBroken rules 1 s l) refuses
     (makes (shared (sizeAt ns 1) (sizeAt ns 2) (numberAt ns 3) (endsOf s (sizeAt ns 0)) ∷ []))
 
+unfoldable pub endsMeaning : ReadEnds → Ends
+endsMeaning e = ends (e .low .0) (e .high .0)
+
 unfoldable pub madeMeaning : Made → Yield
-madeMeaning (EndsOf low high) = makes (ends low high ∷ [])
+madeMeaning (EndsOf e) = makes (endsMeaning e ∷ [])
 madeMeaning (Breaks n) = refuses n
 
 abbrev pub lineWith : Word → List ℤ → Line

@@ -1,6 +1,9 @@
 // Reading an input line: it asks only for room, and its value may be any whole number of the signed range.
+use super::rule::Ends;
 use super::rule::Made;
 use super::rule::early_broken;
+use number::whole::highest;
+use number::whole::lowest;
 ghost use mathlib.Core.Path.{_≡_};
 ghost use mathlib.Core.List.{[]};
 ghost use Rattle.meaning.specs.Word.{input};
@@ -17,6 +20,8 @@ pub fn read_input(p: u32, values: usize, cells: usize, lows: &[i64], highs: &[i6
     if broken != 0 {
         return Made::Breaks(broken);
     }
-    let half = ((p - 1) / 2) as i64;
-    Made::EndsOf(0 - half, half)
+    Made::EndsOf(Ends {
+        low: lowest(p),
+        high: highest(p),
+    })
 }

@@ -13,6 +13,7 @@ pub use input::read_input;
 pub use max::read_max;
 pub use relu::read_relu;
 pub use root::read_root;
+pub use rule::Ends;
 pub use rule::Made;
 pub use span::read_span;
 pub use sum::read_sum;

@@ -8,12 +8,11 @@ use super::rule::begin_line;
 use super::rule::ends_named;
 use super::rule::greater;
 use super::rule::is_narrow;
-use super::rule::made_of;
 use number::power::Power;
 use number::power::capped_power;
-use number::whole::Whole;
 use number::whole::larger;
 use number::whole::smaller;
+use number::whole::whole_of;
 ghost use mathlib.Core.Path.{_≡_};
 ghost use mathlib.Core.Bool.{_&&_};
 ghost use Prim.Native.Nat.{_≤_};
@@ -22,8 +21,8 @@ ghost use lib.ListN.{length, take};
 ghost use Rattle.meaning.specs.Word.{max};
 ghost use Rattle.meaning.specs.Known.{Known, above, digitRule};
 ghost use Rattle.rules.specs.Ready.{Small, Ready, Represented, greatestApart, greatest};
-ghost use Rattle.rules.specs.Yield.{yieldOf, madeMeaning, lineWith};
-ghost use Rattle.rules.specs.Rule.{ruleYield, endsMeaning, greaterEnds, BoundedEnds, Field};
+ghost use Rattle.rules.specs.Yield.{yieldOf, madeMeaning, lineWith, endsMeaning};
+ghost use Rattle.rules.specs.Rule.{ruleYield, greaterEnds, BoundedEnds, Field};
 
 pub fn read_max(
     numbers: &[i64],
@@ -59,13 +58,14 @@ fn max_ends(p: u32, b: u64, k: u32, u: Ends, v: Ends) -> Made
     let Power::Of(c) = capped_power(b, k, p) else {
         return Made::Breaks(10);
     };
-    if !is_narrow(p, c, above(u, v), 0) {
+    let zero = whole_of(0);
+    if !is_narrow(p, c, above(u, v), zero) {
         return Made::Breaks(10);
     }
-    if !is_narrow(p, c, above(v, u), 0) {
+    if !is_narrow(p, c, above(v, u), zero) {
         return Made::Breaks(10);
     }
-    made_of(greater(u, v))
+    Made::EndsOf(greater(u, v))
 }
 
 // The ends of y - u.
@@ -74,8 +74,9 @@ fn above(u: Ends, v: Ends) -> Ends
     ensures { λ r. ⌜ BoundedEnds greatestApart r × (endsMeaning r ≡ above (endsMeaning u) (endsMeaning v)) ⌝ }
 {
     let between = apart(v, u);
+    let zero = whole_of(0);
     Ends {
-        low: smaller(Whole(0), between.low),
-        high: larger(Whole(0), between.high),
+        low: smaller(zero, between.low),
+        high: larger(zero, between.high),
     }
 }

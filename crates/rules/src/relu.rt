@@ -6,9 +6,8 @@ use super::rule::begin_line;
 use super::rule::ends_named;
 use super::rule::greater;
 use super::rule::is_made;
-use super::rule::made_of;
 use super::rule::sign_rule;
-use number::whole::Whole;
+use number::whole::whole_of;
 ghost use mathlib.Core.Path.{_≡_};
 ghost use Prim.Native.Nat.{_≤_};
 ghost use lib.IntN.{pos};
@@ -16,9 +15,9 @@ ghost use lib.ListN.{length, take};
 ghost use Rattle.meaning.specs.Word.{relu};
 ghost use Rattle.meaning.specs.Known.{Known, ends, digitRule};
 ghost use Rattle.meaning.specs.Gadget.Sign.{signShift};
-ghost use Rattle.rules.specs.Rule.{ruleYield, endsMeaning, greaterEnds, BoundedEnds, Field};
+ghost use Rattle.rules.specs.Rule.{ruleYield, greaterEnds, BoundedEnds, Field};
 ghost use Rattle.rules.specs.Ready.{Small, Ready, Represented, greatest};
-ghost use Rattle.rules.specs.Yield.{yieldOf, madeMeaning, lineWith};
+ghost use Rattle.rules.specs.Yield.{yieldOf, madeMeaning, lineWith, endsMeaning};
 
 pub fn read_relu(
     numbers: &[i64],
@@ -52,8 +51,8 @@ fn relu_ends(p: u32, b: u64, k: u32, old: Ends) -> Made
         return Made::Breaks(10);
     }
     let zero = Ends {
-        low: Whole(0),
-        high: Whole(0),
+        low: whole_of(0),
+        high: whole_of(0),
     };
-    made_of(greater(zero, old))
+    Made::EndsOf(greater(zero, old))
 }

@@ -1,10 +1,13 @@
 // Reading a root line.
 use super::rule::Begun;
+use super::rule::Ends;
 use super::rule::Made;
 use super::rule::begin_line;
 use super::rule::is_made;
 use number::power::Power;
 use number::power::capped_power;
+use number::whole::whole_of;
+use number::whole::wide_whole;
 ghost use mathlib.Core.Path.{_≡_};
 ghost use Prim.Native.Nat.{_^_, _≤_};
 ghost use lib.ListN.{length, take};
@@ -49,5 +52,8 @@ fn root_ends(p: u32, b: u64, k: u32) -> Made
     if most < c * c {
         return Made::Breaks(10);
     }
-    Made::EndsOf(0, (c - 1) as i64)
+    Made::EndsOf(Ends {
+        low: whole_of(0),
+        high: wide_whole(c - 1),
+    })
 }

@@ -4,11 +4,19 @@ use number::power::Power;
 use number::power::capped_power;
 use number::whole::Whole;
 use number::whole::in_range;
+use number::whole::is_at_most;
+use number::whole::is_below;
 use number::whole::larger;
+use number::whole::negated;
+use number::whole::size_of;
+use number::whole::whole_at;
 use number::whole::whole_difference;
+use number::whole::whole_of;
+use number::whole::whole_sum;
+use number::whole::wide_whole;
+use number::whole::within;
 ghost use mathlib.Core.Path.{_≡_};
 ghost use mathlib.Core.Bool.{true, _&&_};
-ghost use mathlib.Core.List.{[], _∷_};
 ghost use Prim.Native.Nat.{_+_, _*_, _≤_, _<_};
 ghost use lib.ListN.{length, getD};
 ghost use lib.IntN.{pos, natAbs};
@@ -17,21 +25,9 @@ ghost use Rattle.meaning.specs.Number.{inRange};
 ghost use Rattle.meaning.specs.Refusal.{isMade, cellLimit, valueLimit};
 ghost use Rattle.meaning.specs.Gadget.Sign.{signShift};
 ghost use Rattle.number.specs.Bounded.{Bounded};
-ghost use Rattle.rules.specs.Yield.{madeMeaning, makes};
-ghost use Rattle.rules.specs.Rule.{digitsAllowed, digitsMeaning, endsMeaning, earlyBroken, begun, greaterEnds, narrow, Field, EndsRead, BoundedEnds};
+ghost use Rattle.rules.specs.Yield.{endsMeaning};
+ghost use Rattle.rules.specs.Rule.{digitsAllowed, digitsMeaning, earlyBroken, begun, greaterEnds, narrow, Field, EndsRead, BoundedEnds};
 ghost use Rattle.rules.specs.Ready.{greatestApart, greatest};
-
-// The ends of the value that a line makes, or the number of the first rule that it breaks.
-pub enum Made {
-    EndsOf(i64, i64),
-    Breaks(u32),
-}
-
-// A base and a digit count of which 2 <= b and 1 <= k <= 31.
-pub enum Digits {
-    Of(u64, u32),
-    NoDigits,
-}
 
 // The known ends of a value.
 pub struct Ends {
@@ -39,38 +35,39 @@ pub struct Ends {
     pub high: Whole,
 }
 
-pub fn made_of(e: Ends) -> Made
-    ensures { λ r. ⌜ madeMeaning r ≡ makes (endsMeaning e ∷ []) ⌝ }
-{
-    Made::EndsOf(e.low.0, e.high.0)
+// The ends of the value that a line makes, or the number of the first rule that it breaks.
+pub enum Made {
+    EndsOf(Ends),
+    Breaks(u32),
+}
+
+// A base and a digit count of which 2 <= b and 1 <= k <= 31.
+pub enum DigitsFound {
+    Of(u64, u32),
+    NoDigits,
 }
 
 // ---- rule 6
 
 // The base at a place and the digit count after it.
-pub fn digits_at(numbers: &[i64], at: usize) -> Digits
+pub fn digits_at(numbers: &[i64], at: usize) -> DigitsFound
     requires { ⌜ at + 1 < length (now numbers) ⌝ }
     ensures { λ r. ⌜ digitsMeaning r ≡ digitsAllowed (getD (now (numbers .entry)) at (pos 0)) (getD (now (numbers .entry)) (at + 1) (pos 0)) ⌝ }
 {
-    let b = numbers[at];
-    let k = numbers[at + 1];
-    digits_of(b, k)
+    digits_of(whole_at(numbers, at), whole_at(numbers, at + 1))
 }
 
 // b and k, where 2 <= b and 1 <= k <= 31.
-fn digits_of(b: i64, k: i64) -> Digits
-    ensures { λ r. ⌜ digitsMeaning r ≡ digitsAllowed b k ⌝ }
+fn digits_of(b: Whole, k: Whole) -> DigitsFound
+    ensures { λ r. ⌜ digitsMeaning r ≡ digitsAllowed (b .0) (k .0) ⌝ }
 {
-    if b < 2 {
-        return Digits::NoDigits;
+    if !is_at_most(whole_of(2), b) {
+        return DigitsFound::NoDigits;
     }
-    if k < 1 {
-        return Digits::NoDigits;
+    if !within(whole_of(1), k, whole_of(31)) {
+        return DigitsFound::NoDigits;
     }
-    if 31 < k {
-        return Digits::NoDigits;
-    }
-    Digits::Of(b as u64, k as u32)
+    DigitsFound::Of(size_of(b) as u64, size_of(k) as u32)
 }
 
 // Whether the number at a place lies in -M..M.
@@ -78,7 +75,7 @@ pub fn is_ranged(numbers: &[i64], at: usize, p: u32) -> bool
     requires { ⌜ (at < length (now numbers)) × (3 ≤ p) ⌝ }
     ensures { λ r. ⌜ r ≡ inRange p (getD (now (numbers .entry)) at (pos 0)) ⌝ }
 {
-    in_range(Whole(numbers[at]), p)
+    in_range(whole_at(numbers, at), p)
 }
 
 // ---- rules 7 to 9
@@ -88,11 +85,7 @@ pub fn is_made(numbers: &[i64], at: usize, values: usize) -> bool
     requires { ⌜ (at < length (now numbers)) × (values ≤ valueLimit) ⌝ }
     ensures { λ r. ⌜ r ≡ isMade values (getD (now (numbers .entry)) at (pos 0)) ⌝ }
 {
-    let v = numbers[at];
-    if v < 0 {
-        return false;
-    }
-    v < values as i64
+    is_below(whole_at(numbers, at), values)
 }
 
 // The same of the first two numbers.
@@ -148,7 +141,7 @@ pub fn begin_line(
     ensures { λ r. ⌜ r ≡ begun (getD (now (numbers .entry)) at (pos 0)) (getD (now (numbers .entry)) (at + 1) (pos 0)) ranged
         (earlyBroken named values new cells (each * natAbs (getD (now (numbers .entry)) (at + 1) (pos 0)) + more)) ⌝ }
 {
-    let Digits::Of(b, k) = digits_at(numbers, at) else {
+    let DigitsFound::Of(b, k) = digits_at(numbers, at) else {
         return Begun::Stops(6);
     };
     if !ranged {
@@ -167,10 +160,10 @@ pub fn ends_named(numbers: &[i64], at: usize, values: usize, lows: &[i64], highs
         × (isMade values (getD (now numbers) at (pos 0)) ≡ true) ⌝ }
     ensures { λ r. ⌜ EndsRead (now (lows .entry)) (now (highs .entry)) (getD (now (numbers .entry)) at (pos 0)) r ⌝ }
 {
-    let v = numbers[at] as usize;
+    let v = size_of(whole_at(numbers, at));
     Ends {
-        low: Whole(lows[v]),
-        high: Whole(highs[v]),
+        low: whole_at(lows, v),
+        high: whole_at(highs, v),
     }
 }
 
@@ -212,20 +205,20 @@ pub fn sign_rule(p: u32, b: u64, k: u32, e: Ends) -> bool
         return false;
     }
     let top = c - part;
-    is_narrow(p, c, e, 0 - top as i64)
+    is_narrow(p, c, e, negated(wide_whole(top)))
 }
 
 // The digit rule where c = b^k is at most p: F - L and L + c - 1 - E are at most p - 1.
-pub fn is_narrow(p: u32, c: u64, e: Ends, shift: i64) -> bool
-    requires { ⌜ Field p × (1 ≤ c) × (c ≤ p) × BoundedEnds greatestApart e × Bounded greatest shift ⌝ }
-    ensures { λ r. ⌜ r ≡ narrow p c (endsMeaning e) shift ⌝ }
+pub fn is_narrow(p: u32, c: u64, e: Ends, shift: Whole) -> bool
+    requires { ⌜ Field p × (1 ≤ c) × (c ≤ p) × BoundedEnds greatestApart e × Bounded greatest (shift .0) ⌝ }
+    ensures { λ r. ⌜ r ≡ narrow p c (endsMeaning e) (shift .0) ⌝ }
 {
-    let last = (p - 1) as i64;
-    let above = e.high.0 - shift;
-    if last < above {
+    let last = whole_of(p - 1);
+    let above = whole_difference(e.high, shift);
+    if !is_at_most(above, last) {
         return false;
     }
-    let top = shift + (c - 1) as i64;
-    let below = top - e.low.0;
-    below <= last
+    let top = whole_sum(shift, wide_whole(c - 1));
+    let below = whole_difference(top, e.low);
+    is_at_most(below, last)
 }

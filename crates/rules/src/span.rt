@@ -10,8 +10,12 @@ use super::rule::is_ranged;
 use number::power::Power;
 use number::power::capped_power;
 use number::whole::Whole;
+use number::whole::is_at_most;
 use number::whole::larger;
 use number::whole::smaller;
+use number::whole::whole_at;
+use number::whole::whole_sum;
+use number::whole::wide_whole;
 ghost use mathlib.Core.Path.{_≡_};
 ghost use mathlib.Core.Bool.{cond};
 ghost use Prim.Native.Nat.{_-_, _≤_};
@@ -22,8 +26,8 @@ ghost use Rattle.meaning.specs.Known.{Known, ends, larger, smaller, digitRule};
 ghost use Rattle.meaning.specs.Gadget.Span.{shared};
 ghost use Rattle.number.specs.Bounded.{Bounded};
 ghost use Rattle.rules.specs.Ready.{Small, Ready, Represented, greatest};
-ghost use Rattle.rules.specs.Yield.{refuses, spanYield, madeMeaning, lineWith};
-ghost use Rattle.rules.specs.Rule.{endsMeaning, BoundedEnds, Field, sharedYield};
+ghost use Rattle.rules.specs.Yield.{refuses, spanYield, madeMeaning, lineWith, endsMeaning};
+ghost use Rattle.rules.specs.Rule.{BoundedEnds, Field, sharedYield};
 
 pub fn read_span(
     numbers: &[i64],
@@ -44,17 +48,17 @@ pub fn read_span(
         Begun::Stops(n) => Made::Breaks(n),
         Begun::Digits(b, k) => {
             let old = ends_named(numbers, 0, values, lows, highs);
-            let shift = numbers[3];
+            let shift = whole_at(numbers, 3);
             span_ends(p, b, k, old, shift)
         }
     }
 }
 
 // The new ends, where the digit rule is kept.
-fn span_ends(p: u32, b: u64, k: u32, old: Ends, shift: i64) -> Made
-    requires { ⌜ Field p × (1 ≤ b) × BoundedEnds greatest old × Bounded greatest shift ⌝ }
+fn span_ends(p: u32, b: u64, k: u32, old: Ends, shift: Whole) -> Made
+    requires { ⌜ Field p × (1 ≤ b) × BoundedEnds greatest old × Bounded greatest (shift .0) ⌝ }
     ensures { λ r. ⌜ madeMeaning r
-        ≡ cond (digitRule p b k (endsMeaning old) shift) (sharedYield (shared b k shift (endsMeaning old))) (refuses 10) ⌝ }
+        ≡ cond (digitRule p b k (endsMeaning old) (shift .0)) (sharedYield (shared b k (shift .0) (endsMeaning old))) (refuses 10) ⌝ }
 {
     let Power::Of(c) = capped_power(b, k, p) else {
         return Made::Breaks(10);
@@ -67,15 +71,18 @@ fn span_ends(p: u32, b: u64, k: u32, old: Ends, shift: i64) -> Made
 }
 
 // What the old ends and L..L+c-1 share, where they share a number.
-fn shared_ends(old: Ends, shift: i64, last: u64) -> Made
-    requires { ⌜ (last ≤ greatest) × Bounded greatest shift ⌝ }
-    ensures { λ r. ⌜ madeMeaning r ≡ sharedYield (ends (larger (old .low .0) shift) (smaller (old .high .0) (shift +ℤ pos last))) ⌝ }
+fn shared_ends(old: Ends, shift: Whole, last: u64) -> Made
+    requires { ⌜ (last ≤ greatest) × Bounded greatest (shift .0) ⌝ }
+    ensures { λ r. ⌜ madeMeaning r ≡ sharedYield (ends (larger (old .low .0) (shift .0)) (smaller (old .high .0) (shift .0 +ℤ pos last))) ⌝ }
 {
-    let top = shift + last as i64;
-    let low = larger(old.low, Whole(shift));
-    let high = smaller(old.high, Whole(top));
-    if high.0 < low.0 {
+    let top = whole_sum(shift, wide_whole(last));
+    let low = larger(old.low, shift);
+    let high = smaller(old.high, top);
+    if !is_at_most(low, high) {
         return Made::Breaks(12);
     }
-    Made::EndsOf(low.0, high.0)
+    Made::EndsOf(Ends {
+        low: low,
+        high: high,
+    })
 }

@@ -5,11 +5,11 @@ use super::rule::early_broken;
 use super::rule::ends_named;
 use super::rule::is_made;
 use super::rule::is_ranged;
-use super::rule::made_of;
 use number::whole::Whole;
 use number::whole::in_range;
 use number::whole::larger;
 use number::whole::smaller;
+use number::whole::whole_at;
 use number::whole::whole_product;
 use number::whole::whole_sum;
 ghost use mathlib.Core.Path.{_≡_};
@@ -25,8 +25,8 @@ ghost use Rattle.meaning.specs.Refusal.{all, isMade, valueLimit};
 ghost use Rattle.meaning.specs.Gadget.Sum.{termsOf, scaled, added, endsInRange};
 ghost use Rattle.number.specs.Bounded.{Bounded};
 ghost use Rattle.rules.specs.Ready.{Small, Ready, Represented, greatestProduct, greatest};
-ghost use Rattle.rules.specs.Yield.{yieldOf, madeMeaning, lineWith};
-ghost use Rattle.rules.specs.Rule.{endsMeaning, BoundedEnds};
+ghost use Rattle.rules.specs.Yield.{yieldOf, madeMeaning, lineWith, endsMeaning};
+ghost use Rattle.rules.specs.Rule.{BoundedEnds};
 ghost use Rattle.rules.specs.Sum.{sumYield};
 
 // c0, then count / 2 pairs of a coefficient and a name.
@@ -110,14 +110,14 @@ fn sum_ends(
     let mut i: usize = 1;
     while i < count {
         let value = ends_named(numbers, i + 1, values, lows, highs);
-        let c = numbers[i];
+        let c = whole_at(numbers, i);
         so_far = plus(so_far, scaled(c, value));
         if !is_within(p, so_far) {
             return Made::Breaks(11);
         }
         i += 2;
     }
-    made_of(so_far)
+    Made::EndsOf(so_far)
 }
 
 // The ends of c0.
@@ -125,17 +125,17 @@ fn constant(numbers: &[i64]) -> Ends
     requires { ⌜ 0 < length (now numbers) ⌝ }
     ensures { λ r. ⌜ endsMeaning r ≡ ends (getD (now (numbers .entry)) 0 (pos 0)) (getD (now (numbers .entry)) 0 (pos 0)) ⌝ }
 {
-    let c0 = Whole(numbers[0]);
+    let c0 = whole_at(numbers, 0);
     Ends { low: c0, high: c0 }
 }
 
 // The ends of c times a value.
-fn scaled(c: i64, e: Ends) -> Ends
-    requires { ⌜ Bounded greatest c × BoundedEnds greatest e ⌝ }
-    ensures { λ r. ⌜ BoundedEnds greatestProduct r × (endsMeaning r ≡ scaled c (endsMeaning e)) ⌝ }
+fn scaled(c: Whole, e: Ends) -> Ends
+    requires { ⌜ Bounded greatest (c .0) × BoundedEnds greatest e ⌝ }
+    ensures { λ r. ⌜ BoundedEnds greatestProduct r × (endsMeaning r ≡ scaled (c .0) (endsMeaning e)) ⌝ }
 {
-    let one = whole_product(Whole(c), e.low);
-    let other = whole_product(Whole(c), e.high);
+    let one = whole_product(c, e.low);
+    let other = whole_product(c, e.high);
     Ends {
         low: smaller(one, other),
         high: larger(one, other),

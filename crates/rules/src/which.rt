@@ -7,6 +7,7 @@ use super::rule::are_made;
 use super::rule::begin_line;
 use super::rule::ends_named;
 use super::rule::sign_rule;
+use number::whole::whole_of;
 ghost use mathlib.Core.Path.{_≡_};
 ghost use Prim.Native.Nat.{_≤_};
 ghost use lib.IntN.{pos};
@@ -14,9 +15,9 @@ ghost use lib.ListN.{length, take};
 ghost use Rattle.meaning.specs.Word.{which};
 ghost use Rattle.meaning.specs.Known.{Known, ends, apart, digitRule};
 ghost use Rattle.meaning.specs.Gadget.Sign.{signShift};
-ghost use Rattle.rules.specs.Rule.{ruleYield, endsMeaning, BoundedEnds, Field};
+ghost use Rattle.rules.specs.Rule.{ruleYield, BoundedEnds, Field};
 ghost use Rattle.rules.specs.Ready.{Small, Ready, Represented, greatest};
-ghost use Rattle.rules.specs.Yield.{yieldOf, madeMeaning, lineWith};
+ghost use Rattle.rules.specs.Yield.{yieldOf, madeMeaning, lineWith, endsMeaning};
 
 pub fn read_which(
     numbers: &[i64],
@@ -50,5 +51,8 @@ fn which_ends(p: u32, b: u64, k: u32, u: Ends, v: Ends) -> Made
     if !sign_rule(p, b, k, apart(u, v)) {
         return Made::Breaks(10);
     }
-    Made::EndsOf(0, 1)
+    Made::EndsOf(Ends {
+        low: whole_of(0),
+        high: whole_of(1),
+    })
 }

@@ -1,7 +1,9 @@
 // Printing on one line, without its end: a list with its tabs as blanks, a column of inputs and a table with a blank before each number.
 use libc::STDOUT_FILENO;
 use number::Whole;
+use number::whole::is_negative;
 use number::whole::magnitude;
+use number::whole::whole_at;
 
 pub fn print(text: &[u8]) {
     io::write_all(STDOUT_FILENO, text);
@@ -13,9 +15,9 @@ pub fn print_count(n: u64) {
 }
 
 // Also the lowest i64, which has no negative: below zero, n is -(m + 1) for its magnitude m.
-fn print_whole(n: i64) {
-    let m = magnitude(Whole(n));
-    if n < 0 {
+fn print_whole(n: Whole) {
+    let m = magnitude(n);
+    if is_negative(n) {
         print(b" -");
         io::print_decimal(STDOUT_FILENO, m + 1);
     } else {
@@ -26,7 +28,7 @@ fn print_whole(n: i64) {
 pub fn print_inputs(inputs: &[i64]) {
     let mut i: usize = 0;
     while i < inputs.len() {
-        print_whole(inputs[i]);
+        print_whole(whole_at(inputs, i));
         i += 1;
     }
 }

@@ -3,6 +3,8 @@ use mathlib.Core.Path.{_≡_, sym}
 use mathlib.Core.List.{[], _∷_}
 use Prim.Native.Nat.{_+_}
 use native.Mathlib.Omega.{arith}
+use mir.Syntax.{w64}
+use mir.Val.{SFits}
 use borrow.Author.Needs.{needs}
 use Rattle.meaning.specs.Text.{decimalOf, numberText}
 use Rattle.output.proofs.Signed.{signed-text, plain-text, size-most}
@@ -12,23 +14,26 @@ use Rattle.output.proofs.write_number.Tie as tie
 
 -- a sign, and then the size
 halves : (c : tie.Then1)
-    → Halves (numberText (c .before .before .before .args .z)) (45 ∷ []) (decimalOf (c .before .magnitude .result + 1)) (c .before .before .before .args .part .now)
+    → let measured = c .before .before in
+    let a = measured .before .before .args in Halves (numberText (a .z .0)) (45 ∷ []) (decimalOf (measured .magnitude .result + 1)) (a .part .now)
 halves c =
-    let s = c .before .before .before in
-    record { parts = sym (signed-text (s .fits .z) (c .before .magnitude .ensures) (c .if1 .taken)); room = s .pre }
+    let measured = c .before .before in
+    record { parts = sym (signed-text (measured .before .before .args .z .0) (measured .magnitude .ensures) (c .before .is-negative .ensures) (c .if1 .taken)); room = measured .before .before .pre }
 
-plain : (c : tie.Else1) → decimalOf (c .before .magnitude .result) ≡ numberText (c .before .before .before .args .z)
-plain c = sym (plain-text (c .before .before .before .fits .z) (c .before .magnitude .ensures) (c .if1 .left))
+plain : (c : tie.Else1) → decimalOf (c .before .before .magnitude .result) ≡ numberText (c .before .before .before .before .args .z .0)
+plain c = sym (plain-text (c .before .before .before .before .args .z .0) (c .before .before .magnitude .ensures) (c .before .is-negative .ensures) (c .if1 .left))
 
 add-write-decimal : tie.Need-add-write-decimal
 add-write-decimal c =
-    let measured = c .before .before .before .before .before .before .before in
-    record { fits = omega (arith, size-most (measured .before .before .fits .z) (measured .magnitude .ensures)) }
+    let measured = c .before .before .before .before .before .before .before .before in
+    let fits : SFits w64 (measured .before .before .args .z .0) = search needs in
+    record { fits = omega (arith, size-most fits (measured .magnitude .ensures)) }
 
 pub write-number-spec : {M : Type 1} → statement M
 write-number-spec =
     tie.close
     (tie.spec
+    (λ c κs. search needs)
     (λ c κs. search needs)
     (λ c. search needs)
     (λ c κs. first-room (halves (c .before .before)))
@@ -40,6 +45,6 @@ write-number-spec =
     (λ c. omega (arith, whole-room (halves (c .before .before .before .before .before .before .before .before .before)) (c .before .before .before .before .before .before .write-bytes .ensures) (c .before .before .write-decimal .ensures)))
     (λ c. search needs)
     (λ c. written-whole (halves (c .before .before .before .before .before .before .before .before .before)) (c .before .before .before .before .before .before .write-bytes .ensures) (c .before .before .write-decimal .ensures))
-    (λ c κs. rw (plain (c .before)) (c .before .before .before .before .pre))
+    (λ c κs. rw (plain (c .before)) (c .before .before .before .before .before .pre))
     (λ c. search needs)
     (λ c. rw (plain (c .before .before .before .before)) at (c .before .before .write-decimal2 .ensures)))

@@ -1,5 +1,4 @@
 -- `number::whole::highest`: half of p - 1.
-use mathlib.Core.Path.{_∙_, refl}
 use borrow.Author.Needs.{needs}
 use Rattle.meaning.specs.Number.{half, highest}
 use Rattle.number.proofs.whole.highest.Statement.{statement}

@@ -1,5 +1,4 @@
 -- `number::whole::negated`: 0 less x is its negation.
-use mathlib.Core.Path.{_≡_, _∙_}
 use lib.IntN.{pos, negℤ, _-ℤ_, +ℤ-idl}
 use mir.Syntax.{w64}
 use mir.Val.{SFits}

@@ -22,8 +22,9 @@ returns c =
 returns-2 : tie.Need-returns-2
 unfolding answerMeaning
 returns-2 c =
-    answered _ (counts-replied (now (c .before .before .before .before .before .args .list)) _ (c .before .before .before .survey .ensures .0) _ _ (c .before .found2 .given .1))
+    rw (c .cell-number .ensures)
+    (answered _ (counts-replied (now (c .before .before .before .before .before .before .args .list)) _ (c .before .before .before .before .survey .ensures .0) _ _ (c .before .before .found2 .given .1)))
 
 pub read-spec : {M : Type 1} → statement M
 read-spec =
-    tie.close (tie.spec (λ c κs. search needs) (λ c. search needs) (λ c. search needs) returns returns-2)
+    tie.close (tie.spec (λ c κs. search needs) (λ c. search needs) (λ c. search needs) (λ c κs. search needs) returns returns-2)

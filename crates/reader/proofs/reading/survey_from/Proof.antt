@@ -27,23 +27,24 @@ abbrev μ-loop : tie.MeasureT-loop
 
 loop-holds : tie.Need-loop-holds Inv-loop μ-loop
 loop-holds c =
-    let S = c .before in
-    (replicate valueLimit 0, walk-start (now (S .args .list)) (S .args .start) (S .args .p) _ _ _ _ (S .pre .1) (S .pre .2) (S .pre .3) (S .pre .5) refl refl refl)
+    let start = c .before .before in
+    rw (c .counts-of .ensures)
+    (replicate valueLimit 0, walk-start (now (start .args .list)) (start .args .start) (start .args .p) _ _ _ _ (start .pre .1) (start .pre .2) (start .pre .3) (start .pre .5) refl refl refl)
 
 line-of-requires : tie.Need-line-of-requires Inv-loop μ-loop
 line-of-requires c κs =
     let at-test = c .before in
-    (at-test .before .before .before .pre .0, at-test .loop-test .taken, at-test .before .loop .inv .1 .numbers-long)
+    (at-test .before .before .before .before .pre .0, at-test .loop-test .taken, at-test .before .loop .inv .1 .numbers-long)
 
 same-length : tie.Need-same-length Inv-loop μ-loop
-same-length c = c .before .before .before .line-of .ensures .0 .left .kept ∙ c .before .before .before .before .before .before .loop .inv .1 .numbers-long ∙ sym (c .before .before .before .before .before .before .before .before .pre .5)
+same-length c = c .before .before .before .line-of .ensures .0 .left .kept ∙ c .before .before .before .before .before .before .loop .inv .1 .numbers-long ∙ sym (c .before .before .before .before .before .before .before .before .before .pre .5)
 
 returns : tie.Need-returns Inv-loop μ-loop
 unfolding surveyMeaning PrimeFound
 returns c =
     let at-line = c .before .before .before in
     let at-test = at-line .before .before in
-    (walk-stopped (at-test .before .loop .inv .1) (at-test .before .before .before .pre .0) (at-test .loop-test .taken) 3 (no-line-step 1 _ (no-line-meaning (at-line .line-of .ensures .0) (c .enum-told .given .1))), tt)
+    (walk-stopped (at-test .before .loop .inv .1) (at-test .before .before .before .before .pre .0) (at-test .loop-test .taken) 3 (no-line-step 1 _ (no-line-meaning (at-line .line-of .ensures .0) (c .enum-told .given .1))), tt)
 
 -- a line that was parsed
 module _ (c : tie.After-word Inv-loop μ-loop) where
@@ -57,7 +58,7 @@ module _ (c : tie.After-word Inv-loop μ-loop) where
   at-loop = at-test .before
 
   abbrev start : tie.Start Inv-loop μ-loop
-  start = at-loop .before .before
+  start = at-loop .before .before .before
 
   next-at : c .word .given .0 .1 .1 .0 ≡ endOf (now (start .args .list)) (at-loop .loop .at) + 1
   next-at = line-next (now (start .args .list)) (at-loop .loop .at) (at-line .line-of .ensures .1) (c .word .given .1)
@@ -85,6 +86,11 @@ returns-2 c =
     let step = at-step .step-parsed .ensures .0 _ (at-loop at-word .loop .inv .0) (w .places-long) refl in
     (walk-stopped w (start at-word .pre .0) (at-test at-word .loop-test .taken) _ (line-step 1 _ (line-meaning (at-line at-word .line-of .ensures .0) (at-word .word .given .1)) (rw (c .before .stepped .given .1) at step)), tt)
 
+add-n : tie.Need-add-n Inv-loop μ-loop
+add-n c =
+    let at-word = c .before .before .before .before .before .before .before .before .before .before in
+    omega (arith, at-loop at-word .loop .inv .1 .counted, at-test at-word .loop-test .taken)
+
 loop-less : tie.Need-loop-less Inv-loop μ-loop
 loop-less c =
     let at-word = c .before .before .before .before .before .before .before .before .before .before in
@@ -108,11 +114,11 @@ loop-again c =
     )
 
 same-length-3 : tie.Need-same-length-3 Inv-loop μ-loop
-same-length-3 c = c .before .loop .inv .1 .numbers-long ∙ sym (c .before .before .before .pre .5)
+same-length-3 c = c .before .loop .inv .1 .numbers-long ∙ sym (c .before .before .before .before .pre .5)
 
 returns-3 : tie.Need-returns-3 Inv-loop μ-loop
 unfolding surveyMeaning PrimeFound
-returns-3 c = (walk-end (c .before .loop .inv .1) (c .loop-test .left), (c .before .before .before .pre .3, c .before .before .before .pre .4))
+returns-3 c = (walk-end (c .before .loop .inv .1) (c .loop-test .left), (c .before .before .before .before .pre .3, c .before .before .before .before .pre .4))
 
 pub survey-from-spec : {M : Type 1} → statement M
 survey-from-spec =
@@ -120,6 +126,7 @@ survey-from-spec =
     (tie.spec
     Inv-loop
     μ-loop
+    (λ c κs. search needs)
     loop-holds
     line-of-requires
     (λ c. search needs)
@@ -133,7 +140,7 @@ survey-from-spec =
     same-length-2
     returns-2
     (λ c. search needs)
-    (λ c. search needs)
+    add-n
     loop-less
     loop-again
     same-length-3

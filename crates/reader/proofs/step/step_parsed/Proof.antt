@@ -7,9 +7,6 @@ use denote.Ref.{now}
 use lib.ListN.{take, getD}
 use lib.IntN.{ℤ, pos, natAbs}
 use lib.Signed.{_≤ℤ_}
-use mir.Syntax.{w64}
-use mir.Val.{SFits}
-use Rattle.number.proofs.Word.{back}
 use Rattle.meaning.specs.Word.{span, sizeAt, kindOf}
 use Rattle.meaning.specs.Known.{Known}
 use Rattle.meaning.specs.Kept.{Keeps}
@@ -31,7 +28,7 @@ use Rattle.reader.proofs.step.step_parsed.Tie as tie
 
 module _ (c : tie.After-line-size) where
   abbrev start : tie.Start
-  start = c .before .before .before .before
+  start = c .before .before .before .before .before
 
   abbrev HeldHere : Known → List ℕ → Type 0
   HeldHere s places = Held (start .args .p) s (start .args .counts) (now (start .args .lows)) (now (start .args .highs)) places
@@ -43,7 +40,7 @@ module _ (c : tie.After-line-size) where
   numbers = take (start .args .count) (now (start .args .numbers))
 
   line-yield : {s : Known} {places : List ℕ} → HeldHere s places → madeMeaning (c .before .read-ends .result) ≡ lineYield s (lineWith (wordOf (start .args .word)) numbers)
-  line-yield {s} held = c .before .read-ends .ensures s (meaning-state held)
+  line-yield {s} held = c .before .read-ends .ensures s (rw (c .before .before .before .before .cell-number .ensures) (meaning-state held))
 
   -- a line that makes a value
   module _ (other : NotSpan (wordOf (start .args .word))) where
@@ -67,6 +64,9 @@ module _ (c : tie.After-line-size) where
     names s kept = name-counted s (now (start .args .numbers)) (start .args .count) at (omega (arith, count-is (now (start .args .numbers)) 4 (start .args .count) span-is (λ ns. refl) (start .pre .2 .counted) (omega (arith, start .pre .2 .numbers-long, start .pre .2 .most)))) at-is kept
 
 -- ---- the ways out
+
+read-ends-requires : tie.Need-read-ends-requires
+read-ends-requires c κs = let start = c .before .before .before in rw (c .before .before .cell-number .ensures) (start .pre .0, start .pre .2)
 
 enter-requires : tie.Need-enter-requires
 enter-requires c κs =
@@ -95,9 +95,7 @@ returns c =
 at-is : (c : tie.After-natural)
     → let z = getD (now (start (c .before .before .before .before) .args .numbers)) 0 (pos 0) in
     pos 0 ≤ℤ z → c .natural .result ≡ natAbs z
-at-is c =
-    let f : SFits w64 (getD (now (start (c .before .before .before .before) .args .numbers)) 0 (pos 0)) = search needs in
-    rw (back f) at (c .natural .ensures)
+at-is c = rw (c .before .whole-at .ensures) at (c .natural .ensures)
 
 enter-requires-2 : tie.Need-enter-requires-2
 enter-requires-2 c κs =
@@ -106,7 +104,7 @@ enter-requires-2 c κs =
     let span-is = at-natural .before .before .enum-told .given .1 in
     let before = held at-size _ [] refl in
     let within = named before _ _ (names at-size span-is _ (at-is at-natural) _) _ (yield-span at-size span-is _ (at-is at-natural) before) in
-    (start at-size .pre .1, at-size .line-size .ensures .1, λ low high q. omega (arith, within low high q, start at-size .pre .1 .values-most))
+    (start at-size .pre .1, at-size .line-size .ensures .1, λ e q. omega (arith, within e q, start at-size .pre .1 .few .values-most))
 
 returns-2 : tie.Need-returns-2
 unfolding counted added
@@ -135,13 +133,14 @@ step-parsed-spec =
     tie.close
     (tie.spec
     (λ c κs. search needs)
+    read-ends-requires
     (λ c κs. search needs)
     (λ c. search needs)
     enter-requires
     (λ c. search needs)
     (λ c. search needs)
     returns
-    (λ c. search needs)
+    (λ c κs. search needs)
     (λ c κs. search needs)
     enter-requires-2
     (λ c. search needs)

@@ -1,12 +1,11 @@
 -- Each way out is one law of the root rule; c is at most p, so that its square fits.
 use mathlib.Core.Path.{sym}
-use Prim.Native.Nat.{ℕ, _-_, _*_, _^_, _≤_}
+use Prim.Native.Nat.{ℕ, _*_, _^_, _≤_}
 use native.Mathlib.Omega.{arith}
 use native.Mathlib.Nat.{mul-le-mul}
 use Rattle.meaning.specs.Number.{half}
-use Rattle.number.proofs.Word.{small}
 use Rattle.rules.specs.Ready.{greatest}
-use Rattle.rules.specs.Yield.{madeMeaning}
+use Rattle.rules.specs.Yield.{madeMeaning, endsMeaning}
 use Rattle.rules.proofs.Digits.{Power, power-above, power-within, root-low, root-wide, root-above, root-kept}
 use borrow.Author.Needs.{needs}
 use Rattle.rules.proofs.root.root_ends.Statement.{statement}
@@ -41,19 +40,19 @@ returns-3 c =
     let a = c .before .before .before .before .before .before .args in
     rw (← power (c .before .before) .power) (sym (root-wide (a .p) (c .before .before .before .c .given .0 .0) (c .if2 .taken)))
 
-cast-t12 : tie.Need-cast-t12
-cast-t12 c =
-    let r = power (c .before .before) in
-    record { sfits = omega (arith, c .before .before .before .before .before .before .pre .0 .most) }
+wide-whole-requires : tie.Need-wide-whole-requires
+wide-whole-requires c κs =
+    let at-power = c .before .before .before in
+    omega (arith, power at-power .within, at-power .before .before .before .before .pre .0 .most)
 
 returns-4 : tie.Need-returns-4
-unfolding madeMeaning half
+unfolding madeMeaning endsMeaning half
 returns-4 c =
-    let start = c .before .before .before .before .before .before in
-    let x : ℕ = c .before .before .before .c .given .0 .0 in
-    let r = power (c .before .before) in
-    rw (← r .power, small (x - 1) (omega (arith, start .pre .0 .most)))
-    (sym (root-kept (start .args .p) x (c .before .if1 .left) (c .if2 .left)))
+    let at-if2 = c .before .before in
+    let at-power = at-if2 .before .before in
+    let start = at-power .before .before .before .before in
+    rw (← power at-power .power, c .before .whole-of .ensures, c .wide-whole .ensures)
+    (sym (root-kept (start .args .p) (at-power .before .c .given .0 .0) (at-if2 .before .if1 .left) (at-if2 .if2 .left)))
 
 pub root-ends-spec : {M : Type 1} → statement M
 root-ends-spec =
@@ -69,6 +68,7 @@ root-ends-spec =
     (λ c. search needs)
     mul-if2
     returns-3
+    (λ c κs. search needs)
     (λ c. search needs)
-    cast-t12
+    wide-whole-requires
     returns-4)

@@ -1,7 +1,7 @@
 -- The ends are small, so their differences fit.
 use Rattle.meaning.specs.Known.{apart}
 use Rattle.number.proofs.Bounded.{bounded-difference, difference-fits}
-use Rattle.rules.specs.Rule.{endsMeaning}
+use Rattle.rules.specs.Yield.{endsMeaning}
 use Rattle.rules.proofs.rule.apart.Statement.{statement}
 use Rattle.rules.proofs.rule.apart.Tie as tie
 

@@ -1,82 +1,69 @@
--- The tests are the definition's own, read from bits and the other way round. What they let through is not negative, so that the casts
--- keep it.
-use mathlib.Core.Path.{_≡_}
+-- The tests are the definition's own. What they let through is not negative, so that the casts keep it.
+use mathlib.Core.Path.{_≡_, sym, _∙_}
 use mathlib.Core.Bool.{true}
 use native.Mathlib.Omega.{arith}
 use lib.IntN.{pos}
 use lib.Signed.{leZ, pos-natAbs}
+use borrow.Author.Tests.{not-true, not-false}
+use Rattle.meaning.specs.Number.{between}
 use Rattle.meaning.specs.Refusal.{isDigits, mostDigits}
-use Rattle.number.proofs.Word.{back}
+use Rattle.meaning.proofs.Lines.{not-below}
 use Rattle.rules.specs.Rule.{digitsAllowed, digitsMeaning}
-use Rattle.rules.proofs.Tests.{less, not-less, counts-below}
-use Rattle.rules.proofs.Digits.{digits-allowed}
+use Rattle.rules.proofs.Digits.{Allowed, digits-allowed}
+use borrow.Author.Needs.{needs}
 use Rattle.rules.proofs.rule.digits_of.Statement.{statement}
 use Rattle.rules.proofs.rule.digits_of.Tie as tie
 
--- what is known after each test that the numbers passed
-base-two : (c : tie.Else1) → leZ (pos 2) (c .before .args .b) ≡ true
-base-two c = not-less (c .before .args .b) (pos 2) (rw (back (c .before .fits .b)) at (c .if1 .left))
+-- the two tests
+base-test : (c : tie.After-is-at-most) → leZ (pos 2) (c .before .before .args .b .0) ≡ c .is-at-most .result
+base-test c = sym (rw (c .before .whole-of .ensures) at (c .is-at-most .ensures))
 
-count-one : (c : tie.Else2) → leZ (pos 1) (c .before .before .args .k) ≡ true
-count-one c = not-less (c .before .before .args .k) (pos 1) (rw (back (c .before .before .fits .k)) at (c .if2 .left))
-
-all-passed : (c : tie.Else3) → isDigits (record { b = c .before .before .before .args .b; k = c .before .before .before .args .k }) ≡ true
-unfolding isDigits
-all-passed c =
-    let start = c .before .before .before in
-    rw (
-      base-two (c .before .before),
-      count-one (c .before),
-      not-less (pos mostDigits) (start .args .k)
-          (rw (back (start .fits .k)) at (c .if3 .left)),
-    )
+count-test : (c : tie.After-within) → between (pos 1) (c .before .before .before .before .before .before .args .k .0) (pos mostDigits) ≡ c .within .result
+count-test c = sym (rw (c .before .before .whole-of2 .ensures, c .before .whole-of3 .ensures) at (c .within .ensures))
 
 returns : tie.Need-returns
 unfolding digitsAllowed digitsMeaning isDigits
-returns c = let start = c .before in rw (less (start .args .b) (pos 2) (rw (back (start .fits .b)) at (c .if1 .taken)))
+returns c = rw (base-test (c .before), not-true (c .before .is-at-most .result) (c .if1 .taken))
+
+base-two : (c : tie.Else1) → leZ (pos 2) (c .before .before .before .args .b .0) ≡ true
+base-two c = base-test (c .before) ∙ not-false (c .before .is-at-most .result) (c .if1 .left)
 
 returns-2 : tie.Need-returns-2
-unfolding digitsAllowed digitsMeaning isDigits
+unfolding digitsAllowed digitsMeaning isDigits between
 returns-2 c =
-    let start = c .before .before in
-    rw (base-two (c .before), less (start .args .k) (pos 1) (rw (back (start .fits .k)) at (c .if2 .taken)))
+    let at-if1 = c .before .before .before .before in
+    rw (base-two at-if1, count-test (c .before), not-true (c .before .within .result) (c .if2 .taken))
+
+both-passed : (c : tie.Else2) → let a = c .before .before .before .before .before .before .before .args in isDigits (record { b = a .b .0; k = a .k .0 }) ≡ true
+unfolding isDigits between
+both-passed c =
+    let at-if1 = c .before .before .before .before in
+    rw (base-two at-if1) (count-test (c .before) ∙ not-false (c .before .within .result) (c .if2 .left))
+
+allowed : (c : tie.Else2) → let a = c .before .before .before .before .before .before .before .args in Allowed (a .b .0) (a .k .0)
+allowed c = digits-allowed _ _ (both-passed c)
+
+size-of-requires : tie.Need-size-of-requires
+size-of-requires c κs = not-below _ (allowed c .base-counts)
+
+size-of-requires-2 : tie.Need-size-of-requires-2
+size-of-requires-2 c κs = not-below _ (allowed (c .before) .count-counts)
+
+cast-t10 : tie.Need-cast-t10
+cast-t10 c = record { fits = omega (arith, c .size-of2 .ensures, allowed (c .before .before) .most) }
 
 returns-3 : tie.Need-returns-3
-unfolding digitsAllowed digitsMeaning isDigits
-returns-3 c =
-    let start = c .before .before .before in
-    rw (base-two (c .before .before), count-one (c .before), less (pos mostDigits) (start .args .k) (rw (back (start .fits .k)) at (c .if3 .taken)))
-
-cast-t4 : tie.Need-cast-t4
-cast-t4 c =
-    let start = c .before .before .before in
-    let allowed = digits-allowed (start .args .b) (start .args .k) (all-passed c) in
-    rw (back (start .fits .b)) (
-      allowed .base-counts,
-      record {
-        fits = omega
-            (arith, counts-below (start .args .b) (start .fits .b) (allowed .base-counts));
-      },
-    )
-
-cast-t5 : tie.Need-cast-t5
-cast-t5 c =
-    let start = c .before .before .before in
-    let allowed = digits-allowed (start .args .b) (start .args .k) (all-passed c) in
-    rw (back (start .fits .k)) (allowed .count-counts, record { fits = omega arith })
-
-returns-4 : tie.Need-returns-4
 unfolding digitsAllowed digitsMeaning
-returns-4 c =
-    let start = c .before .before .before in
-    let allowed = digits-allowed (start .args .b) (start .args .k) (all-passed c) in
+returns-3 c =
+    let at-if2 = c .before .before in
+    let a = at-if2 .before .before .before .before .before .before .before .args in
     rw (
-      back (start .fits .b),
-      back (start .fits .k),
-      all-passed c,
-      pos-natAbs (start .args .b) (allowed .base-counts),
-      pos-natAbs (start .args .k) (allowed .count-counts),
+      c .before .size-of .ensures,
+      c .size-of2 .ensures,
+      both-passed at-if2,
+      pos-natAbs (a .b .0) (allowed at-if2 .base-counts),
+      pos-natAbs (a .k .0) (allowed at-if2 .count-counts),
     )
 
 pub digits-of-spec : {M : Type 1} → statement M
-digits-of-spec = tie.close (tie.spec returns returns-2 returns-3 cast-t4 cast-t5 returns-4)
+digits-of-spec = tie.close (tie.spec (λ c κs. search needs) (λ c κs. search needs) returns (λ c κs. search needs) (λ c κs. search needs) (λ c κs. search needs) returns-2 size-of-requires size-of-requires-2 cast-t10 returns-3)

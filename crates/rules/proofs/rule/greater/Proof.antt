@@ -1,5 +1,5 @@
 -- The larger of each two ends.
-use Rattle.rules.specs.Rule.{endsMeaning}
+use Rattle.rules.specs.Yield.{endsMeaning}
 use borrow.Author.Needs.{needs}
 use Rattle.rules.proofs.rule.greater.Statement.{statement}
 use Rattle.rules.proofs.rule.greater.Tie as tie

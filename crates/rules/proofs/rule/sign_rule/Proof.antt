@@ -2,16 +2,13 @@
 use mathlib.Core.Path.{_≡_, sym, _∙_}
 use Prim.Native.Nat.{_-_, _*_, _≤_}
 use native.Mathlib.Omega.{arith}
-use lib.IntN.{pos, negℤ, _-ℤ_, +ℤ-idl}
-use mir.Syntax.{w64}
-use mir.Val.{toZ, ofZ}
+use lib.IntN.{pos, negℤ}
 use Rattle.meaning.specs.Known.{topPart}
 use Rattle.meaning.specs.Gadget.Sign.{signShift}
 use Rattle.number.specs.Bounded.{Bounded}
-use Rattle.number.proofs.Word.{back, small}
 use Rattle.number.proofs.Bounded.{bounded-negation, bounded-fits}
 use Rattle.rules.specs.Ready.{greatest}
-use Rattle.rules.specs.Rule.{endsMeaning}
+use Rattle.rules.specs.Yield.{endsMeaning}
 use Rattle.rules.proofs.Digits.{Power, power-above, power-within, rule-above, rule-within, step-above, part-power, part-within, part-less, top-part, part-fits}
 use borrow.Author.Needs.{needs}
 use Rattle.rules.proofs.rule.sign_rule.Statement.{statement}
@@ -63,47 +60,29 @@ shift-small c =
     let a = c .before .before .before .before .before .args in
     bounded-negation {a = pos (topPart (a .b) (a .k))} (record { size = top-small c })
 
-cast-is-narrow : tie.Need-cast-is-narrow
-cast-is-narrow c = rw (top-is c) (record { sfits = omega (arith, top-small c) })
+wide-is : (c : tie.After-wide-whole) → let a = c .before .before .before .before .before .before .args in c .wide-whole .result .0 ≡ pos (topPart (a .b) (a .k))
+wide-is c = c .wide-whole .ensures ∙ rw (top-is (c .before))
 
-sub-is-narrow : tie.Need-sub-is-narrow
-sub-is-narrow c =
-    let a = c .before .before .before .before .before .args in
-    rw (top-is c, small (topPart (a .b) (a .k)) (omega (arith, top-small c)), +ℤ-idl (negℤ (pos (topPart (a .b) (a .k)))))
-    (bounded-fits greatest (shift-small c) tt)
+wide-whole-requires : tie.Need-wide-whole-requires
+wide-whole-requires c κs = rw (top-is c) (omega (arith, top-small c))
 
-shift-is : (c : tie.Else1)
-    → let a = c .before .before .before .before .before .args in
-    toZ w64 (ofZ w64 (pos 0 -ℤ toZ w64 (c .before .before .part .given .0 .0 * a .b - c .before .before .part .given .0 .0))) ≡ signShift (a .b) (a .k)
+negated-requires : tie.Need-negated-requires
+negated-requires c κs = rw (wide-is c) (bounded-fits greatest (shift-small (c .before)) tt)
+
+shift-is : (c : tie.After-negated) → let a = c .before .before .before .before .before .before .before .args in c .negated .result .0 ≡ signShift (a .b) (a .k)
 unfolding signShift
-shift-is c =
-    let a = c .before .before .before .before .before .args in
-    back (sub-is-narrow c)
-    ∙ rw (top-is c, small (topPart (a .b) (a .k)) (omega (arith, top-small c)), +ℤ-idl (negℤ (pos (topPart (a .b) (a .k)))))
+shift-is c = c .negated .ensures ∙ rw (wide-is (c .before))
 
 is-narrow-requires : tie.Need-is-narrow-requires
 unfolding signShift
 is-narrow-requires c κs =
-    let start = c .before .before .before .before .before in
-    let r = power c in
-    rw (shift-is c) (start .pre .0, r .positive, r .within, start .pre .3, shift-small c)
+    let at-if1 = c .before .before in
+    let start = at-if1 .before .before .before .before .before in
+    let r = power at-if1 in
+    rw (shift-is c) (start .pre .0, r .positive, r .within, start .pre .3, shift-small at-if1)
 
 returns-3 : tie.Need-returns-3
-returns-3 c = (rw (shift-is (c .before)) at (c .is-narrow .ensures)) ∙ sym (rule-within _ _ _ _ _ (power (c .before)))
+returns-3 c = (rw (shift-is (c .before)) at (c .is-narrow .ensures)) ∙ sym (rule-within _ _ _ _ _ (power (c .before .before .before)))
 
 pub sign-rule-spec : {M : Type 1} → statement M
-sign-rule-spec =
-    tie.close
-    (tie.spec
-    (λ c. search needs)
-    (λ c κs. search needs)
-    (λ c. search needs)
-    (λ c. search needs)
-    returns
-    mul-c
-    returns-2
-    sub-top
-    cast-is-narrow
-    sub-is-narrow
-    is-narrow-requires
-    returns-3)
+sign-rule-spec = tie.close (tie.spec (λ c. search needs) (λ c κs. search needs) (λ c. search needs) (λ c. search needs) returns mul-c returns-2 sub-top wide-whole-requires negated-requires is-narrow-requires returns-3)

@@ -1,12 +1,7 @@
 -- The rules up to 9 are those of a line with digits, and the rest is `span_ends`.
 use mathlib.Core.Path.{sym, _∙_}
 use native.Mathlib.Omega.{arith}
-use lib.IntN.{pos}
-use lib.ListN.{getD}
-use mir.Syntax.{w64}
-use mir.Val.{SFits}
 use Rattle.meaning.specs.Gadget.Span.{spanLine}
-use Rattle.number.proofs.Word.{back}
 use Rattle.rules.specs.Yield.{madeMeaning}
 use Rattle.rules.specs.Rule.{sharedYield}
 use Rattle.rules.proofs.Values.{read-sized, ready-field, ready-lows, ready-highs, ends-known}
@@ -32,8 +27,7 @@ span-ends-requires : tie.Need-span-ends-requires
 span-ends-requires c κs =
     let start = c .before .before .before .before .before .before .before .before in
     let w = well (c .before .before) in
-    let f : SFits w64 (getD (start .args .numbers .now) 3 (pos 0)) = search needs in
-    rw (back f) (ready-field (start .pre .0), w .base-one, read-sized (start .pre .0) (w .are-made) (c .before .ends-named .ensures), record { size = start .pre .2 3 (omega arith) })
+    rw (c .whole-at .ensures) (ready-field (start .pre .0), w .base-one, read-sized (start .pre .0) (w .are-made) (c .before .ends-named .ensures), record { size = start .pre .2 3 (omega arith) })
 
 returns : tie.Need-returns
 unfolding madeMeaning
@@ -46,8 +40,7 @@ unfolding late spanLine sharedYield
 returns-2 c =
     let at-begun = c .before .before .before .before .before .before in
     let start = at-begun .before .before .before in
-    let f : SFits w64 (getD (start .args .numbers .now) 3 (pos 0)) = search needs in
-    λ s meaning. (rw (back f) at (c .span-ends .ensures))
+    λ s meaning. (rw (c .before .whole-at .ensures) at (c .span-ends .ensures))
     ∙ sym (span-late (yield-begun at-begun) (start .pre .0) meaning (c .before .before .before .before .begun2 .given .1)
     ∙ rw (ends-known (start .pre .0) meaning (well (c .before .before .before) .are-made) (c .before .before .ends-named .ensures), meaning .prime))
 
@@ -61,7 +54,7 @@ read-span-spec =
     (λ c. search needs)
     (λ c. search needs)
     ends-named-requires
-    (λ c. search needs)
+    (λ c κs. search needs)
     span-ends-requires
     returns
     returns-2)

@@ -4,9 +4,7 @@ use native.Mathlib.Omega.{arith}
 use borrow.Author.Tests.{not-true, not-false}
 use Rattle.meaning.specs.Known.{digitRule}
 use Rattle.meaning.specs.Gadget.Span.{spanTop, shared}
-use Rattle.number.proofs.Word.{back}
-use Rattle.rules.specs.Yield.{madeMeaning}
-use Rattle.rules.specs.Rule.{endsMeaning}
+use Rattle.rules.specs.Yield.{madeMeaning, endsMeaning}
 use Rattle.rules.proofs.Values.{sized-more}
 use Rattle.rules.proofs.Digits.{Power, power-above, power-within, rule-above, rule-within}
 use borrow.Author.Needs.{needs}
@@ -17,7 +15,7 @@ returns : tie.Need-returns
 unfolding madeMeaning
 returns c =
     let a = c .before .before .before .args in
-    rw (rule-above (a .p) (a .b) (a .k) (endsMeaning (a .old)) (a .shift) (power-above _ _ _ (c .before .before .capped-power .ensures) (c .enum-told .given .1)))
+    rw (rule-above (a .p) (a .b) (a .k) (endsMeaning (a .old)) (a .shift .0) (power-above _ _ _ (c .before .before .capped-power .ensures) (c .enum-told .given .1)))
 
 power : (c : tie.After-known-told) → let a = c .before .before .before .before .args in Power (a .p) (a .b) (a .k) (c .before .c .given .0 .0)
 power c = power-within _ _ _ (c .before .before .before .capped-power .ensures) (c .before .before .before .before .pre .1) (c .before .c .given .1)
@@ -26,12 +24,12 @@ is-narrow-requires : tie.Need-is-narrow-requires
 is-narrow-requires c κs =
     let start = c .before .before .before .before in
     let r = power c in
-    rw (back (start .fits .shift)) (start .pre .0, r .positive, r .within, sized-more (start .pre .2), start .pre .3)
+    (start .pre .0, r .positive, r .within, sized-more (start .pre .2), start .pre .3)
 
 rule-is : (c : tie.After-is-narrow)
-    → let a = c .before .before .before .before .before .args in digitRule (a .p) (a .b) (a .k) (endsMeaning (a .old)) (a .shift)
+    → let a = c .before .before .before .before .before .args in digitRule (a .p) (a .b) (a .k) (endsMeaning (a .old)) (a .shift .0)
     ≡ c .is-narrow .result
-rule-is c = rule-within _ _ _ _ _ (power (c .before)) ∙ sym (rw (back (c .before .before .before .before .before .fits .shift)) at (c .is-narrow .ensures))
+rule-is c = rule-within _ _ _ _ _ (power (c .before)) ∙ sym (c .is-narrow .ensures)
 
 returns-2 : tie.Need-returns-2
 unfolding madeMeaning
@@ -44,15 +42,14 @@ shared-ends-requires : tie.Need-shared-ends-requires
 shared-ends-requires c κs =
     let start = c .before .before .before .before .before .before in
     let r = power (c .before .before) in
-    rw (back (start .fits .shift)) (omega (arith, start .pre .0 .most), start .pre .3)
+    (omega (arith, start .pre .0 .most), start .pre .3)
 
 returns-3 : tie.Need-returns-3
 unfolding shared spanTop endsMeaning
 returns-3 c =
-    let start = c .before .before .before .before .before .before .before in
     let at-is-narrow = c .before .before in
     rw (rule-is at-is-narrow, not-false (at-is-narrow .is-narrow .result) (c .before .if1 .left), ← power (at-is-narrow .before) .power)
-    (rw (back (start .fits .shift)) at (c .shared-ends .ensures))
+    (c .shared-ends .ensures)
 
 pub span-ends-spec : {M : Type 1} → statement M
 span-ends-spec =

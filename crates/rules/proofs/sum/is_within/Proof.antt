@@ -1,6 +1,6 @@
 -- The two tests in their order.
 use Rattle.meaning.specs.Gadget.Sum.{endsInRange}
-use Rattle.rules.specs.Rule.{endsMeaning}
+use Rattle.rules.specs.Yield.{endsMeaning}
 use borrow.Author.Needs.{needs}
 use Rattle.rules.proofs.sum.is_within.Statement.{statement}
 use Rattle.rules.proofs.sum.is_within.Tie as tie

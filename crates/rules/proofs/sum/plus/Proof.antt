@@ -1,7 +1,7 @@
 -- The ends are small enough for their sums to fit.
 use Rattle.meaning.specs.Gadget.Sum.{added}
 use Rattle.number.proofs.Bounded.{sum-fits}
-use Rattle.rules.specs.Rule.{endsMeaning}
+use Rattle.rules.specs.Yield.{endsMeaning}
 use Rattle.rules.proofs.sum.plus.Statement.{statement}
 use Rattle.rules.proofs.sum.plus.Tie as tie
 

@@ -5,16 +5,12 @@ use Prim.Native.Nat.{_+_, _-_, _%_, _≤_, _<_}
 use native.Mathlib.Omega.{arith}
 use lib.IntN.{pos, natAbs}
 use lib.ListN.{getD, take, drop}
-use mir.Syntax.{w64}
-use mir.Val.{SFits}
 use borrow.Author.Tests.{not-true, not-false}
 use Rattle.meaning.specs.Word.{alternate}
 use Rattle.meaning.specs.Known.{ends}
 use Rattle.meaning.specs.Refusal.{all, isMade}
 use Rattle.meaning.specs.Gadget.Sum.{termsOf, scaled, added, endsInRange}
-use Rattle.number.proofs.Word.{back}
-use Rattle.rules.specs.Yield.{madeMeaning}
-use Rattle.rules.specs.Rule.{endsMeaning}
+use Rattle.rules.specs.Yield.{madeMeaning, endsMeaning}
 use Rattle.rules.specs.Sum.{endsAt, sumYield}
 use Rattle.rules.proofs.Values.{read-sized, ready-lows, ready-highs}
 use Rattle.rules.proofs.SumLine.{all-here, read-at, sum-end, sum-next, sum-leaves, range-sized}
@@ -65,8 +61,7 @@ scaled-requires : tie.Need-scaled-requires Inv-loop μ-loop
 scaled-requires c κs =
     let at-test = c .before .before in
     let start = at-test .before .before .before in
-    let f : SFits w64 (getD (start .args .numbers .now) (at-test .before .loop .i) (pos 0)) = search needs in
-    rw (back f) (
+    rw (c .whole-at .ensures) (
       record { size = start .pre .4 (at-test .before .loop .i) (at-test .loop-test .taken) },
       read-sized (start .pre .0)
           (made at-test .0) (c .before .ends-named .ensures),
@@ -92,8 +87,7 @@ next : (c : tie.After-plus Inv-loop μ-loop)
 next c =
     let at-ends-named = c .before .before .before in
     let at-loop = at-ends-named .before .before in
-    let f : SFits w64 (getD (at-loop .before .before .args .numbers .now) (at-loop .loop .i) (pos 0)) = search needs in
-    c .plus .ensures ∙ rw (rw (back f) at (c .before .scaled .ensures .1), read-at (at-ends-named .ends-named .ensures))
+    c .plus .ensures ∙ rw (rw (c .before .before .whole-at .ensures) at (c .before .scaled .ensures .1), read-at (at-ends-named .ends-named .ensures))
 
 returns : tie.Need-returns Inv-loop μ-loop
 unfolding madeMeaning
@@ -128,13 +122,13 @@ loop-again c =
     )
 
 returns-2 : tie.Need-returns-2 Inv-loop μ-loop
+unfolding madeMeaning
 returns-2 c =
-    let at-loop = c .before .before in
+    let at-loop = c .before in
     let start = at-loop .before .before in
     let a = start .args in
-    c .made-of .ensures
-    ∙ sym (at-loop .loop .inv .4 ∙ sum-end (a .p) (a .lows .now) (a .highs .now) (a .numbers .now) (endsMeaning (at-loop .loop .so-far))
-    (a .count) (at-loop .loop .i) (start .pre .1) (c .before .loop-test .left))
+    sym (at-loop .loop .inv .4 ∙ sum-end (a .p) (a .lows .now) (a .highs .now) (a .numbers .now) (endsMeaning (at-loop .loop .so-far))
+    (a .count) (at-loop .loop .i) (start .pre .1) (c .loop-test .left))
 
 pub sum-ends-spec : {M : Type 1} → statement M
 sum-ends-spec =
@@ -146,8 +140,7 @@ sum-ends-spec =
     loop-holds
     (λ c. search needs)
     ends-named-requires
-    (λ c. search needs)
-    (λ c. search needs)
+    (λ c κs. search needs)
     scaled-requires
     plus-requires
     is-within-requires
@@ -155,5 +148,4 @@ sum-ends-spec =
     (λ c. search needs)
     (λ c. search needs)
     loop-again
-    (λ c κs. search needs)
     returns-2)
