@@ -13,19 +13,19 @@ use Rattle.meaning.specs.Gadget.Digits.{groupCells}
 use Rattle.meaning.specs.Gadget.Sign.{signShift, signTop, signCells}
 use Rattle.groups.specs.Cells.{flagCells}
 
-two-written : (x y : ℕ) (l : List ℕ) → 2 ≤ length l → set (set l 0 x) 1 y ≡ x ∷ y ∷ drop 2 l
+pub two-written : (x y : ℕ) (l : List ℕ) → 2 ≤ length l → set (set l 0 x) 1 y ≡ x ∷ y ∷ drop 2 l
 two-written x y [] h = absurd (omega arith)
 two-written x y (a ∷ []) h = absurd (omega arith)
 two-written x y (a ∷ (b ∷ l)) h = refl
 
-module _ (p t : ℕ) (l : List ℕ) (room : 2 ≤ length l) where
-  pub flag-zero : t ≡ 0 → set (set l 0 1) 1 0 ≡ flagCells p t ++ drop 2 l
+module _ (p : ℕ) {t : ℕ} where
+  pub flag-zero : t ≡ 0 → 1 ∷ 0 ∷ [] ≡ flagCells p t
   unfolding flagCells
-  flag-zero e = rw e (two-written 1 0 l room)
+  flag-zero e = rw e refl
 
-  pub flag-other : (w : ℕ) → t ≢ 0 → w ≡ inverse p t → set (set l 0 0) 1 w ≡ flagCells p t ++ drop 2 l
+  pub flag-other : {w : ℕ} → t ≢ 0 → w ≡ inverse p t → 0 ∷ w ∷ [] ≡ flagCells p t
   unfolding flagCells
-  flag-other w n e = rw (false-eqb t 0 n, ← e) (two-written 0 w l room)
+  flag-other n e = rw (false-eqb t 0 n, ← e) refl
 
 pub sign-cells-are : (p b k : ℕ) (x : ℤ) (n : ℕ) → n ≡ natAbs (x -ℤ signShift b k)
     → digits b k n ++ flagCells p (remainder p (pos (n / b ^ (k - 1) % b) -ℤ pos (b - 1))) ≡ signCells p b k x

@@ -32,9 +32,17 @@ module _ (p : ℕ) (t : List ℕ) where
   pub leaves-read : (i : ℕ) {r : ℕ} → Below p t → i < length t → r ≡ getD t i 0 → Leaves p t r (cell i)
   leaves-read i h k e = rw e (leaves-cell i h k)
 
+  -- the same where the cell was counted from another
+  pub leaves-after : (i : ℕ) {n r : ℕ} → Below p t → i < length t → n ≡ i → r ≡ getD t n 0 → Leaves p t r (cell i)
+  leaves-after i h k place e = leaves-read i h k (rw place at e)
+
   pub leaves-constant : (n : ℕ) → n < p → Leaves p t n (constant (pos n))
   unfolding eval
   leaves-constant n h = record { below = h; is = sym (remainder-of-residue p n h) }
+
+  -- a number that was taken for its own remainder
+  pub leaves-own : (n : ℕ) {r : ℕ} → n < p → r ≡ n → Leaves p t r (constant (pos n))
+  leaves-own n h e = rw e (leaves-constant n h)
 
   pub leaves-whole : (z : ℤ) {r : ℕ} → 0 < p → r ≡ remainder p z → Leaves p t r (constant z)
   unfolding eval

@@ -1,7 +1,7 @@
 -- The rows of a digit group: the test of a digit, and the digits' value, from the lowest digit on.
 use mathlib.Core.Path.{_≡_, refl, sym, ap, _∙_}
 use mathlib.Core.List.{List, [], _∷_, _++_}
-use mathlib.Core.Bool.{cond}
+use mathlib.Core.Bool.{Bool, true, false, not, cond}
 use mathlib.Core.Option.{Option, none, some}
 use Prim.Native.Nat.{ℕ, suc, _+_, _-_, _*_, _^_, _≤_, _<_}
 use native.Mathlib.Omega.{arith}
@@ -9,8 +9,8 @@ use native.Mathlib.Numerals.{add-one}
 use native.Mathlib.Nat.{add-zero, one-mul, mul-zero, mul-le-mul-right, pow-zero, pow-suc, pow-le-pow-right}
 use lib.ListN.{length, getD}
 use lib.IntN.{ℤ, _-ℤ_}
-use lib.Dec.{eqb}
-use borrow.Author.Tests.{lt-ltb, le-ltb}
+use lib.Dec.{eqb, ltb}
+use borrow.Author.Tests.{lt-ltb, le-ltb, ltb-true, ltb-false, not-true, not-false}
 use Rattle.algebra.specs.Digits.{value}
 use Rattle.algebra.proofs.Congruence.{remainder-of-residue}
 use Rattle.meaning.specs.Number.{remainder}
@@ -22,6 +22,20 @@ use Rattle.meaning.proofs.RowCounts.{length-digitRows, length-groupRows}
 use Rattle.groups.specs.Rows.{Leaves, firstOf, firstRefusal}
 use Rattle.groups.proofs.RowsFirst.{first-none, first-row, first-rows}
 
+-- ---- a digit
+
+-- d is read from the cell of the digit of number i, and is a digit in base b
+pub record DigitRead (t : List ℕ) (at b i d : ℕ) : Type 0 where
+  pub is : d ≡ getD t (at + i) 0
+  pub below : d < b
+
+module _ (t : List ℕ) (at b i : ℕ) {cell d : ℕ} {passes : Bool} (place : cell ≡ at + i) (read : d ≡ getD t cell 0) (test : passes ≡ ltb d b) where
+  pub digit-read : not passes ≡ false → DigitRead t at b i d
+  digit-read e = record { is = rw place at read; below = ltb-true d b (sym test ∙ not-false passes e) }
+
+  pub digit-great : not passes ≡ true → b ≤ getD t (at + i) 0
+  digit-great e = rw (rw place at read) at (ltb-false d b (sym test ∙ not-true passes e))
+
 -- ---- the rows of the digits from the one of number i on
 
 module _ (p : ℕ) (t : List ℕ) (first at b k : ℕ) where
@@ -32,15 +46,15 @@ module _ (p : ℕ) (t : List ℕ) (first at b k : ℕ) where
       let v : first + 0 ≡ first = omega arith in
       rw (e, u, v) refl
 
-  pub digit-passes : (i : ℕ) → i < k → getD t (at + i) 0 < b
+  pub digit-passes : (i : ℕ) {d : ℕ} → i < k → DigitRead t at b i d
       → firstRefusal (holds p t) (first + i) (digitRows (at + i) b (k - i))
       ≡ firstRefusal (holds p t) (first + (i + 1)) (digitRows (at + (i + 1)) b (k - (i + 1)))
   unfolding firstFail digitRows holds
-  digit-passes i h l =
+  digit-passes i h read =
       let e : k - i ≡ suc (k - (i + 1)) = omega arith in
       let u : at + (i + 1) ≡ suc (at + i) = omega arith in
       let v : first + (i + 1) ≡ suc (first + i) = omega arith in
-      rw (e, u, v, lt-ltb _ _ l) refl
+      rw (e, u, v, ← read .is, lt-ltb _ _ (read .below)) refl
 
   pub digit-fails : (i : ℕ) → i < k → b ≤ getD t (at + i) 0
       → firstRefusal (holds p t) (first + i) (digitRows (at + i) b (k - i)) ≡ some (reply 15 (first + i))
@@ -50,20 +64,19 @@ module _ (p : ℕ) (t : List ℕ) (first at b k : ℕ) where
       rw (e, le-ltb _ _ l) refl
 
   -- the digits of the numbers i and i + 1, of which the second comes to be looked at where the first passes
-  pub two-pass : (i : ℕ) → i + 1 < k → getD t (at + i) 0 < b → getD t (at + i + 1) 0 < b
-      → firstRefusal (holds p t) (first + i) (digitRows (at + i) b (k - i))
-      ≡ firstRefusal (holds p t) (first + (i + 2)) (digitRows (at + (i + 2)) b (k - (i + 2)))
-  two-pass i h low high =
-      let e : at + i + 1 ≡ at + (i + 1) = omega arith in
-      let u : i + 1 + 1 ≡ i + 2 = omega arith in
-      digit-passes i (omega arith) low ∙ rw u at (digit-passes (i + 1) h (rw e at high))
+  module _ (i : ℕ) {d : ℕ} (h : i + 1 < k) (low : DigitRead t at b i d) where
+    pub two-pass : {e : ℕ} → DigitRead t at b (i + 1) e
+        → firstRefusal (holds p t) (first + i) (digitRows (at + i) b (k - i))
+        ≡ firstRefusal (holds p t) (first + (i + 2)) (digitRows (at + (i + 2)) b (k - (i + 2)))
+    two-pass high =
+        let u : i + 1 + 1 ≡ i + 2 = omega arith in
+        digit-passes i (omega arith) low ∙ rw u at (digit-passes (i + 1) h high)
 
-  pub second-fails : (i : ℕ) → i + 1 < k → getD t (at + i) 0 < b → b ≤ getD t (at + i + 1) 0
-      → firstRefusal (holds p t) (first + i) (digitRows (at + i) b (k - i)) ≡ some (reply 15 (first + i + 1))
-  second-fails i h low high =
-      let e : at + i + 1 ≡ at + (i + 1) = omega arith in
-      let v : first + i + 1 ≡ first + (i + 1) = omega arith in
-      digit-passes i (omega arith) low ∙ rw v (digit-fails (i + 1) h (rw e at high))
+    pub second-fails : b ≤ getD t (at + (i + 1)) 0
+        → firstRefusal (holds p t) (first + i) (digitRows (at + i) b (k - i)) ≡ some (reply 15 (first + i + 1))
+    second-fails high =
+        let v : first + i + 1 ≡ first + (i + 1) = omega arith in
+        digit-passes i (omega arith) low ∙ rw v (digit-fails (i + 1) h high)
 
   digits-end : (i : ℕ) → k ≤ i → firstRefusal (holds p t) (first + i) (digitRows (at + i) b (k - i)) ≡ none
   unfolding firstFail refusalAt digitRows
@@ -84,16 +97,15 @@ module _ (t : List ℕ) (at b k : ℕ) where
       let u : k - 0 ≡ k = omega arith in
       record { part-is = sym (pow-zero b); below = omega arith; whole = rw (e, u) (omega arith) }
 
-  pub meaning-next : {i v part : ℕ} → PowerSum t at b k i v part → at + k ≤ length t → i < k → getD t (at + i) 0 < b
-      → PowerSum t at b k (i + 1) (v + getD t (at + i) 0 * part) (part * b)
+  pub meaning-next : {i v part d : ℕ} → PowerSum t at b k i v part → at + k ≤ length t → i < k → DigitRead t at b i d
+      → PowerSum t at b k (i + 1) (v + d * part) (part * b)
   unfolding value
-  meaning-next {i} {v} {part} s room h l =
-      let d : ℕ = getD t (at + i) 0 in
+  meaning-next {i} {v} {part} {d} s room h read =
       let e : k - i ≡ suc (k - (i + 1)) = omega arith in
       let u : suc (at + i) ≡ at + (i + 1) = omega arith in
       let rest : value b (cellsAt t (at + i) (k - i)) ≡ d + b * value b (cellsAt t (at + (i + 1)) (k - (i + 1))) =
-      rw (e, cellsAt-suc t (at + i) (k - (i + 1)) (omega arith), u) refl in
-      let m : d + 1 ≤ b = omega arith in
+      rw (e, cellsAt-suc t (at + i) (k - (i + 1)) (omega arith), u, read .is) refl in
+      let m : d + 1 ≤ b = omega (arith, read .below) in
       record {
         part-is = rw (add-one, pow-suc) (ap (λ n. n * b) (s .part-is));
         below = omega (arith, mul-le-mul-right part m, s .below);
@@ -101,15 +113,13 @@ module _ (t : List ℕ) (at b k : ℕ) where
       }
 
   -- two digits at once, the second of which counts b times as much as the first
-  pub meaning-two : {i v part : ℕ} → PowerSum t at b k i v part → at + k ≤ length t → i + 1 < k → getD t (at + i) 0 < b → getD t (at + i + 1) 0 < b
-      → PowerSum t at b k (i + 2) (v + (getD t (at + i) 0 + getD t (at + i + 1) 0 * b) * part) (part * (b * b))
-  meaning-two {i} {v} {part} s room h low high =
-      let d : ℕ = getD t (at + i) 0 in
-      let e : at + i + 1 ≡ at + (i + 1) = omega arith in
+  pub meaning-two : {i v part low high : ℕ} → PowerSum t at b k i v part → at + k ≤ length t → i + 1 < k → DigitRead t at b i low
+      → DigitRead t at b (i + 1) high → PowerSum t at b k (i + 2) (v + (low + high * b) * part) (part * (b * b))
+  meaning-two {i} {v} {part} {low} {high} s room h first second =
       let u : i + 2 ≡ i + 1 + 1 = omega arith in
-      let sum : v + (d + getD t (at + (i + 1)) 0 * b) * part ≡ v + d * part + getD t (at + (i + 1)) 0 * (part * b) = omega arith in
+      let sum : v + (low + high * b) * part ≡ v + low * part + high * (part * b) = omega arith in
       let power : part * (b * b) ≡ part * b * b = omega arith in
-      rw (e, u, sum, power) (meaning-next (meaning-next s room (omega arith) low) room h (rw e at high))
+      rw (u, sum, power) (meaning-next (meaning-next s room (omega arith) first) room h second)
 
   -- so far as k digits nothing is above b ^ k
   pub meaning-most : {i v part : ℕ} → PowerSum t at b k i v part → 0 < b → i ≤ k → part ≤ b ^ k

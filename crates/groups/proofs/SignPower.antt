@@ -3,7 +3,7 @@ use mathlib.Core.Path.{_≡_, ap, _∙_}
 use Prim.Native.Nat.{ℕ, zero, suc, _-_, _*_, _/_, _^_, _≤_, _<_}
 use native.Mathlib.Omega.{arith}
 use native.Mathlib.Nat.{pow-succ', mul-comm, mul-div-cancel-left}
-use lib.IntN.{pos, negℤ, _-ℤ_, +ℤ-idl}
+use lib.IntN.{pos, negℤ}
 use Rattle.meaning.specs.Known.{topPart}
 use Rattle.meaning.specs.Gadget.Sign.{signShift}
 use Rattle.algebra.proofs.Digits.{less-one}
@@ -22,6 +22,6 @@ module _ (b k c : ℕ) (base : zero < b) (some-digit : 1 ≤ k) (power : c ≡ b
   unfolding topPart
   rest-top = rw (part-power, split, mul-comm b (b ^ (k - 1))) (less-one b (b ^ (k - 1)) base)
 
-  pub rest-shift : pos 0 -ℤ pos (c - c / b) ≡ signShift b k
+  pub rest-shift : negℤ (pos (c - c / b)) ≡ signShift b k
   unfolding signShift
-  rest-shift = +ℤ-idl (negℤ (pos (c - c / b))) ∙ ap (λ n. negℤ (pos n)) rest-top
+  rest-shift = ap (λ n. negℤ (pos n)) rest-top

@@ -4,12 +4,14 @@ use mathlib.Core.Bool.{Bool, true, false, cond}
 use mathlib.Core.List.{List, [], _∷_}
 use lib.IntN.{ℤ}
 use Rattle.meaning.specs.Refusal.{value, refusedBy}
+use Rattle.number.specs.declared.whole.Whole.{Whole}
 use Rattle.groups.specs.Cells.{workedMeaning}
 use Rattle.groups.specs.declared.value.Worked.the-variants.{Value, NoValue, False}
 
-pub value-worked : (statement : Bool) (z x : ℤ) → statement ≡ true → z ≡ x → workedMeaning (Value z) ≡ cond statement (value (x ∷ [])) (refusedBy 18)
+pub value-worked : (statement : Bool) (w : Whole) (x : ℤ) → statement ≡ true → w .0 ≡ x
+    → workedMeaning (Value w) ≡ cond statement (value (x ∷ [])) (refusedBy 18)
 unfolding workedMeaning
-value-worked statement z x t e = rw (t, e) refl
+value-worked statement w x t e = rw (t, e) refl
 
 pub no-value-worked : (statement : Bool) → statement ≡ true → workedMeaning NoValue ≡ cond statement (value []) (refusedBy 18)
 unfolding workedMeaning

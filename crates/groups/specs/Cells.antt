@@ -23,7 +23,7 @@ formBound = 2 ^ 61
 
 -- the values that the line makes, or refusal 18 where its statement is false
 unfoldable pub workedMeaning : Worked → Result (List ℤ)
-workedMeaning (Value z) = value (z ∷ [])
+workedMeaning (Value x) = value (x .0 ∷ [])
 workedMeaning NoValue = value []
 workedMeaning False = refusedBy 18
 

@@ -5,12 +5,23 @@ use super::rows::Rows;
 use super::rows::row_before;
 use number::Cell;
 use number::Residue;
+use number::Whole;
+use number::cell::cell_after;
+use number::cell::nth_cell;
 use number::power::Power;
 use number::power::capped_power;
+use number::residue::is_digit;
+use number::residue::is_same;
+use number::residue::own_residue;
+use number::residue::residue_at;
+use number::residue::set_residue;
+use number::residue::with_digit;
+use number::whole::distance;
+use number::whole::whole_of;
 ghost use mathlib.Core.Path.{_≡_};
 ghost use mathlib.Core.List.{_++_};
 ghost use Prim.Native.Nat.{_+_, _/_, _%_, _^_, _≤_, _<_, ℕ};
-ghost use lib.IntN.{pos, natAbs, _-ℤ_, ℤ};
+ghost use lib.IntN.{pos, _-ℤ_, ℤ};
 ghost use lib.ListN.{length, drop};
 ghost use Rattle.meaning.specs.Refusal.{mostDigits};
 ghost use Rattle.meaning.specs.Machine.{pastU64};
@@ -33,18 +44,6 @@ pub fn power_of(b: u32, k: usize) -> u64
     }
 }
 
-// How far x and y are from each other.
-pub fn apart(x: i64, y: i64) -> u64
-    requires { ⌜ Bounded formBound x × Bounded formBound y ⌝ }
-    ensures { λ r. ⌜ r ≡ natAbs (x -ℤ y) ⌝ }
-{
-    if x <= y {
-        (y - x) as u64
-    } else {
-        (x - y) as u64
-    }
-}
-
 // ---- cells
 
 // n / b, and what it leaves. For base 2, the one most in use, the divisor stands in the code, and no division is left of it.
@@ -55,14 +54,14 @@ pub fn divided(n: u64, b: u32) -> u64
     if b == 2 { n / 2 } else { n / b as u64 }
 }
 
-fn digit(n: u64, b: u32) -> u32
+fn digit(n: u64, b: u32) -> Residue
     requires { ⌜ 0 < b ⌝ }
-    ensures { λ r. ⌜ r ≡ n % b ⌝ }
+    ensures { λ r. ⌜ r .0 ≡ n % b ⌝ }
 {
     if b == 2 {
-        (n % 2) as u32
+        own_residue((n % 2) as u32)
     } else {
-        (n % b as u64) as u32
+        own_residue((n % b as u64) as u32)
     }
 }
 
@@ -74,27 +73,27 @@ pub fn group_cells(out: &mut [u32], n: u64, b: u32, k: usize)
     let mut rest = n;
     let mut i: usize = 0;
     while i < k {
-        out[i] = digit(rest, b);
+        set_residue(out, nth_cell(i), digit(rest, b));
         rest = divided(rest, b);
         i += 1;
     }
 }
 
 // The group over a whole number with a shift.
-pub fn form_cells(out: &mut [u32], form: i64, shift: i64, b: u32, k: usize)
-    requires { ⌜ (0 < b) × (k ≤ length (now out)) × Bounded formBound form × Bounded formBound shift ⌝ }
-    ensures { λ _. ⌜ now (out .exit) ≡ groupCells b k form shift ++ drop k (now (out .entry)) ⌝ }
+pub fn form_cells(out: &mut [u32], form: Whole, shift: Whole, b: u32, k: usize)
+    requires { ⌜ (0 < b) × (k ≤ length (now out)) × Bounded formBound (form .0) × Bounded formBound (shift .0) ⌝ }
+    ensures { λ _. ⌜ now (out .exit) ≡ groupCells b k (form .0) (shift .0) ++ drop k (now (out .entry)) ⌝ }
 {
-    group_cells(out, apart(form, shift), b, k);
+    group_cells(out, distance(form, shift), b, k);
 }
 
 // Two groups with shift 0, one after the other.
-pub fn two_groups(out: &mut [u32], first: i64, second: i64, b: u32, k: usize)
-    requires { ⌜ (0 < b) × (k + k ≤ length (now out)) × Bounded formBound first × Bounded formBound second ⌝ }
-    ensures { λ _. ⌜ now (out .exit) ≡ groupCells b k first (pos 0) ++ groupCells b k second (pos 0) ++ drop (k + k) (now (out .entry)) ⌝ }
+pub fn two_groups(out: &mut [u32], first: Whole, second: Whole, b: u32, k: usize)
+    requires { ⌜ (0 < b) × (k + k ≤ length (now out)) × Bounded formBound (first .0) × Bounded formBound (second .0) ⌝ }
+    ensures { λ _. ⌜ now (out .exit) ≡ groupCells b k (first .0) (pos 0) ++ groupCells b k (second .0) (pos 0) ++ drop (k + k) (now (out .entry)) ⌝ }
 {
-    form_cells(out, first, 0, b, k);
-    form_cells(&mut out[k..], second, 0, b, k);
+    form_cells(out, first, whole_of(0), b, k);
+    form_cells(&mut out[k..], second, whole_of(0), b, k);
 }
 
 // ---- rows
@@ -108,28 +107,28 @@ pub fn group_rows(table: &[u32], number: Residue, first: usize, at: Cell, b: u32
     ensures { λ r. ⌜ ((p : ℕ) (f : Form) (L : ℤ) → b ^ k ≤ p → remainder p (eval (now (table .entry)) f -ℤ L) ≡ number .0
         → rowsMeaning r ≡ firstRefusal (holds p (now (table .entry))) first (group f L (at .0) b k)) ⌝ }
 {
-    let mut value: u32 = 0;
+    let mut value = own_residue(0);
     let mut part: u32 = 1;
     let mut i: usize = 0;
     while i + 1 < k {
-        let low = table[at.0 + i];
-        if b <= low {
+        let low = residue_at(table, cell_after(at, i));
+        if !is_digit(low, b) {
             return Rows::Fails(first + i);
         }
-        let high = table[at.0 + i + 1];
-        if b <= high {
+        let high = residue_at(table, cell_after(at, i + 1));
+        if !is_digit(high, b) {
             return Rows::Fails(first + i + 1);
         }
-        value = value + (low + high * b) * part;
+        value = with_digit(value, with_digit(low, high, b), part);
         part = part * (b * b);
         i += 2;
     }
     if i < k {
-        let digit = table[at.0 + i];
-        if b <= digit {
+        let digit = residue_at(table, cell_after(at, i));
+        if !is_digit(digit, b) {
             return Rows::Fails(first + i);
         }
-        value = value + digit * part;
+        value = with_digit(value, digit, part);
     }
-    row_before(number.0 == value, first + k, Rows::AllHold)
+    row_before(is_same(number, value), first + k, Rows::AllHold)
 }

@@ -4,20 +4,21 @@ use super::numbers::digits_from;
 use super::numbers::place_at;
 use super::value::value_named;
 use number::Cell;
+use number::Whole;
 ghost use lib.ListN.{length};
 ghost use Rattle.groups.specs.Numbers.{NameAt, ValueAt, DigitsFrom, OneRead, TwoRead, OnePlaced, TwoPlaced};
 
 // ---- values
 
 pub struct OneValue {
-    pub value: i64,
+    pub value: Whole,
     pub base: u32,
     pub count: usize,
 }
 
 pub fn one_value(numbers: &[i64], values: &[i64]) -> OneValue
     requires { ⌜ ValueAt (now numbers) (now values) 0 × DigitsFrom (now numbers) 1 ⌝ }
-    ensures { λ r. ⌜ OneRead (now (numbers .entry)) (now (values .entry)) (r .value) (r .base) (r .count) ⌝ }
+    ensures { λ r. ⌜ OneRead (now (numbers .entry)) (now (values .entry)) (r .value .0) (r .base) (r .count) ⌝ }
 {
     let digits = digits_from(numbers, 1);
     OneValue {
@@ -28,15 +29,15 @@ pub fn one_value(numbers: &[i64], values: &[i64]) -> OneValue
 }
 
 pub struct TwoValues {
-    pub first: i64,
-    pub second: i64,
+    pub first: Whole,
+    pub second: Whole,
     pub base: u32,
     pub count: usize,
 }
 
 pub fn two_values(numbers: &[i64], values: &[i64]) -> TwoValues
     requires { ⌜ ValueAt (now numbers) (now values) 0 × ValueAt (now numbers) (now values) 1 × DigitsFrom (now numbers) 2 ⌝ }
-    ensures { λ r. ⌜ TwoRead (now (numbers .entry)) (now (values .entry)) (r .first) (r .second) (r .base) (r .count) ⌝ }
+    ensures { λ r. ⌜ TwoRead (now (numbers .entry)) (now (values .entry)) (r .first .0) (r .second .0) (r .base) (r .count) ⌝ }
 {
     let digits = digits_from(numbers, 2);
     TwoValues {

@@ -1,6 +1,9 @@
 // The numbers of a line as machine words: the name of a value, a base, a digit count. The rules of reading say that these are not negative,
 // and how great they are.
 use number::Cell;
+use number::cell::nth_cell;
+use number::whole::size_of;
+use number::whole::whole_at;
 ghost use mathlib.Core.Path.{_≡_};
 ghost use Prim.Native.Nat.{_≤_, _<_};
 ghost use lib.IntN.{pos, natAbs};
@@ -14,8 +17,7 @@ pub fn size_at(numbers: &[i64], at: usize) -> usize
     requires { ⌜ (at < length (now numbers)) × (pos 0 ≤ℤ getD (now numbers) at (pos 0)) ⌝ }
     ensures { λ r. ⌜ r ≡ natAbs (getD (now (numbers .entry)) at (pos 0)) ⌝ }
 {
-    let number = numbers[at];
-    number as usize
+    size_of(whole_at(numbers, at))
 }
 
 // The number at a place where a base stands.
@@ -23,8 +25,7 @@ fn base_at(numbers: &[i64], at: usize) -> u32
     requires { ⌜ (at < length (now numbers)) × (pos 0 ≤ℤ getD (now numbers) at (pos 0)) × (natAbs (getD (now numbers) at (pos 0)) ≤ largest) ⌝ }
     ensures { λ r. ⌜ r ≡ natAbs (getD (now (numbers .entry)) at (pos 0)) ⌝ }
 {
-    let number = numbers[at];
-    number as u32
+    size_at(numbers, at) as u32
 }
 
 // A base and its digit count.
@@ -48,7 +49,7 @@ pub fn digits_from(numbers: &[i64], at: usize) -> Digits
 fn cell_of(place: u16) -> Cell
     ensures { λ r. ⌜ r .0 ≡ place ⌝ }
 {
-    Cell(place as usize)
+    nth_cell(place as usize)
 }
 
 // The cell of the value that the number at a place names.

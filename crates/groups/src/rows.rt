@@ -1,12 +1,8 @@
-// What a check of rows reads and what it answers, and how the answer for a list of rows is put together from those for its parts.
+// What a check of rows answers, and how the answer for a list of rows is put together from those for its parts.
 // The answers of later rows are taken before they are needed: in a true table, the one that matters, every row is tested anyway.
-use number::Cell;
-use number::Residue;
 ghost use mathlib.Core.Path.{_≡_};
 ghost use mathlib.Core.Bool.{cond};
 ghost use mathlib.Core.Option.{some};
-ghost use Prim.Native.Nat.{_<_};
-ghost use lib.ListN.{length, getD};
 ghost use Rattle.meaning.specs.Reply.{reply};
 ghost use Rattle.groups.specs.Rows.{rowsMeaning, firstOf};
 
@@ -14,15 +10,6 @@ ghost use Rattle.groups.specs.Rows.{rowsMeaning, firstOf};
 pub enum Rows {
     AllHold,
     Fails(usize),
-}
-
-// What stands in a cell.
-pub fn residue_at(table: &[u32], at: Cell) -> Residue
-    requires { ⌜ at .0 < length (now table) ⌝ }
-    ensures { λ r. ⌜ r .0 ≡ getD (now (table .entry)) (at .0) 0 ⌝ }
-{
-    let place = at.0;
-    Residue(table[place])
 }
 
 // One row, of this number, and then others.

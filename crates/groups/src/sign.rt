@@ -1,28 +1,37 @@
 // What relu and which share: the sign of a whole number x. The statement is -B ≤ x ≤ b^(k-1) - 1 with B = (b-1)·b^(k-1). The cells are the
 // digits of x + B, whose top digit is b - 1 just where x is not negative, then f, which says so, and w, which shows it where f is 0. The
 // rows are those of the group over x with shift -B, three that tie f to the top digit by w, and last the line's own.
-use super::group::apart;
 use super::group::divided;
 use super::group::group_cells;
 use super::group::group_rows;
 use super::group::power_of;
 use super::rows::Rows;
-use super::rows::residue_at;
 use super::rows::row_before;
 use super::rows::rows_before;
 use super::value::value_cell;
 use number::Cell;
 use number::Residue;
 use number::Whole;
+use number::cell::cell_after;
+use number::cell::nth_cell;
 use number::inverse::inverse_of;
 use number::residue::difference;
+use number::residue::is_same;
+use number::residue::is_zero;
+use number::residue::own_residue;
 use number::residue::product;
-use number::residue::remainder_of;
+use number::residue::residue_at;
+use number::residue::set_residue;
+use number::whole::distance;
+use number::whole::negated;
+use number::whole::whole_difference;
+use number::whole::whole_of;
+use number::whole::wide_whole;
 use number::whole::within;
 ghost use mathlib.Core.Path.{_≡_};
 ghost use mathlib.Core.List.{_++_, List, [], _∷_};
 ghost use Prim.Native.Nat.{ℕ, _+_, _-_, _^_, _≤_, _<_};
-ghost use lib.IntN.{pos, _-ℤ_};
+ghost use lib.IntN.{pos, negℤ, _-ℤ_};
 ghost use lib.ListN.{length, drop};
 ghost use Rattle.meaning.specs.Machine.{pastU64};
 ghost use Rattle.algebra.specs.Digits.{Below};
@@ -36,54 +45,66 @@ ghost use Rattle.groups.specs.Rows.{rowsMeaning, firstRefusal, Leaves};
 
 // ---- working
 
+// -B, where part is b^(k-1), and the rest of c = b^k is B.
+fn sign_shift(c: u64, part: u64) -> Whole
+    requires { ⌜ (part ≤ c) × (c ≤ powerBound) ⌝ }
+    ensures { λ r. ⌜ r .0 ≡ negℤ (pos (c - part)) ⌝ }
+{
+    negated(wide_whole(c - part))
+}
+
 // Whether the statement is true of x, with c = b^k: c / b is b^(k-1).
-pub fn sign_works(x: i64, b: u32, c: u64) -> bool
+pub fn sign_works(x: Whole, b: u32, c: u64) -> bool
     requires { ⌜ (0 < b) × (c ≤ powerBound) ⌝ }
-    ensures { λ r. ⌜ ((k : ℕ) → 1 ≤ k → c ≡ b ^ k → r ≡ signStatement b k x) ⌝ }
+    ensures { λ r. ⌜ ((k : ℕ) → 1 ≤ k → c ≡ b ^ k → r ≡ signStatement b k (x .0)) ⌝ }
 {
     let part = divided(c, b);
-    let low = 0 - (c - part) as i64;
-    let high = part as i64 - 1;
-    within(Whole(low), Whole(x), Whole(high))
+    let high = whole_difference(wide_whole(part), whole_of(1));
+    within(sign_shift(c, part), x, high)
 }
 
 // ---- cells
 
-fn sign_cells(out: &mut [u32], p: u32, x: i64, b: u32, k: usize, c: u64)
-    requires { ⌜ OddPrime p × GroupOf b k c × (k + 2 ≤ length (now out)) × Bounded powerBound x ⌝ }
-    ensures { λ _. ⌜ now (out .exit) ≡ signCells p b k x ++ drop (k + 2) (now (out .entry)) ⌝ }
+fn sign_cells(out: &mut [u32], p: u32, x: Whole, b: u32, k: usize, c: u64)
+    requires { ⌜ OddPrime p × GroupOf b k c × (c ≤ p) × (k + 2 ≤ length (now out)) × Bounded powerBound (x .0) ⌝ }
+    ensures { λ _. ⌜ now (out .exit) ≡ signCells p b k (x .0) ++ drop (k + 2) (now (out .entry)) ⌝ }
 {
     let part = divided(c, b);
-    let shift = 0 - (c - part) as i64;
-    let n = apart(x, shift);
+    let n = distance(x, sign_shift(c, part));
     group_cells(out, n, b, k);
-    let digit = out[k - 1] as u64;
+    let digit = residue_at(out, nth_cell(k - 1));
     flag_cells(&mut out[k..], p, digit, b);
 }
 
 // The cells of a line that makes the value y and has the sign of x.
-pub fn signed_cells(out: &mut [u32], p: u32, y: i64, x: i64, b: u32, k: usize, c: u64)
-    requires { ⌜ OddPrime p × GroupOf b k c × (k + 3 ≤ length (now out)) × Bounded powerBound x ⌝ }
-    ensures { λ _. ⌜ now (out .exit) ≡ (remainder p y ∷ signCells p b k x) ++ drop (k + 3) (now (out .entry)) ⌝ }
+pub fn signed_cells(out: &mut [u32], p: u32, y: Whole, x: Whole, b: u32, k: usize, c: u64)
+    requires { ⌜ OddPrime p × GroupOf b k c × (c ≤ p) × (k + 3 ≤ length (now out)) × Bounded powerBound (x .0) ⌝ }
+    ensures { λ _. ⌜ now (out .exit) ≡ (remainder p (y .0) ∷ signCells p b k (x .0)) ++ drop (k + 3) (now (out .entry)) ⌝ }
 {
     value_cell(out, p, y);
     sign_cells(&mut out[1..], p, x, b, k, c);
 }
 
 // f and w, from the top digit, which with b - 1 taken away is t: 1 and 0 where t is 0 modulo p, else 0 and the inverse of t.
-fn flag_cells(out: &mut [u32], p: u32, digit: u64, b: u32)
-    requires { ⌜ OddPrime p × (digit < b) × (2 ≤ length (now out)) ⌝ }
-    ensures { λ _. ⌜ now (out .exit) ≡ flagCells p (remainder p (pos digit -ℤ pos (b - 1))) ++ drop 2 (now (out .entry)) ⌝ }
+fn flag_cells(out: &mut [u32], p: u32, digit: Residue, b: u32)
+    requires { ⌜ OddPrime p × (digit .0 < b) × (b ≤ p) × (2 ≤ length (now out)) ⌝ }
+    ensures { λ _. ⌜ now (out .exit) ≡ flagCells p (remainder p (pos (digit .0) -ℤ pos (b - 1))) ++ drop 2 (now (out .entry)) ⌝ }
 {
-    let t = remainder_of(Whole(digit as i64 - (b - 1) as i64), p);
-    if t.0 == 0 {
-        out[0] = 1;
-        out[1] = 0;
+    let t = difference(digit, own_residue(b - 1), p);
+    if is_zero(t) {
+        two_cells(out, own_residue(1), own_residue(0));
     } else {
         let w = inverse_of(t, p);
-        out[0] = 0;
-        out[1] = w.0;
+        two_cells(out, own_residue(0), w);
     }
+}
+
+fn two_cells(out: &mut [u32], first: Residue, second: Residue)
+    requires { ⌜ 2 ≤ length (now out) ⌝ }
+    ensures { λ _. ⌜ now (out .exit) ≡ first .0 ∷ second .0 ∷ drop 2 (now (out .entry)) ⌝ }
+{
+    set_residue(out, nth_cell(0), first);
+    set_residue(out, nth_cell(1), second);
 }
 
 // ---- rows
@@ -95,7 +116,7 @@ pub fn top_part(b: u32, k: usize) -> Residue
 {
     let part = power_of(b, k - 1);
     let top = (b - 1) as u64 * part;
-    Residue(top as u32)
+    own_residue(top as u32)
 }
 
 // The rows over the group at the k cells from `at` on, and over f and w after them; `last` is whether the row that the line puts last
@@ -114,10 +135,10 @@ pub fn sign_rows(
         → last ≡ holds p (now (table .entry)) (row (cell (at .0 + k)))
         → rowsMeaning r ≡ firstRefusal (holds p (now (table .entry))) 0 (signRows form (at .0) b k row)) ⌝ }
 {
-    let digit = residue_at(table, Cell(at.0 + (k - 1)));
-    let top = difference(digit, Residue(b - 1), p);
-    let flag = residue_at(table, Cell(at.0 + k));
-    let witness = residue_at(table, Cell(at.0 + (k + 1)));
+    let digit = residue_at(table, cell_after(at, k - 1));
+    let top = difference(digit, own_residue(b - 1), p);
+    let flag = residue_at(table, cell_after(at, k));
+    let witness = residue_at(table, cell_after(at, k + 1));
     let later = flag_rows(p, top, flag, witness, last, k + 1);
     rows_before(group_rows(table, number, 0, at, b, k), later)
 }
@@ -130,12 +151,12 @@ fn flag_rows(p: u32, top: Residue, flag: Residue, witness: Residue, last: bool, 
         → last ≡ holds p t x → rowsMeaning r ≡ firstRefusal (holds p t) row (T ⊗ W ≅ constant (pos 1) ⊖ F ∷ T ⊗ F ≅ constant (pos 0)
         ∷ W ⊗ F ≅ constant (pos 0) ∷ x ∷ [])) ⌝ }
 {
-    let other = difference(Residue(1), flag, p);
+    let other = difference(own_residue(1), flag, p);
     let shown = product(top, witness, p);
     let full = product(top, flag, p);
     let unused = product(witness, flag, p);
     let last_row = row_before(last, row + 3, Rows::AllHold);
-    let last_two = row_before(unused.0 == 0, row + 2, last_row);
-    let last_three = row_before(full.0 == 0, row + 1, last_two);
-    row_before(shown.0 == other.0, row, last_three)
+    let last_two = row_before(is_zero(unused), row + 2, last_row);
+    let last_three = row_before(is_zero(full), row + 1, last_two);
+    row_before(is_same(shown, other), row, last_three)
 }

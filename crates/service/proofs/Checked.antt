@@ -22,6 +22,8 @@ use Rattle.meaning.specs.Kept.{Keeps}
 use Rattle.meaning.proofs.Lists.{all-pass}
 use Rattle.meaning.proofs.Results.{refusal-none, refusal-place}
 use Rattle.text.specs.Word.{wordOf}
+use Rattle.number.specs.declared.cell.Cell.{Cell}
+use Rattle.reader.specs.Size.{counted}
 use Rattle.reader.specs.declared.state.Counts.{Counts}
 use Rattle.reader.proofs.Steps.{few}
 use Rattle.groups.specs.Rows.{rowsMeaning, firstRefusal, firstOf}
@@ -63,9 +65,9 @@ all-below p t e = each t (λ i h. ltb-iff (getD t i 0) p .0 (passed i h))
     each (x ∷ xs) h = (h 0 (omega arith), each xs (λ i k. h (suc i) (omega arith)))
 
 module _ (t : List ℕ) (p : ℕ) (x : Cells) (yields : cellsMeaning x ≡ refusalAt 14 (firstFail (isCell p) 0 t)) where
-  pub large-found : (i : ℕ) → x ≡ Large i → firstFail (isCell p) 0 t ≡ some i
+  pub large-found : (cell : Cell) → x ≡ Large cell → firstFail (isCell p) 0 t ≡ some (cell .0)
   unfolding cellsMeaning
-  large-found i is = refusal-place 14 _ (sym yields ∙ ap cellsMeaning is)
+  large-found cell is = refusal-place 14 _ (sym yields ∙ ap cellsMeaning is)
 
   pub none-large : x ≡ AllBelow → firstFail (isCell p) 0 t ≡ none
   unfolding cellsMeaning
@@ -109,8 +111,8 @@ pub record Checking (list table : List ℕ) (p : ℕ) (numbers : List ℤ) (plac
   pub rows-left : firstFail (holds p table) 0 (rowsOf (given .listed .lines)) ≡ firstFail (holds p table) (c .rows) (rowsFrom state left)
 
 pub checking-first : (list table : List ℕ) (p : ℕ) (numbers : List ℤ) (places : List ℕ) → length numbers ≡ mostNumbers → length places ≡ valueLimit → TableGiven list table p
-    → Checking list table p numbers places (record { values = 0; inputs = 0; cells = 0; rows = 0 }) 0
-unfolding rowsOf
+    → Checking list table p numbers places (counted 0 0 0 0) 0
+unfolding rowsOf fresh counted
 checking-first list table p numbers places h k a = record {
   given = a;
   number = 0;
@@ -201,7 +203,7 @@ module _ {list table : List ℕ} {p : ℕ} {numbers : List ℤ} {places : List �
   at-line inside = record { listed = w .given .listed; number = w .number; state = w .state; left = w .left; stands = w .stands; inside = inside }
 
   module _ (inside : at < length list) {numbers′ : List ℤ} {t : Taken} (took : Took (at-line inside) numbers′ t) where
-    pub room-here : c .cells + gadget (w .state) (taken numbers′ t) .width ≤ length table
+    pub room-here : c .cells .0 + gadget (w .state) (taken numbers′ t) .width ≤ length table
     room-here = omega (
       arith,
       cells-inside took,
@@ -217,7 +219,7 @@ module _ {list table : List ℕ} {p : ℕ} {numbers : List ℤ} {places : List �
       room-here,
     )
 
-    abbrev pub rows-given : RowsGiven p (wordOf (t .word)) numbers′ (t .count) table (c .cells) places
+    abbrev pub rows-given : RowsGiven p (wordOf (t .word)) numbers′ (t .count) table (c .cells .0) places
     rows-given = record {
       kept = line-kept took;
       prime = λ plain. prime-here took plain ∙ w .given .prime;

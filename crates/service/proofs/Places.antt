@@ -50,20 +50,20 @@ room-for-values p s g law =
 
 -- the places with those of the new values: none, or one
 module _ (places : List ℕ) (c d : Counts) (long : length places ≡ valueLimit) (few-values : d .values ≤ valueLimit) where
-  places-with : (es : List Ends) (cells : ℕ) → cells ≡ c .cells → c .values + length es ≡ d .values → length es ≤ 1
+  places-with : (es : List Ends) (cells : ℕ) → cells ≡ c .cells .0 → c .values + length es ≡ d .values → length es ≤ 1
       → take (c .values) places ++ placesFrom cells es ≡ take (c .values + length es) (withPlace places c d)
   unfolding withPlace placesFrom
   places-with [] cells e h k = rw (le-ltb (c .values) (d .values) (omega arith), add-zero (c .values)) (append-nil (take (c .values) places))
   places-with (x ∷ []) cells e h k =
-      rw (lt-ltb (c .values) (d .values) (omega arith), add-one (c .values), take-suc-set places (c .values) (c .cells) (omega (arith, long)), e) refl
+      rw (lt-ltb (c .values) (d .values) (omega arith), add-one (c .values), take-suc-set places (c .values) (c .cells .0) (omega (arith, long)), e) refl
   places-with (x ∷ (y ∷ es)) cells e h k = absurd (omega arith)
 
   with-long : length (withPlace places c d) ≡ valueLimit
   unfolding withPlace
   with-long = cond-long (ltb (c .values) (d .values))
     where
-      cond-long : (t : mathlib.Core.Bool.Bool) → length (cond t (set places (c .values) (c .cells)) places) ≡ valueLimit
-      cond-long mathlib.Core.Bool.true = length-set places (c .values) (c .cells) ∙ long
+      cond-long : (t : mathlib.Core.Bool.Bool) → length (cond t (set places (c .values) (c .cells .0)) places) ≡ valueLimit
+      cond-long mathlib.Core.Bool.true = length-set places (c .values) (c .cells .0) ∙ long
       cond-long mathlib.Core.Bool.false = long
 
 places-below : (cells width : ℕ) (es : List Ends) → length es ≤ width → Below (cells + width) (placesFrom cells es)
@@ -103,7 +103,7 @@ place-inside s places placed v h most =
 
 -- ---- what the code writes
 
-pub place-taken : (places : List ℕ) (c d : Counts) → c .values < d .values → set places (c .values) (c .cells) ≡ withPlace places c d
+pub place-taken : (places : List ℕ) (c d : Counts) → c .values < d .values → set places (c .values) (c .cells .0) ≡ withPlace places c d
 unfolding withPlace
 place-taken places c d h = rw (lt-ltb (c .values) (d .values) h) refl
 

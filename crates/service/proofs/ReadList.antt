@@ -88,7 +88,7 @@ refused-by (refused m i) n at e = sym (ap₂ refused (ap numberIn e) (ap placeIn
 refused-by (read ls s) n at e = absurd (subst IsCounted (sym e) tt)
 
 counted-by : (list : List ℕ) (r : Reading) (p : ℕ) (c : Counts) → reading list ≡ r → OddPrime p × (p ≤ greatest)
-    → counted p (c .values) (c .inputs) (c .cells) (c .rows) ≡ surveyOf r → CountsGiven list p c
+    → counted p (c .values) (c .inputs) (c .cells .0) (c .rows) ≡ surveyOf r → CountsGiven list p c
 unfolding surveyOf onReading
 counted-by list (refused m i) p c is h e = absurd (subst IsCounted e tt)
 counted-by list (read ls s) p c is h e =
@@ -121,7 +121,7 @@ module _ {list : List ℕ} {p : ℕ} {counts : Counts} (a : CountsGiven list p c
   pub prime-by : p ≡ l .last .p
   prime-by = sym (a .prime) ∙ ap (λ (s : Known). s .p) (same-last (a .listed) l)
 
-  pub cells-by : counts .cells ≡ l .last .cells
+  pub cells-by : counts .cells .0 ≡ l .last .cells
   cells-by = sym (a .counts-are .cells-are) ∙ ap (λ (s : Known). s .cells) (same-last (a .listed) l)
 
   pub inputs-by : counts .inputs ≡ l .last .inputs

@@ -12,6 +12,8 @@ use Rattle.meaning.specs.Meaning.{gadget, after}
 use Rattle.meaning.specs.Refusal.{refused, onReading, reading}
 use Rattle.meaning.specs.Reply.{stretch, shown, startFrom, shownFrom}
 use Rattle.meaning.proofs.Induction.{cells-grow}
+use Rattle.number.specs.declared.cell.Cell.{Cell}
+use Rattle.reader.specs.Size.{counted}
 use Rattle.reader.specs.declared.state.Counts.{Counts}
 use Rattle.service.specs.Walk.{Stands, ListRead, AtLine}
 use Rattle.service.specs.Show.{IsStretch}
@@ -32,7 +34,7 @@ pub record Showing (list : List ℕ) (line : ℕ) (numbers : List ℤ) (c : Coun
   pub starts : startFrom fresh (listed .lines) line ≡ startFrom state left (line - n)
 
 pub showing-first : (list : List ℕ) (line : ℕ) (numbers : List ℤ) → length numbers ≡ mostNumbers → ListRead list
-    → Showing list line numbers (record { values = 0; inputs = 0; cells = 0; rows = 0 }) 0 0
+    → Showing list line numbers (counted 0 0 0 0) 0 0
 showing-first list line numbers long l = record {
   listed = l;
   state = fresh;
@@ -58,13 +60,13 @@ module _ {list : List ℕ} {line : ℕ} {numbers : List ℤ} {c : Counts} {at n 
   at-line inside = record { listed = w .listed; number = n; state = w .state; left = w .left; stands = w .stands; inside = inside }
 
   -- the line is not there
-  pub showing-end : length list ≤ at → (m : ListRead list) → IsStretch list line m (record { from = 0; to = 0 })
+  pub showing-end : (none : Cell) → none .0 ≡ 0 → length list ≤ at → (m : ListRead list) → IsStretch list line m (record { from = none; to = none })
   unfolding stretch startFrom
-  showing-end h m = same-stretch list line (w .listed) m _ (record {
+  showing-end none first h m = same-stretch list line (w .listed) m _ (record {
     ordered = omega arith;
-    inside = omega arith;
-    is = λ t. sym (w .is t ∙ rw (nothing-left (w .stands) h) refl);
-    starts = sym (w .starts ∙ rw (nothing-left (w .stands) h) refl);
+    inside = omega (arith, first);
+    is = λ t. rw first (sym (w .is t ∙ rw (nothing-left (w .stands) h) refl));
+    starts = first ∙ sym (w .starts ∙ rw (nothing-left (w .stands) h) refl);
   })
 
   module _ (l : Line) (rest : List Line) (left-is : w .left ≡ l ∷ rest) {next : Counts} {at′ : ℕ}
@@ -75,7 +77,7 @@ module _ {list : List ℕ} {line : ℕ} {numbers : List ℤ} {c : Counts} {at n 
     showing-line here m =
         let from-is = w .stands .counted .cells-are in
         let to-is = stands .counted .cells-are in
-        let wide : next .cells - c .cells ≡ gadget (w .state) l .width = omega (arith, from-is, to-is) in
+        let wide : next .cells .0 - c .cells .0 ≡ gadget (w .state) l .width = omega (arith, from-is, to-is) in
         let first : line - n ≡ 0 = omega (arith, here) in
         same-stretch list line (w .listed) m _ (record {
           ordered = omega (arith, from-is, to-is);
@@ -120,7 +122,7 @@ module _ (list t : List ℕ) (line : ℕ) where
     unfolding shown onReading
     shown-wrong-length h = rw (l .is-read, ne-eqb (length t) (l .last .cells) h) refl
 
-    pub shown-stretch : length t ≡ l .last .cells → (r : Stretch) → IsStretch list line l r → take (r .to - r .from) (drop (r .from) t) ≡ shown list t line
+    pub shown-stretch : length t ≡ l .last .cells → (r : Stretch) → IsStretch list line l r → take (r .to .0 - r .from .0) (drop (r .from .0) t) ≡ shown list t line
     unfolding shown onReading
     shown-stretch h r s = rw (l .is-read, eq-eqb (length t) (l .last .cells) h) (s .is t)
 
@@ -128,6 +130,6 @@ module _ (list t : List ℕ) (line : ℕ) where
     unfolding shownFrom onReading
     from-wrong-length h = rw (l .is-read, ne-eqb (length t) (l .last .cells) h) refl
 
-    pub from-stretch : length t ≡ l .last .cells → (r : Stretch) → IsStretch list line l r → r .from ≡ shownFrom list t line
+    pub from-stretch : length t ≡ l .last .cells → (r : Stretch) → IsStretch list line l r → r .from .0 ≡ shownFrom list t line
     unfolding shownFrom onReading
     from-stretch h r s = rw (l .is-read, eq-eqb (length t) (l .last .cells) h) (s .starts)

@@ -33,11 +33,11 @@ use Rattle.text.proofs.Places.{lines-none}
 use Rattle.text.proofs.Ends.{in-line, lines-at}
 use Rattle.rules.specs.Ready.{greatest, Small}
 use Rattle.rules.specs.Yield.{lineWith}
-use Rattle.reader.specs.Size.{Adds}
+use Rattle.reader.specs.Size.{counted, added, Few, Adds}
 use Rattle.reader.specs.declared.state.Counts.{Counts}
 use Rattle.reader.proofs.Steps.{few}
 use Rattle.table.specs.Line.{KeptLine}
-use Rattle.service.specs.Walk.{CountsOf, Few, Stands, AtLine, Took, taken}
+use Rattle.service.specs.Walk.{CountsOf, Stands, AtLine, Took, taken}
 use Rattle.service.specs.declared.walk.Taken.{Taken}
 use Rattle.service.proofs.ReadList.{read-ended}
 
@@ -69,8 +69,8 @@ same-prime (suc n) s last left h k = prime-kept left n s last k
 -- ---- the counts after a line
 
 pub counted-after : (n : ℕ) (s : Known) (l : Line) (c d : Counts) → Keeps n s l → CountsOf s c → Adds s l d
-    → CountsOf (after s l) (record { values = c .values + d .values; inputs = c .inputs + d .inputs; cells = c .cells + d .cells; rows = c .rows + d .rows })
-unfolding after
+    → CountsOf (after s l) (added c d)
+unfolding after counted added
 counted-after n s l c d keeps was adds =
     let g = gadget s l in
     record {
@@ -83,8 +83,8 @@ counted-after n s l c d keeps was adds =
 -- ---- the first line
 
 pub stands-first : (list : List ℕ) (ls : List Line) (last : Known) → reading list ≡ read ls last → last .p ≤ greatest
-    → Stands list last fresh ls (record { values = 0; inputs = 0; cells = 0; rows = 0 }) 0 0
-unfolding fresh
+    → Stands list last fresh ls (counted 0 0 0 0) 0 0
+unfolding fresh counted
 stands-first list ls last e h = record {
   inside = omega arith;
   numbered = omega arith;

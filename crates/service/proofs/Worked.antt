@@ -26,6 +26,8 @@ use Rattle.meaning.proofs.Law.{Law}
 use Rattle.meaning.proofs.Induction.{first-law}
 use Rattle.meaning.proofs.Working.{inputs-grow}
 use Rattle.text.specs.Word.{wordOf}
+use Rattle.number.specs.declared.whole.Whole.{Whole}
+use Rattle.reader.specs.Size.{counted}
 use Rattle.reader.specs.declared.state.Counts.{Counts}
 use Rattle.reader.proofs.Steps.{few}
 use Rattle.groups.specs.Cells.{workedMeaning}
@@ -52,16 +54,16 @@ not-refused e = let z : _≡_ {A = ℕ} 0 1 = cc in omega arith
 pub value-taken : (values : List ℤ) (at : ℕ) (r : Worked) (ys : List ℤ) → workedMeaning r ≡ value ys → at + length ys ≤ length values
     → take (at + length ys) (withValue values at r) ≡ take at values ++ ys
 unfolding workedMeaning withValue
-value-taken values at (Value z) ys e h =
-    let is : z ∷ [] ≡ ys = same-values e in
+value-taken values at (Value x) ys e h =
+    let is : x .0 ∷ [] ≡ ys = same-values e in
     let one : length ys ≡ 1 = sym (ap (λ (q : List ℤ). length q) is) in
-    rw (← is, add-one at, take-suc-set values at z (omega arith)) refl
+    rw (← is, add-one at, take-suc-set values at (x .0) (omega arith)) refl
 value-taken values at NoValue ys e h = rw (← same-values e, add-zero at) (sym (append-nil (take at values)))
 value-taken values at False ys e h = absurd (not-refused (sym e))
 
 pub values-kept : (values : List ℤ) (at : ℕ) (r : Worked) → length (withValue values at r) ≡ length values
 unfolding withValue
-values-kept values at (Value z) = length-set values at z
+values-kept values at (Value x) = length-set values at (x .0)
 values-kept values at NoValue = refl
 values-kept values at False = refl
 
@@ -112,8 +114,8 @@ nothing-before (false-at n) = refl
 nothing-before (true-table vs cs) = refl
 
 pub working-first : (list : List ℕ) (inputs numbers values : List ℤ) → length numbers ≡ mostNumbers → length values ≡ valueLimit → WorkGiven list inputs
-    → WorkingOn list inputs numbers values (record { values = 0; inputs = 0; cells = 0; rows = 0 }) 0 0
-unfolding work fresh
+    → WorkingOn list inputs numbers values (counted 0 0 0 0) 0 0
+unfolding work fresh counted
 working-first list inputs numbers values h k a = record {
   given = a;
   state = fresh;
@@ -201,9 +203,9 @@ module _ {list : List ℕ} {inputs numbers values : List ℤ} {c : Counts} {at n
         leb→le (length (w .state .known) + length (g .made)) valueLimit (keeps-all n (w .state) l (kept .0) .values-fit),
       )
 
-      pub value-inside : (z : ℤ) → r ≡ Value z → c .values < length values
+      pub value-inside : (x : Whole) → r ≡ Value x → c .values < length values
       unfolding workedMeaning
-      value-inside z is =
+      value-inside x is =
           let one : length (g .values before next) ≡ 1 = sym (ap (λ (q : List ℤ). length q) (same-values (sym (ap workedMeaning is) ∙ made))) in
           omega (arith, room, w .values-long, w .stands .counted .values-are)
 

@@ -32,6 +32,7 @@ use Rattle.meaning.proofs.Law.{Law}
 use Rattle.meaning.proofs.Induction.{first-law, cells-grow, valuesIn, cellsIn, split-worked}
 use Rattle.meaning.proofs.Working.{inputs-grow}
 use Rattle.text.specs.Word.{wordOf}
+use Rattle.reader.specs.Size.{counted}
 use Rattle.reader.specs.declared.state.Counts.{Counts}
 use Rattle.reader.proofs.Steps.{few}
 use Rattle.table.specs.LineValues.{CellsGiven}
@@ -151,16 +152,16 @@ pub record Writing (list : List ℕ) (p : ℕ) (values : List ℤ) (before table
   pub numbers-long : length numbers ≡ mostNumbers
   pub within : Within (state .known) (take (length (state .known)) values)
   pub done : List ℕ
-  pub done-long : length done ≡ c .cells
-  pub table-is : table ≡ done ++ drop (c .cells) before
+  pub done-long : length done ≡ c .cells .0
+  pub table-is : table ≡ done ++ drop (c .cells .0) before
   pub to-come : List ℕ
   pub left-worked : workFrom number state (take (length (state .known)) values) (drop (c .inputs) (given .inputs)) left
       ≡ true-table (take (length (given .given .listed .last .known)) values) to-come
   pub all-cells : done ++ to-come ≡ given .cells
 
 pub writing-first : (list : List ℕ) (p : ℕ) (values : List ℤ) (before : List ℕ) (numbers : List ℤ) → length numbers ≡ mostNumbers → WriteGiven list p values before
-    → Writing list p values before before numbers (record { values = 0; inputs = 0; cells = 0; rows = 0 }) 0
-unfolding work fresh
+    → Writing list p values before before numbers (counted 0 0 0 0) 0
+unfolding work fresh counted
 writing-first list p values before numbers h a = record {
   given = a;
   number = 0;
@@ -186,8 +187,8 @@ module _ {list : List ℕ} {p : ℕ} {values : List ℤ} {before table : List �
   table-long = omega (
     arith,
     ap (λ (q : List ℕ). length q) (w .table-is),
-    length-append (w .done) (drop (c .cells) before),
-    length-drop (c .cells) before,
+    length-append (w .done) (drop (c .cells .0) before),
+    length-drop (c .cells .0) before,
     w .done-long,
     w .given .long,
     w .stands .counted .cells-are,
@@ -201,7 +202,7 @@ module _ {list : List ℕ} {p : ℕ} {values : List ℤ} {before table : List �
       let l = w .given .given .listed in
       let ended : true-table (take (length (w .state .known)) values) [] ≡ true-table (take (length (last .known)) values) (w .to-come) =
       ap (workFrom (w .number) (w .state) (take (length (w .state .known)) values) (drop (c .inputs) (w .given .inputs))) (sym (nothing-left (w .stands) h)) ∙ w .left-worked in
-      let all-done : length before ≤ c .cells = omega (arith, w .given .long, ap (λ (z : Known). z .cells) (known-last (w .stands) h), w .stands .counted .cells-are) in
+      let all-done : length before ≤ c .cells .0 = omega (arith, w .given .long, ap (λ (z : Known). z .cells) (known-last (w .stands) h), w .stands .counted .cells-are) in
       let same = same-cells (l .lines) 0 fresh [] (w .given .inputs) (b .inputs) (take (length (last .known)) values) (w .given .cells) (b .cells) (w .given .worked)
       (ap (λ (ls : List Line). work ls (b .inputs)) (same-lines l (b .given .listed)) ∙ b .worked
       ∙ ap (λ (z : Known). true-table (take (length (z .known)) values) (b .cells)) (same-last (b .given .listed) l)) in
@@ -211,13 +212,13 @@ module _ {list : List ℕ} {p : ℕ} {values : List ℤ} {before table : List �
 
   -- the part of the table that is lent
   abbrev pub part : List ℕ
-  part = take (length table - c .cells) (drop (c .cells) table)
+  part = take (length table - c .cells .0) (drop (c .cells .0) table)
 
   abbrev pub at-line : at < length list → AtLine list c at
   at-line inside = record { listed = w .given .given .listed; number = w .number; state = w .state; left = w .left; stands = w .stands; inside = inside }
 
   module _ (inside : at < length list) {numbers′ : List ℤ} {t : Taken} (took : Took (at-line inside) numbers′ t) where
-    pub first-inside : c .cells ≤ length table
+    pub first-inside : c .cells .0 ≤ length table
     first-inside = omega (
       arith,
       cells-inside took,
@@ -231,8 +232,8 @@ module _ {list : List ℕ} {p : ℕ} {values : List ℤ} {before table : List �
       cells-inside took,
       table-long,
       w .stands .counted .cells-are,
-      length-take (length table - c .cells) (drop (c .cells) table),
-      length-drop (c .cells) table,
+      length-take (length table - c .cells .0) (drop (c .cells .0) table),
+      length-drop (c .cells .0) table,
     )
 
     abbrev pub cells-given : CellsGiven p (wordOf (t .word)) numbers′ (t .count) values (c .values) part
@@ -327,7 +328,7 @@ module _ {list : List ℕ} {p : ℕ} {values : List ℤ} {before table : List �
     pub writing-next : {d : Counts} {at′ : ℕ} (numbers′ : List ℤ) (written : List ℕ)
         → written ≡ here .cells (take (c .values) values) next ++ drop (here .width) part
         → Stands list last (after (w .state) l) rest d at′ (w .number + 1) → length numbers′ ≡ mostNumbers
-        → Writing list p values before (putMid (c .cells) (length table - c .cells) table written) numbers′ d at′
+        → Writing list p values before (putMid (c .cells .0) (length table - c .cells .0) table written) numbers′ d at′
     unfolding after
     writing-next {d} numbers′ written written-is stands long = record {
       given = w .given;
@@ -339,7 +340,7 @@ module _ {list : List ℕ} {p : ℕ} {values : List ℤ} {before table : List �
       within = rw after-values (law .within known-values next (w .within) (parted .0) in-range);
       done = w .done ++ here .cells known-values next;
       done-long = omega (arith, length-append (w .done) (here .cells known-values next), w .done-long, wide, cells-after);
-      table-is = written-after (c .cells) (here .width) (d .cells) before table written (w .done) (here .cells known-values next) (w .done-long) (w .table-is)
+      table-is = written-after (c .cells .0) (here .width) (d .cells .0) before table written (w .done) (here .cells known-values next) (w .done-long) (w .table-is)
           (rw (w .stands .counted .values-are) written-is)
           (sym cells-after);
       to-come = parted .1 .0;
@@ -353,7 +354,7 @@ module _ {list : List ℕ} {p : ℕ} {values : List ℤ} {before table : List �
         wide : length (here .cells known-values next) ≡ here .width
         wide = law .cells-count known-values next
 
-        cells-after : c .cells + here .width ≡ d .cells
+        cells-after : c .cells .0 + here .width ≡ d .cells .0
         cells-after = omega (arith, w .stands .counted .cells-are, stands .counted .cells-are)
 
         inputs-after : c .inputs + here .inputs ≡ d .inputs

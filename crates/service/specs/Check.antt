@@ -17,7 +17,7 @@ use Rattle.service.specs.declared.checking.Cells.the-variants.{AllBelow,
 -- the refusal at the first cell of p or more. FORMAT 10.14
 unfoldable pub cellsMeaning : Cells → Option Reply
 cellsMeaning AllBelow = none
-cellsMeaning (Large i) = some (reply 14 i)
+cellsMeaning (Large cell) = some (reply 14 (cell .0))
 
 -- a table of the list's length with all cells below p. FORMAT 8.8
 pub record TableGiven (list table : List ℕ) (p : ℕ) : Type 0 where

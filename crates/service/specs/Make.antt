@@ -27,12 +27,12 @@ inputsMeaning (Outside i) = some (reply 17 i)
 
 -- the values with the one that a line makes, where it makes one
 unfoldable pub withValue : List ℤ → ℕ → Worked → List ℤ
-withValue values at (Value z) = set values at z
+withValue values at (Value x) = set values at (x .0)
 withValue values at NoValue = values
 withValue values at False = values
 
 unfoldable pub isTrue : Worked → Bool
-isTrue (Value z) = true
+isTrue (Value x) = true
 isTrue NoValue = true
 isTrue False = false
 

@@ -14,7 +14,7 @@ cellPlace start cell = (start .0, cell * 4 + start .1)
 
 -- from one cell to another are the cells of that line of the list, in every table. FORMAT 9.9, 9.10
 pub record IsStretch (list : List ℕ) (line : ℕ) (l : ListRead list) (r : Stretch) : Type 0 where
-  pub ordered : r .from ≤ r .to
-  pub inside : r .to ≤ l .last .cells
-  pub is : (t : List ℕ) → take (r .to - r .from) (drop (r .from) t) ≡ stretch fresh (l .lines) line t
-  pub starts : r .from ≡ startFrom fresh (l .lines) line
+  pub ordered : r .from .0 ≤ r .to .0
+  pub inside : r .to .0 ≤ l .last .cells
+  pub is : (t : List ℕ) → take (r .to .0 - r .from .0) (drop (r .from .0) t) ≡ stretch fresh (l .lines) line t
+  pub starts : r .from .0 ≡ startFrom fresh (l .lines) line

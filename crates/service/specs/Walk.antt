@@ -3,7 +3,7 @@ use mathlib.Core.Path.{_≡_}
 use mathlib.Core.Bool.{true, cond}
 use mathlib.Core.List.{List, _∷_, map}
 use mathlib.Core.Option.{some}
-use Prim.Native.Nat.{ℕ, _+_, _*_, _≤_, _<_}
+use Prim.Native.Nat.{ℕ, _+_, _≤_, _<_}
 use lib.Dec.{ltb}
 use lib.IntN.{ℤ}
 use lib.ListN.{length, take, set}
@@ -12,13 +12,14 @@ use Rattle.meaning.specs.Word.{kindOf, mostNumbers}
 use Rattle.meaning.specs.Line.{Line, lineOf}
 use Rattle.meaning.specs.Known.{Known}
 use Rattle.meaning.specs.Meaning.{after}
-use Rattle.meaning.specs.Refusal.{read, reading, cellLimit, valueLimit}
+use Rattle.meaning.specs.Refusal.{read, reading, valueLimit}
 use Rattle.meaning.specs.Kept.{Kept, Sound}
 use Rattle.meaning.specs.Number.{OddPrime}
 use Rattle.text.specs.Place.{linesFrom}
 use Rattle.text.specs.Word.{wordOf}
 use Rattle.rules.specs.Ready.{greatest, Small}
 use Rattle.rules.specs.Yield.{lineWith}
+use Rattle.reader.specs.Size.{Few}
 use Rattle.reader.specs.declared.state.Counts.{Counts}
 use Rattle.service.specs.declared.walk.Taken.{Taken}
 
@@ -26,15 +27,8 @@ use Rattle.service.specs.declared.walk.Taken.{Taken}
 pub record CountsOf (s : Known) (c : Counts) : Type 0 where
   pub values-are : length (s .known) ≡ c .values
   pub inputs-are : s .inputs ≡ c .inputs
-  pub cells-are : s .cells ≡ c .cells
+  pub cells-are : s .cells ≡ c .cells .0
   pub rows-are : s .rows ≡ c .rows
-
--- counts that no sum overflows
-pub record Few (c : Counts) : Type 0 where
-  pub values-most : c .values ≤ valueLimit
-  pub inputs-most : c .inputs ≤ c .values
-  pub cells-most : c .cells ≤ cellLimit
-  pub rows-most : c .rows ≤ 2 * c .cells
 
 -- the list is read: its lines, and what is known at its end
 pub record ListRead (list : List ℕ) : Type 0 where
@@ -93,7 +87,7 @@ pub record Took {list : List ℕ} {c : Counts} {at : ℕ} (a : AtLine list c at)
 
 -- the cell of the value that a line makes, where it makes one, with the cells of those before it
 unfoldable pub withPlace : List ℕ → (before next : Counts) → List ℕ
-withPlace places c d = cond (ltb (c .values) (d .values)) (set places (c .values) (c .cells)) places
+withPlace places c d = cond (ltb (c .values) (d .values)) (set places (c .values) (c .cells .0)) places
 
 -- the first places are the cells of the values that are known
 pub record Placed (s : Known) (places : List ℕ) : Type 0 where

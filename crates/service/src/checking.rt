@@ -4,8 +4,11 @@ use super::walk::take_line;
 use super::walk::take_place;
 use groups::Rows;
 use number::Cell;
+use number::cell::cell_number;
+use number::cell::nth_cell;
 use reader::Counts;
 use reader::Surveyed;
+use reader::counts_of;
 use reader::survey;
 use table::line_rows::line_rows;
 ghost use mathlib.Core.Path.{_≡_};
@@ -15,10 +18,10 @@ ghost use Rattle.service.specs.Reply.{replyMeaning, Checks};
 ghost use Rattle.service.specs.Walk.{ListRead, CountsGiven};
 ghost use Rattle.service.specs.Check.{cellsMeaning, TableGiven, rowsReply};
 
-// The place of the first cell of p or more.
+// The first cell of p or more.
 enum Cells {
     AllBelow,
-    Large(usize),
+    Large(Cell),
 }
 
 // The public call: for every list and table the reply of document 01.
@@ -40,7 +43,7 @@ fn check_table(list: &[u8], table: &[u32], p: u32, counts: Counts) -> Reply
     requires { ⌜ CountsGiven (now list) p counts ⌝ }
     ensures { λ r. ⌜ ((l : ListRead (now (list .entry))) → replyMeaning r ≡ checked (l .last) (l .lines) (now (table .entry))) ⌝ }
 {
-    if table.len() != counts.cells {
+    if table.len() != cell_number(counts.cells) {
         return Reply {
             number: 13,
             place: 0,
@@ -48,9 +51,9 @@ fn check_table(list: &[u8], table: &[u32], p: u32, counts: Counts) -> Reply
     }
     let found = first_large(table, p);
     match found {
-        Cells::Large(i) => Reply {
+        Cells::Large(cell) => Reply {
             number: 14,
-            place: i,
+            place: cell_number(cell),
         },
         Cells::AllBelow => check_rows(list, table, p),
     }
@@ -80,7 +83,7 @@ fn first_large(table: &[u32], p: u32) -> Cells
     while table[i] < p {
         i += 1;
     }
-    Cells::Large(i)
+    Cells::Large(nth_cell(i))
 }
 
 // The rows, counted over the whole list.
@@ -90,18 +93,13 @@ fn check_rows(list: &[u8], table: &[u32], p: u32) -> Reply
 {
     let mut numbers: [i64; 33] = [0; 33];
     let mut places: [u16; 256] = [0; 256];
-    let mut counts = Counts {
-        values: 0,
-        inputs: 0,
-        cells: 0,
-        rows: 0,
-    };
+    let mut counts = counts_of(0, 0, 0, 0);
     let mut at: usize = 0;
     while at < list.len() {
         let line = take_line(list, at, counts, &mut numbers);
         let word = line.word;
         let count = line.count;
-        let first = Cell(counts.cells);
+        let first = counts.cells;
         let rows = line_rows(word, &numbers, count, table, p, first, &places);
         if let Rows::Fails(row) = rows {
             return Reply {

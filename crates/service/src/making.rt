@@ -4,8 +4,9 @@ use super::reply::Reply;
 use super::working::Working;
 use super::working::work_lines;
 use super::writing::write_lines;
-use number::Whole;
+use number::cell::cell_number;
 use number::whole::in_range;
+use number::whole::whole_at;
 use reader::Counts;
 use reader::Surveyed;
 use reader::survey;
@@ -45,7 +46,7 @@ fn make_table(list: &[u8], p: u32, counts: Counts, inputs: &[i64], table: &mut [
     ensures { λ r. ⌜ ((l : ListRead (now (list .entry)))
         → making (replyMeaning r) (now (table .exit)) ≡ made (l .last) (l .lines) (now (inputs .entry)) (now (table .entry))) ⌝ }
 {
-    if table.len() != counts.cells {
+    if table.len() != cell_number(counts.cells) {
         return Reply {
             number: 13,
             place: 0,
@@ -73,7 +74,7 @@ fn first_outside(inputs: &[i64], p: u32) -> Inputs
 {
     let mut i: usize = 0;
     while i < inputs.len() {
-        if !in_range(Whole(inputs[i]), p) {
+        if !in_range(whole_at(inputs, i), p) {
             return Inputs::Outside(i);
         }
         i += 1;

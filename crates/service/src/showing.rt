@@ -1,7 +1,10 @@
 // Showing a line: the part of the lent table that holds its cells.
 use super::walk::take_line;
-use reader::Counts;
+use number::Cell;
+use number::cell::cell_number;
+use number::cell::nth_cell;
 use reader::Surveyed;
+use reader::counts_of;
 use reader::survey;
 ghost use mathlib.Core.Path.{_≡_};
 ghost use denote.Ref.{ptr};
@@ -11,8 +14,8 @@ ghost use Rattle.service.specs.Show.{cellPlace, IsStretch};
 
 // The cells from one up to another, which is not among them.
 struct Stretch {
-    pub from: usize,
-    pub to: usize,
+    pub from: Cell,
+    pub to: Cell,
 }
 
 // The public call: a part of the caller's slice, empty for the field line, for a line that is not there, for a refused list and for a
@@ -25,13 +28,13 @@ pub fn show<'a>(list: &[u8], table: &'a [u32], line: usize) -> &'a [u32]
     match found {
         Surveyed::NotRead(_, _) => &table[0..0],
         Surveyed::Counted(_, counts) => {
-            let cells = counts.cells;
+            let cells = cell_number(counts.cells);
             if table.len() != cells {
                 return &table[0..0];
             }
             let stretch = stretch_of(list, line);
-            let from = stretch.from;
-            let to = stretch.to;
+            let from = cell_number(stretch.from);
+            let to = cell_number(stretch.to);
             &table[from..to]
         }
     }
@@ -43,26 +46,24 @@ fn stretch_of(list: &[u8], line: usize) -> Stretch
     ensures { λ r. ⌜ ((l : ListRead (now (list .entry))) → IsStretch (now (list .entry)) line l r) ⌝ }
 {
     let mut numbers: [i64; 33] = [0; 33];
-    let mut counts = Counts {
-        values: 0,
-        inputs: 0,
-        cells: 0,
-        rows: 0,
-    };
+    let mut counts = counts_of(0, 0, 0, 0);
     let mut at: usize = 0;
     let mut n: usize = 0;
     while at < list.len() {
         let taken = take_line(list, at, counts, &mut numbers);
         let next = taken.counts;
         if n == line {
-            return Stretch {
-                from: counts.cells,
-                to: next.cells,
-            };
+            let from = counts.cells;
+            let to = next.cells;
+            return Stretch { from: from, to: to };
         }
         counts = next;
         at = taken.next;
         n += 1;
     }
-    Stretch { from: 0, to: 0 }
+    let none = nth_cell(0);
+    Stretch {
+        from: none,
+        to: none,
+    }
 }

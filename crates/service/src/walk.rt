@@ -1,6 +1,8 @@
 // Walking a list that was read once more: the line at a place, the counts after it, and the cells of the values that the lines make. Every
 // walk of the crate goes by `take_line`.
+use number::cell::cell_number;
 use reader::Counts;
+use reader::counts_with;
 use reader::line_size;
 use text::Parsed;
 use text::Word;
@@ -15,7 +17,8 @@ ghost use Rattle.meaning.specs.Meaning.{after};
 ghost use Rattle.meaning.specs.Kept.{Keeps};
 ghost use Rattle.text.specs.Word.{wordOf};
 ghost use Rattle.rules.specs.Yield.{lineWith};
-ghost use Rattle.service.specs.Walk.{CountsOf, Few, AtLine, Took, withPlace};
+ghost use Rattle.reader.specs.Size.{Few};
+ghost use Rattle.service.specs.Walk.{CountsOf, AtLine, Took, withPlace};
 ghost use Rattle.meaning.specs.Refusal.{valueLimit};
 
 // A line of the list: its word, how many numbers it has, the counts after it, and where the next line starts.
@@ -57,13 +60,7 @@ fn counts_after(counts: Counts, word: Word, numbers: &[i64]) -> Counts
         → CountsOf (after s (lineWith (wordOf word) (take count (now (numbers .entry))))) r) ⌝ }
     ensures more { λ r. ⌜ (counts .values ≤ r .values) × (r .values ≤ counts .values + 1) ⌝ }
 {
-    let size = line_size(word, numbers);
-    Counts {
-        values: counts.values + size.values,
-        inputs: counts.inputs + size.inputs,
-        cells: counts.cells + size.cells,
-        rows: counts.rows + size.rows,
-    }
+    counts_with(counts, line_size(word, numbers))
 }
 
 // Takes in the cell of the value that a line makes, where it makes one: it is the first cell of the line.
@@ -73,6 +70,7 @@ pub fn take_place(places: &mut [u16], counts: Counts, next: Counts)
 {
     let at = counts.values;
     if at < next.values {
-        places[at] = counts.cells as u16;
+        let first = cell_number(counts.cells);
+        places[at] = first as u16;
     }
 }

@@ -1,12 +1,17 @@
 // Working a list for a column of inputs: the values of its lines, or the first line whose statement is false.
 use super::walk::take_line;
 use groups::Worked;
-use reader::Counts;
+use number::Whole;
+use number::whole::set_whole;
+use number::whole::whole_at;
+use number::whole::whole_of;
+use reader::counts_of;
 use table::line_works::line_works;
 ghost use mathlib.Core.Path.{_≡_};
 ghost use Prim.Native.Nat.{_<_};
-ghost use lib.IntN.{ℤ, pos};
+ghost use lib.IntN.{pos};
 ghost use lib.ListN.{length, getD};
+ghost use Rattle.number.specs.declared.whole.Whole.{Whole};
 ghost use Rattle.groups.specs.declared.value.Worked.the-variants.{Value};
 ghost use Rattle.service.specs.Walk.{ListRead};
 ghost use Rattle.service.specs.Make.{withValue, isTrue, WorkGiven, WorkingYield};
@@ -19,20 +24,24 @@ pub enum Working {
 }
 
 // The input at a place, and 0 where there is none.
-fn input_at(inputs: &[i64], at: usize) -> i64
-    ensures { λ r. ⌜ r ≡ getD (now (inputs .entry)) at (pos 0) ⌝ }
+fn input_at(inputs: &[i64], at: usize) -> Whole
+    ensures { λ r. ⌜ r .0 ≡ getD (now (inputs .entry)) at (pos 0) ⌝ }
 {
-    if at < inputs.len() { inputs[at] } else { 0 }
+    if at < inputs.len() {
+        whole_at(inputs, at)
+    } else {
+        whole_of(0)
+    }
 }
 
 // Takes in the value that a line makes, where it makes one, and says whether the line's statement is true.
 fn take_value(values: &mut [i64], at: usize, worked: Worked) -> bool
-    requires { ⌜ ((z : ℤ) → worked ≡ Value z → at < length (now values)) ⌝ }
+    requires { ⌜ ((x : Whole) → worked ≡ Value x → at < length (now values)) ⌝ }
     ensures { λ r. ⌜ (r ≡ isTrue worked) × (now (values .exit) ≡ withValue (now (values .entry)) at worked) ⌝ }
 {
     match worked {
-        Worked::Value(z) => {
-            values[at] = z;
+        Worked::Value(x) => {
+            set_whole(values, at, x);
             true
         }
         Worked::NoValue => true,
@@ -47,12 +56,7 @@ pub fn work_lines(list: &[u8], inputs: &[i64], values: &mut [i64]) -> Working
     ensures long { λ _. ⌜ length (now (values .exit)) ≡ valueLimit ⌝ }
 {
     let mut numbers: [i64; 33] = [0; 33];
-    let mut counts = Counts {
-        values: 0,
-        inputs: 0,
-        cells: 0,
-        rows: 0,
-    };
+    let mut counts = counts_of(0, 0, 0, 0);
     let mut at: usize = 0;
     let mut n: usize = 0;
     while at < list.len() {

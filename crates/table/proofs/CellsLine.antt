@@ -2,7 +2,7 @@
 use mathlib.Core.Path.{_≡_, refl, sym, ap, subst, _∙_}
 use mathlib.Core.Bool.{false}
 use mathlib.Core.List.{List, [], _∷_, _++_}
-use Prim.Native.Nat.{ℕ, suc, _+_, _*_, _≤_, _<_}
+use Prim.Native.Nat.{ℕ, suc, _+_, _*_, _^_, _≤_, _<_}
 use native.Mathlib.Omega.{arith}
 use lib.IntN.{ℤ, pos, _-ℤ_}
 use lib.ListN.{length, getD, take, drop}
@@ -30,7 +30,7 @@ use Rattle.table.specs.Sum.{sumOf}
 use Rattle.table.specs.Line.{KeptLine, gadgetOf, knownCount}
 use Rattle.table.specs.LineValues.{CellsGiven, CellsYield}
 use Rattle.table.proofs.LineNumbers.{prime-is, made-fit}
-use Rattle.table.proofs.LineKinds.{OneWord, one-name, one-is, TwoWord, two-first, two-second, two-is}
+use Rattle.table.proofs.LineKinds.{word-power, OneWord, one-name, one-is, TwoWord, two-first, two-second, two-is}
 use Rattle.table.proofs.LineKinds.{span-word, relu-word, which-word, max-word, root-word}
 use Rattle.table.proofs.LineValues.{value-named}
 
@@ -42,19 +42,22 @@ module _ {p : ℕ} {w : Word} {numbers : List ℤ} {count : ℕ} {values : List 
   name-known : {i : ℕ} → NameAt (knownCount (a .given .kept)) numbers i → size numbers i < known
   name-known name = omega (arith, name .below, a .known-are)
 
-  -- what is known of p and of the part, for a line that names one value, and for one that names two
+  -- what is known of p, of the part and of c, for a line that names one value, and for one that names two
   pub one-writes : {line : Known → (v b k : ℕ) → Gadget} (word : OneWord w numbers count line) {v : ℤ} {b k : ℕ} → OneRead numbers values v b k
-      → OddPrime p × (line (a .given .kept .state) (size numbers 0) b k .width ≤ length part)
+      → OddPrime p × (line (a .given .kept .state) (size numbers 0) b k .width ≤ length part) × (b ^ k ≤ p)
   one-writes word one = (
     prime-given (word .has-digits .late),
     subst (λ (g : Gadget). g .width ≤ length part) (one-is (a .given .kept) word (one .digits)) (a .room),
+    rw (a .prime (word .has-digits .late)) at (word-power (a .given .kept) (word .has-digits) (one .digits)),
   )
 
   pub two-writes : {line : Known → (u v b k : ℕ) → Gadget} (word : TwoWord w numbers count line) {u v : ℤ} {b k : ℕ}
-      → TwoRead numbers values u v b k → OddPrime p × (line (a .given .kept .state) (size numbers 0) (size numbers 1) b k .width ≤ length part)
+      → TwoRead numbers values u v b k
+      → OddPrime p × (line (a .given .kept .state) (size numbers 0) (size numbers 1) b k .width ≤ length part) × (b ^ k ≤ p)
   two-writes word two = (
     prime-given (word .has-digits .late),
     subst (λ (g : Gadget). g .width ≤ length part) (two-is (a .given .kept) word (two .digits)) (a .room),
+    rw (a .prime (word .has-digits .late)) at (word-power (a .given .kept) (word .has-digits) (two .digits)),
   )
 
 -- ---- one value, and a digit group

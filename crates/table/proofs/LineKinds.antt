@@ -3,7 +3,7 @@
 use mathlib.Core.Path.{_≡_, refl, ap, _∙_}
 use mathlib.Core.Bool.{false}
 use mathlib.Core.List.{List, [], _∷_}
-use Prim.Native.Nat.{ℕ, suc, _<_}
+use Prim.Native.Nat.{ℕ, suc, _^_, _≤_, _<_}
 use native.Mathlib.Omega.{arith}
 use lib.IntN.{ℤ, pos}
 use lib.ListN.{getD, take}
@@ -19,7 +19,7 @@ use Rattle.meaning.specs.Gadget.Root.{rootLine}
 use Rattle.meaning.specs.Meaning.{gadget}
 use Rattle.groups.specs.Numbers.{size, NameAt, DigitsFrom, DigitsAre}
 use Rattle.table.specs.Line.{KeptLine, gadgetOf, knownCount}
-use Rattle.table.proofs.LineNumbers.{first-name, second-name, digits-from, size-is}
+use Rattle.table.proofs.LineNumbers.{first-name, second-name, digits-from, power-below, size-is}
 
 -- a base stands at place i and its digit count after it
 pub record DigitWord (w : Word) (numbers : List ℤ) (count i : ℕ) : Type 0 where
@@ -73,6 +73,9 @@ module _ (numbers : List ℤ) where
 module _ {w : Word} {numbers : List ℤ} {count : ℕ} (l : KeptLine w numbers count) where
   pub word-digits : {i : ℕ} → DigitWord w numbers count i → DigitsFrom numbers i
   word-digits {i} word = digits-from l i (word .long) (word .late) (word .digits)
+
+  pub word-power : {i b k : ℕ} → DigitWord w numbers count i → DigitsAre numbers i b k → b ^ k ≤ l .state .p
+  word-power {i} word d = rw (d .base, d .count) (power-below l i (word .long) (word .late) (word .digits))
 
   module _ {line : Known → (v b k : ℕ) → Gadget} (word : OneWord w numbers count line) where
     pub one-name : NameAt (knownCount l) numbers 0

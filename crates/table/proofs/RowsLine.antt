@@ -22,8 +22,8 @@ use Rattle.groups.specs.Rows.{rowsMeaning, firstRefusal}
 use Rattle.groups.specs.declared.rows.Rows.the-variants.{AllHold}
 use Rattle.table.specs.Line.{gadgetOf, knownCount}
 use Rattle.table.specs.LineRows.{RowsGiven, RowsYield}
-use Rattle.table.proofs.LineNumbers.{values-most, prime-is, power-below}
-use Rattle.table.proofs.LineKinds.{DigitWord, word-digits, OneWord, one-name, one-is, TwoWord, two-first, two-second, two-is}
+use Rattle.table.proofs.LineNumbers.{values-most, prime-is}
+use Rattle.table.proofs.LineKinds.{DigitWord, word-digits, word-power, OneWord, one-name, one-is, TwoWord, two-first, two-second, two-is}
 
 -- a line that has no row
 pub no-row : (p : ℕ) (w : Word) (numbers : List ℤ) (count : ℕ) (table : List ℕ) (cells : ℕ) (places : List ℕ)
@@ -60,12 +60,12 @@ module _ {p : ℕ} {w : Word} {numbers : List ℤ} {count : ℕ} {table : List �
 
   group-given : {g : Gadget} {i b k : ℕ} → gadgetOf (a .kept) ≡ g → DigitWord w numbers count i → DigitsAre numbers i b k
       → GroupGiven p table cells (g .width) b k
-  group-given {i = i} is word d = record {
+  group-given is word d = record {
     three = p-three (word .late);
     below = a .below;
     room = subst (λ (g : Gadget). cells + g .width ≤ length table) is (a .room);
     group = d .group;
-    power = rw (d .base, d .count, ← a .prime (word .late)) (power-below (a .kept) i (word .long) (word .late) (word .digits));
+    power = rw (a .prime (word .late)) at (word-power (a .kept) word d);
   }
 
   -- ---- a line that names one value

@@ -29,6 +29,7 @@ use Rattle.text.specs.Word.{wordOf}
 use Rattle.meaning.proofs.Lines.{sum-odd}
 use Rattle.groups.specs.Cells.{workedMeaning, powerBound}
 use Rattle.groups.specs.Numbers.{size, OneRead, TwoRead}
+use Rattle.number.specs.declared.whole.Whole.{Whole}
 use Rattle.groups.specs.declared.value.Worked.{Worked}
 use Rattle.groups.specs.declared.value.Worked.the-variants.{Value, NoValue}
 use Rattle.table.specs.Line.{KeptLine, knownCount}
@@ -96,9 +97,9 @@ pub field-yield : (numbers values : List ℤ) (next : ℤ) → WorkYield field n
 unfolding gadget kindOf fieldLine workedMeaning
 field-yield numbers values next a = refl
 
-pub input-yield : (numbers values : List ℤ) {next x : ℤ} → x ≡ next → WorkYield input numbers 0 values next (Value x)
+pub input-yield : (numbers values : List ℤ) (next : Whole) → WorkYield input numbers 0 values (next .0) (Value next)
 unfolding gadget kindOf inputLine workedMeaning
-input-yield numbers values e a = ap (λ (y : ℤ). value (y ∷ [])) e
+input-yield numbers values next a = refl
 
 module _ {numbers : List ℤ} {count : ℕ} {values : List ℤ} where
   pub sum-given : (a : ValuesGiven sum numbers count values) → SumGiven numbers count values (knownCount (a .kept))
@@ -115,7 +116,7 @@ module _ {numbers : List ℤ} {count : ℕ} {values : List ℤ} where
             (termsOf (withoutFirst ns)) (terms-named (l .state) (withoutFirst ns) (l .keeps .names-made)) (l .keeps .fits);
       }
 
-  pub sum-yield : {x : ℤ} → ((n : ℕ) → SumGiven numbers count values n → x ≡ sumOf (take count numbers) (take n values))
+  pub sum-yield : {x : Whole} → ((n : ℕ) → SumGiven numbers count values n → x .0 ≡ sumOf (take count numbers) (take n values))
       → (next : ℤ) → WorkYield sum numbers count values next (Value x)
   unfolding gadget kindOf sumLine workedMeaning
   sum-yield h next a = ap (λ (y : ℤ). value (y ∷ [])) (h (knownCount (a .kept)) (sum-given a))

@@ -7,14 +7,15 @@ use super::span::span_line_works;
 use super::sum::sum_line_works;
 use super::which::which_line_works;
 use groups::value::Worked;
+use number::Whole;
 use text::Word;
 ghost use Rattle.text.specs.Word.{wordOf};
 ghost use Rattle.table.specs.LineValues.{ValuesGiven, WorkYield};
 
 // The first count numbers are the line's; next is the next input, which an `in` line takes.
-pub fn line_works(word: Word, numbers: &[i64], count: usize, values: &[i64], next: i64) -> Worked
+pub fn line_works(word: Word, numbers: &[i64], count: usize, values: &[i64], next: Whole) -> Worked
     requires { ⌜ ValuesGiven (wordOf word) (now numbers) count (now values) ⌝ }
-    ensures { λ r. ⌜ WorkYield (wordOf word) (now (numbers .entry)) count (now (values .entry)) next r ⌝ }
+    ensures { λ r. ⌜ WorkYield (wordOf word) (now (numbers .entry)) count (now (values .entry)) (next .0) r ⌝ }
 {
     match word {
         Word::Field => Worked::NoValue,

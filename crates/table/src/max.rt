@@ -1,22 +1,25 @@
 // A line `max u v b k`: u and v are less than c = b^k apart, and the value y is the greater of them. Its cells are those of y, of the
 // group over y - u and of the group over y - v, both with shift 0; its rows are (y-u)·(y-v) ≡ 0 and those of the two groups.
-use groups::group::apart;
 use groups::group::group_rows;
 use groups::group::power_of;
 use groups::group::two_groups;
 use groups::named::two_places;
 use groups::named::two_values;
 use groups::rows::Rows;
-use groups::rows::residue_at;
 use groups::rows::row_before;
 use groups::rows::rows_before;
 use groups::value::Worked;
 use groups::value::value_cell;
 use number::Cell;
 use number::Whole;
+use number::cell::cell_after;
 use number::residue::difference;
+use number::residue::is_zero;
 use number::residue::product;
+use number::residue::residue_at;
+use number::whole::distance;
 use number::whole::larger;
+use number::whole::whole_difference;
 ghost use mathlib.Core.Path.{_≡_};
 ghost use mathlib.Core.Bool.{cond};
 ghost use mathlib.Core.List.{[], _∷_, _++_};
@@ -39,19 +42,13 @@ ghost use Rattle.table.specs.LineRows.{RowsGiven, RowsYield};
 
 // ---- working
 
-fn max_value(u: i64, v: i64) -> i64
-    ensures { λ r. ⌜ r ≡ larger u v ⌝ }
+fn max_works(u: Whole, v: Whole, c: u64) -> Worked
+    requires { ⌜ Bounded valueBound (u .0) × Bounded valueBound (v .0) ⌝ }
+    ensures { λ r. ⌜ ((b k : ℕ) → c ≡ b ^ k
+        → workedMeaning r ≡ cond (ltb (natAbs (u .0 -ℤ v .0)) (b ^ k)) (value (larger (u .0) (v .0) ∷ [])) (refusedBy 18)) ⌝ }
 {
-    let y = larger(Whole(u), Whole(v));
-    y.0
-}
-
-fn max_works(u: i64, v: i64, c: u64) -> Worked
-    requires { ⌜ Bounded valueBound u × Bounded valueBound v ⌝ }
-    ensures { λ r. ⌜ ((b k : ℕ) → c ≡ b ^ k → workedMeaning r ≡ cond (ltb (natAbs (u -ℤ v)) (b ^ k)) (value (larger u v ∷ [])) (refusedBy 18)) ⌝ }
-{
-    if apart(u, v) < c {
-        Worked::Value(max_value(u, v))
+    if distance(u, v) < c {
+        Worked::Value(larger(u, v))
     } else {
         Worked::False
     }
@@ -68,13 +65,15 @@ pub fn max_line_works(numbers: &[i64], values: &[i64]) -> Worked
 
 // ---- cells
 
-fn max_cells(out: &mut [u32], p: u32, u: i64, v: i64, b: u32, k: usize)
-    requires { ⌜ (0 < p) × (0 < b) × (suc (2 * k) ≤ length (now out)) × Bounded valueBound u × Bounded valueBound v ⌝ }
-    ensures { λ _. ⌜ now (out .exit) ≡ maxCells p b k u v ++ drop (suc (2 * k)) (now (out .entry)) ⌝ }
+fn max_cells(out: &mut [u32], p: u32, u: Whole, v: Whole, b: u32, k: usize)
+    requires { ⌜ (0 < p) × (0 < b) × (suc (2 * k) ≤ length (now out)) × Bounded valueBound (u .0) × Bounded valueBound (v .0) ⌝ }
+    ensures { λ _. ⌜ now (out .exit) ≡ maxCells p b k (u .0) (v .0) ++ drop (suc (2 * k)) (now (out .entry)) ⌝ }
 {
-    let y = max_value(u, v);
+    let y = larger(u, v);
     value_cell(out, p, y);
-    two_groups(&mut out[1..], y - u, y - v, b, k);
+    let over_u = whole_difference(y, u);
+    let over_v = whole_difference(y, v);
+    two_groups(&mut out[1..], over_u, over_v, b, k);
 }
 
 pub fn max_line_cells(numbers: &[i64], p: u32, values: &[i64], part: &mut [u32])
@@ -98,9 +97,9 @@ fn max_rows(table: &[u32], p: u32, place_u: Cell, place_v: Cell, at: Cell, b: u3
     let over_u = difference(made, residue_at(table, place_u), p);
     let over_v = difference(made, residue_at(table, place_v), p);
     let either = product(over_u, over_v, p);
-    let group_u = group_rows(table, over_u, 1, Cell(at.0 + 1), b, k);
-    let group_v = group_rows(table, over_v, k + 2, Cell(at.0 + 1 + k), b, k);
-    row_before(either.0 == 0, 0, rows_before(group_u, group_v))
+    let group_u = group_rows(table, over_u, 1, cell_after(at, 1), b, k);
+    let group_v = group_rows(table, over_v, k + 2, cell_after(at, 1 + k), b, k);
+    row_before(is_zero(either), 0, rows_before(group_u, group_v))
 }
 
 pub fn max_line_rows(numbers: &[i64], table: &[u32], p: u32, at: Cell, places: &[u16]) -> Rows

@@ -4,7 +4,6 @@ use groups::group::power_of;
 use groups::named::one_place;
 use groups::named::one_value;
 use groups::rows::Rows;
-use groups::rows::residue_at;
 use groups::sign::sign_rows;
 use groups::sign::sign_works;
 use groups::sign::signed_cells;
@@ -12,9 +11,13 @@ use groups::sign::top_part;
 use groups::value::Worked;
 use number::Cell;
 use number::Whole;
+use number::cell::cell_after;
+use number::residue::is_same;
 use number::residue::product;
+use number::residue::residue_at;
 use number::residue::sum;
 use number::whole::larger;
+use number::whole::whole_of;
 ghost use mathlib.Core.Path.{_≡_};
 ghost use mathlib.Core.Bool.{cond};
 ghost use mathlib.Core.List.{[], _∷_};
@@ -35,16 +38,16 @@ ghost use Rattle.table.specs.LineRows.{RowsGiven, RowsYield};
 
 // ---- working
 
-fn relu_value(v: i64) -> i64
-    ensures { λ r. ⌜ r ≡ larger (pos 0) v ⌝ }
+fn relu_value(v: Whole) -> Whole
+    ensures { λ r. ⌜ r .0 ≡ larger (pos 0) (v .0) ⌝ }
 {
-    let y = larger(Whole(0), Whole(v));
-    y.0
+    larger(whole_of(0), v)
 }
 
-fn relu_works(v: i64, b: u32, c: u64) -> Worked
+fn relu_works(v: Whole, b: u32, c: u64) -> Worked
     requires { ⌜ (0 < b) × (c ≤ powerBound) ⌝ }
-    ensures { λ r. ⌜ ((k : ℕ) → 1 ≤ k → c ≡ b ^ k → workedMeaning r ≡ cond (signStatement b k v) (value (larger (pos 0) v ∷ [])) (refusedBy 18)) ⌝ }
+    ensures { λ r. ⌜ ((k : ℕ) → 1 ≤ k → c ≡ b ^ k
+        → workedMeaning r ≡ cond (signStatement b k (v .0)) (value (larger (pos 0) (v .0) ∷ [])) (refusedBy 18)) ⌝ }
 {
     if sign_works(v, b, c) {
         Worked::Value(relu_value(v))
@@ -84,10 +87,18 @@ fn relu_rows(table: &[u32], p: u32, place: Cell, at: Cell, b: u32, k: usize) -> 
 {
     let value = residue_at(table, place);
     let number = sum(value, top_part(b, k), p);
-    let flag = residue_at(table, Cell(at.0 + 1 + k));
+    let flag = residue_at(table, cell_after(at, 1 + k));
     let kept = product(flag, value, p);
     let made = residue_at(table, at);
-    sign_rows(table, p, number, kept.0 == made.0, Cell(at.0 + 1), b, k)
+    sign_rows(
+        table,
+        p,
+        number,
+        is_same(kept, made),
+        cell_after(at, 1),
+        b,
+        k,
+    )
 }
 
 pub fn relu_line_rows(numbers: &[i64], table: &[u32], p: u32, at: Cell, places: &[u16]) -> Rows

@@ -1,13 +1,11 @@
 // A line `root v b k`: 0 ≤ v < c = b^k, and the value r is the floor of the square root of v. Its cells are those of r and of its square
 // q, then the groups over v, r, v - q and q + 2r - v with shift 0; its rows are r·r ≡ q and those of the four groups.
-use groups::group::apart;
 use groups::group::group_rows;
 use groups::group::power_of;
 use groups::group::two_groups;
 use groups::named::one_place;
 use groups::named::one_value;
 use groups::rows::Rows;
-use groups::rows::residue_at;
 use groups::rows::row_before;
 use groups::rows::rows_before;
 use groups::value::Worked;
@@ -15,10 +13,19 @@ use groups::value::value_cell;
 use number::Cell;
 use number::Residue;
 use number::Whole;
+use number::cell::cell_after;
 use number::residue::difference;
+use number::residue::is_same;
 use number::residue::product;
+use number::residue::residue_at;
 use number::residue::sum;
 use number::root::square_root;
+use number::whole::distance;
+use number::whole::whole_difference;
+use number::whole::whole_of;
+use number::whole::whole_product;
+use number::whole::whole_sum;
+use number::whole::wide_whole;
 use number::whole::within;
 ghost use mathlib.Core.Path.{_≡_};
 ghost use mathlib.Core.Bool.{cond};
@@ -42,19 +49,20 @@ ghost use Rattle.table.specs.LineRows.{RowsGiven, RowsYield};
 
 // ---- working
 
-fn root_value(v: i64) -> i64
-    requires { ⌜ Bounded valueBound v ⌝ }
-    ensures { λ r. ⌜ r ≡ rootValue v ⌝ }
+fn root_value(v: Whole) -> Whole
+    requires { ⌜ Bounded valueBound (v .0) ⌝ }
+    ensures { λ r. ⌜ r .0 ≡ rootValue (v .0) ⌝ }
 {
-    square_root(apart(v, 0)) as i64
+    wide_whole(square_root(distance(v, whole_of(0))))
 }
 
-fn root_works(v: i64, c: u64) -> Worked
-    requires { ⌜ Bounded valueBound v × (c ≤ powerBound) ⌝ }
-    ensures { λ r. ⌜ ((b k : ℕ) → c ≡ b ^ k → workedMeaning r ≡ cond (between (pos 0) v (pos (b ^ k) -ℤ pos 1)) (value (rootValue v ∷ [])) (refusedBy 18)) ⌝ }
+fn root_works(v: Whole, c: u64) -> Worked
+    requires { ⌜ Bounded valueBound (v .0) × (c ≤ powerBound) ⌝ }
+    ensures { λ r. ⌜ ((b k : ℕ) → c ≡ b ^ k
+        → workedMeaning r ≡ cond (between (pos 0) (v .0) (pos (b ^ k) -ℤ pos 1)) (value (rootValue (v .0) ∷ [])) (refusedBy 18)) ⌝ }
 {
-    let top = c as i64 - 1;
-    if within(Whole(0), Whole(v), Whole(top)) {
+    let top = whole_difference(wide_whole(c), whole_of(1));
+    if within(whole_of(0), v, top) {
         Worked::Value(root_value(v))
     } else {
         Worked::False
@@ -72,9 +80,9 @@ pub fn root_line_works(numbers: &[i64], values: &[i64]) -> Worked
 
 // ---- cells
 
-fn root_cells(out: &mut [u32], p: u32, v: i64, b: u32, k: usize)
-    requires { ⌜ (0 < p) × (0 < b) × (2 + 4 * k ≤ length (now out)) × Bounded valueBound v ⌝ }
-    ensures { λ _. ⌜ now (out .exit) ≡ rootCells p b k v ++ drop (2 + 4 * k) (now (out .entry)) ⌝ }
+fn root_cells(out: &mut [u32], p: u32, v: Whole, b: u32, k: usize)
+    requires { ⌜ (0 < p) × (0 < b) × (2 + 4 * k ≤ length (now out)) × Bounded valueBound (v .0) ⌝ }
+    ensures { λ _. ⌜ now (out .exit) ≡ rootCells p b k (v .0) ++ drop (2 + 4 * k) (now (out .entry)) ⌝ }
 {
     let r = root_value(v);
     square_cells(out, p, r);
@@ -84,22 +92,24 @@ fn root_cells(out: &mut [u32], p: u32, v: i64, b: u32, k: usize)
 }
 
 // The cells of r and of its square.
-fn square_cells(out: &mut [u32], p: u32, r: i64)
-    requires { ⌜ (0 < p) × (2 ≤ length (now out)) × Bounded valueBound r ⌝ }
-    ensures { λ _. ⌜ now (out .exit) ≡ remainder p r ∷ remainder p (r *ℤ r) ∷ drop 2 (now (out .entry)) ⌝ }
+fn square_cells(out: &mut [u32], p: u32, r: Whole)
+    requires { ⌜ (0 < p) × (2 ≤ length (now out)) × Bounded valueBound (r .0) ⌝ }
+    ensures { λ _. ⌜ now (out .exit) ≡ remainder p (r .0) ∷ remainder p (r .0 *ℤ r .0) ∷ drop 2 (now (out .entry)) ⌝ }
 {
     value_cell(out, p, r);
-    value_cell(&mut out[1..], p, r * r);
+    let square = whole_product(r, r);
+    value_cell(&mut out[1..], p, square);
 }
 
 // The groups over v less the square of r, and over what is left from v up to the last number before the next square.
-fn rest_cells(out: &mut [u32], v: i64, r: i64, b: u32, k: usize)
-    requires { ⌜ (0 < b) × (k + k ≤ length (now out)) × Bounded valueBound v × Bounded valueBound r ⌝ }
-    ensures { λ _. ⌜ now (out .exit) ≡ restCells b k v r ++ drop (k + k) (now (out .entry)) ⌝ }
+fn rest_cells(out: &mut [u32], v: Whole, r: Whole, b: u32, k: usize)
+    requires { ⌜ (0 < b) × (k + k ≤ length (now out)) × Bounded valueBound (v .0) × Bounded valueBound (r .0) ⌝ }
+    ensures { λ _. ⌜ now (out .exit) ≡ restCells b k (v .0) (r .0) ++ drop (k + k) (now (out .entry)) ⌝ }
 {
-    let q = r * r;
-    let above = v - q;
-    let below = q + 2 * r - v;
+    let q = whole_product(r, r);
+    let above = whole_difference(v, q);
+    let twice = whole_product(whole_of(2), r);
+    let below = whole_difference(whole_sum(q, twice), v);
     two_groups(out, above, below, b, k);
 }
 
@@ -122,13 +132,13 @@ fn root_rows(table: &[u32], p: u32, place: Cell, at: Cell, b: u32, k: usize) -> 
 {
     let value = residue_at(table, place);
     let root = residue_at(table, at);
-    let square = residue_at(table, Cell(at.0 + 1));
+    let square = residue_at(table, cell_after(at, 1));
     let squared = product(root, root, p);
     let over = difference(value, square, p);
     let twice = sum(root, root, p);
     let under = difference(sum(square, twice, p), value, p);
-    let later = four_groups(table, value, root, over, under, Cell(at.0 + 2), b, k);
-    row_before(squared.0 == square.0, 0, later)
+    let later = four_groups(table, value, root, over, under, cell_after(at, 2), b, k);
+    row_before(is_same(squared, square), 0, later)
 }
 
 // The four groups, after one row, over the forms A to D that leave these remainders modulo some p.
@@ -148,9 +158,9 @@ fn four_groups(
         → rowsMeaning r ≡ firstRefusal (holds p (now (table .entry))) 1 (fourGroups A B C D (at .0) b k)) ⌝ }
 {
     let first = group_rows(table, value, 1, at, b, k);
-    let second = group_rows(table, root, k + 2, Cell(at.0 + k), b, k);
-    let third = group_rows(table, over, 2 * k + 3, Cell(at.0 + 2 * k), b, k);
-    let fourth = group_rows(table, under, 3 * k + 4, Cell(at.0 + 3 * k), b, k);
+    let second = group_rows(table, root, k + 2, cell_after(at, k), b, k);
+    let third = group_rows(table, over, 2 * k + 3, cell_after(at, 2 * k), b, k);
+    let fourth = group_rows(table, under, 3 * k + 4, cell_after(at, 3 * k), b, k);
     let last_two = rows_before(third, fourth);
     rows_before(first, rows_before(second, last_two))
 }

@@ -6,12 +6,15 @@ use groups::group::power_of;
 use groups::named::one_place;
 use groups::named::one_value;
 use groups::rows::Rows;
-use groups::rows::residue_at;
 use groups::value::Worked;
 use number::Cell;
 use number::Whole;
 use number::residue::difference;
 use number::residue::remainder_of;
+use number::residue::residue_at;
+use number::whole::whole_at;
+use number::whole::whole_sum;
+use number::whole::wide_whole;
 use number::whole::within;
 ghost use mathlib.Core.Path.{_≡_};
 ghost use mathlib.Core.Bool.{cond};
@@ -35,12 +38,13 @@ ghost use Rattle.table.specs.LineRows.{RowsGiven, RowsYield};
 // ---- working
 
 // Of every b and k with the power c.
-fn span_works(v: i64, c: u64, shift: i64) -> Worked
-    requires { ⌜ (0 < c) × (c ≤ powerBound) × Bounded powerBound shift ⌝ }
-    ensures { λ r. ⌜ ((b k : ℕ) → c ≡ b ^ k → workedMeaning r ≡ cond (between shift v (spanTop b k shift)) (value []) (refusedBy 18)) ⌝ }
+fn span_works(v: Whole, c: u64, shift: Whole) -> Worked
+    requires { ⌜ (0 < c) × (c ≤ powerBound) × Bounded powerBound (shift .0) ⌝ }
+    ensures { λ r. ⌜ ((b k : ℕ) → c ≡ b ^ k
+        → workedMeaning r ≡ cond (between (shift .0) (v .0) (spanTop b k (shift .0))) (value []) (refusedBy 18)) ⌝ }
 {
-    let top = shift + (c - 1) as i64;
-    if within(Whole(shift), Whole(v), Whole(top)) {
+    let top = whole_sum(shift, wide_whole(c - 1));
+    if within(shift, v, top) {
         Worked::NoValue
     } else {
         Worked::False
@@ -53,7 +57,7 @@ pub fn span_line_works(numbers: &[i64], values: &[i64]) -> Worked
 {
     let read = one_value(numbers, values);
     let c = power_of(read.base, read.count);
-    span_works(read.value, c, numbers[3])
+    span_works(read.value, c, whole_at(numbers, 3))
 }
 
 // ---- cells
@@ -65,18 +69,24 @@ pub fn span_line_cells(numbers: &[i64], values: &[i64], part: &mut [u32])
         → CellsYield p span (now (numbers .entry)) 4 (now (values .entry)) known (now (part .entry)) (now (part .exit))) ⌝ }
 {
     let read = one_value(numbers, values);
-    form_cells(part, read.value, numbers[3], read.base, read.count);
+    form_cells(
+        part,
+        read.value,
+        whole_at(numbers, 3),
+        read.base,
+        read.count,
+    );
 }
 
 // ---- rows
 
-fn span_rows(table: &[u32], p: u32, place: Cell, at: Cell, b: u32, k: usize, shift: i64) -> Rows
+fn span_rows(table: &[u32], p: u32, place: Cell, at: Cell, b: u32, k: usize, shift: Whole) -> Rows
     requires { ⌜ (0 < p) × Below p (now table) × (place .0 < length (now table)) × (at .0 + k ≤ length (now table))
         × GroupOf b k (b ^ k) × (b ^ k ≤ p) ⌝ }
     ensures { λ r. ⌜ ((s : Known) (v : ℕ) → s .p ≡ p → placeOf s v ≡ place .0 → s .cells ≡ at .0
-        → rowsMeaning r ≡ firstRefusal (holds p (now (table .entry))) 0 (spanLine s v b k shift .rows)) ⌝ }
+        → rowsMeaning r ≡ firstRefusal (holds p (now (table .entry))) 0 (spanLine s v b k (shift .0) .rows)) ⌝ }
 {
-    let lowest = remainder_of(Whole(shift), p);
+    let lowest = remainder_of(shift, p);
     let number = difference(residue_at(table, place), lowest, p);
     group_rows(table, number, 0, at, b, k)
 }
@@ -86,5 +96,13 @@ pub fn span_line_rows(numbers: &[i64], table: &[u32], p: u32, at: Cell, places: 
     ensures { λ r. ⌜ RowsYield p span (now (numbers .entry)) 4 (now (table .entry)) (at .0) (now (places .entry)) r ⌝ }
 {
     let read = one_place(numbers, places);
-    span_rows(table, p, read.place, at, read.base, read.count, numbers[3])
+    span_rows(
+        table,
+        p,
+        read.place,
+        at,
+        read.base,
+        read.count,
+        whole_at(numbers, 3),
+    )
 }

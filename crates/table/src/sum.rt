@@ -2,16 +2,19 @@
 // modulo p.
 use groups::numbers::place_at;
 use groups::rows::Rows;
-use groups::rows::residue_at;
 use groups::rows::row_before;
 use groups::value::Worked;
 use groups::value::value_named;
 use number::Cell;
-use number::Residue;
 use number::Whole;
+use number::residue::is_same;
 use number::residue::product;
 use number::residue::remainder_of;
+use number::residue::residue_at;
 use number::residue::sum;
+use number::whole::whole_at;
+use number::whole::whole_product;
+use number::whole::whole_sum;
 ghost use mathlib.Core.Path.{_≡_};
 ghost use Prim.Native.Nat.{_<_, ℕ, _%_, _≤_};
 ghost use lib.IntN.{ℤ};
@@ -29,16 +32,16 @@ ghost use Rattle.table.specs.LineRows.{RowsGiven, RowsYield};
 // ---- working
 
 // The first count numbers are the line's, and the first n values, for some n, are those before it.
-fn sum_works(numbers: &[i64], count: usize, values: &[i64]) -> i64
+fn sum_works(numbers: &[i64], count: usize, values: &[i64]) -> Whole
     requires { ⌜ ((n : ℕ) × SumGiven (now numbers) count (now values) n) ⌝ }
     ensures { λ r. ⌜ ((n : ℕ) → SumGiven (now (numbers .entry)) count (now (values .entry)) n
-        → r ≡ sumOf (take count (now (numbers .entry))) (take n (now (values .entry)))) ⌝ }
+        → r .0 ≡ sumOf (take count (now (numbers .entry))) (take n (now (values .entry)))) ⌝ }
 {
-    let mut total = numbers[0];
+    let mut total = whole_at(numbers, 0);
     let mut i: usize = 1;
     while i < count - 1 {
         let value = value_named(numbers, i + 1, values);
-        total += numbers[i] * value;
+        total = whole_sum(total, whole_product(whole_at(numbers, i), value));
         i += 2;
     }
     total
@@ -61,17 +64,17 @@ fn sum_rows(table: &[u32], p: u32, at: Cell, numbers: &[i64], count: usize, plac
         → NamesBelow n (now (numbers .entry)) count → rowsMeaning r ≡ firstRefusal (holds p (now (table .entry))) 0
         (sumLine s (numberAt (take count (now (numbers .entry))) 0) (termsOf (withoutFirst (take count (now (numbers .entry))))) .rows)) ⌝ }
 {
-    let mut total = remainder_of(Whole(numbers[0]), p).0;
+    let mut total = remainder_of(whole_at(numbers, 0), p);
     let mut i: usize = 1;
     while i < count {
-        let factor = remainder_of(Whole(numbers[i]), p);
+        let factor = remainder_of(whole_at(numbers, i), p);
         let place = place_at(numbers, i + 1, places);
         let part = product(factor, residue_at(table, place), p);
-        total = sum(Residue(total), part, p).0;
+        total = sum(total, part, p);
         i += 2;
     }
     let made = residue_at(table, at);
-    row_before(made.0 == total, 0, Rows::AllHold)
+    row_before(is_same(made, total), 0, Rows::AllHold)
 }
 
 pub fn sum_line_rows(

@@ -4,16 +4,22 @@ use groups::group::power_of;
 use groups::named::two_places;
 use groups::named::two_values;
 use groups::rows::Rows;
-use groups::rows::residue_at;
 use groups::sign::sign_rows;
 use groups::sign::sign_works;
 use groups::sign::signed_cells;
 use groups::sign::top_part;
 use groups::value::Worked;
 use number::Cell;
-use number::Residue;
+use number::Whole;
+use number::cell::cell_after;
 use number::residue::difference;
+use number::residue::is_same;
+use number::residue::own_residue;
+use number::residue::residue_at;
 use number::residue::sum;
+use number::whole::is_at_most;
+use number::whole::whole_difference;
+use number::whole::whole_of;
 ghost use mathlib.Core.Path.{_≡_};
 ghost use mathlib.Core.Bool.{cond};
 ghost use mathlib.Core.List.{[], _∷_};
@@ -35,17 +41,22 @@ ghost use Rattle.table.specs.LineRows.{RowsGiven, RowsYield};
 
 // ---- working
 
-fn which_value(u: i64, v: i64) -> i64
-    ensures { λ r. ⌜ r ≡ whichValue u v ⌝ }
+fn which_value(u: Whole, v: Whole) -> Whole
+    ensures { λ r. ⌜ r .0 ≡ whichValue (u .0) (v .0) ⌝ }
 {
-    if v <= u { 0 } else { 1 }
+    if is_at_most(v, u) {
+        whole_of(0)
+    } else {
+        whole_of(1)
+    }
 }
 
-fn which_works(u: i64, v: i64, b: u32, c: u64) -> Worked
-    requires { ⌜ (0 < b) × (c ≤ powerBound) × Bounded valueBound u × Bounded valueBound v ⌝ }
-    ensures { λ r. ⌜ ((k : ℕ) → 1 ≤ k → c ≡ b ^ k → workedMeaning r ≡ cond (signStatement b k (u -ℤ v)) (value (whichValue u v ∷ [])) (refusedBy 18)) ⌝ }
+fn which_works(u: Whole, v: Whole, b: u32, c: u64) -> Worked
+    requires { ⌜ (0 < b) × (c ≤ powerBound) × Bounded valueBound (u .0) × Bounded valueBound (v .0) ⌝ }
+    ensures { λ r. ⌜ ((k : ℕ) → 1 ≤ k → c ≡ b ^ k
+        → workedMeaning r ≡ cond (signStatement b k (u .0 -ℤ v .0)) (value (whichValue (u .0) (v .0) ∷ [])) (refusedBy 18)) ⌝ }
 {
-    if sign_works(u - v, b, c) {
+    if sign_works(whole_difference(u, v), b, c) {
         Worked::Value(which_value(u, v))
     } else {
         Worked::False
@@ -71,7 +82,7 @@ pub fn which_line_cells(numbers: &[i64], p: u32, values: &[i64], part: &mut [u32
     let read = two_values(numbers, values);
     let c = power_of(read.base, read.count);
     let y = which_value(read.first, read.second);
-    let x = read.first - read.second;
+    let x = whole_difference(read.first, read.second);
     signed_cells(part, p, y, x, read.base, read.count, c);
 }
 
@@ -93,10 +104,18 @@ fn which_rows(
 {
     let apart = difference(residue_at(table, place_u), residue_at(table, place_v), p);
     let number = sum(apart, top_part(b, k), p);
-    let flag = residue_at(table, Cell(at.0 + 1 + k));
-    let other = difference(Residue(1), flag, p);
+    let flag = residue_at(table, cell_after(at, 1 + k));
+    let other = difference(own_residue(1), flag, p);
     let made = residue_at(table, at);
-    sign_rows(table, p, number, made.0 == other.0, Cell(at.0 + 1), b, k)
+    sign_rows(
+        table,
+        p,
+        number,
+        is_same(made, other),
+        cell_after(at, 1),
+        b,
+        k,
+    )
 }
 
 pub fn which_line_rows(numbers: &[i64], table: &[u32], p: u32, at: Cell, places: &[u16]) -> Rows

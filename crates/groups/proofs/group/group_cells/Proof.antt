@@ -16,8 +16,10 @@ loop-holds c = filling-start _ _ _ _
 
 loop-again : tie.Need-loop-again Inv-loop μ-loop
 loop-again c =
-    let at-test = c .before .before in
-    rw (c .divided .ensures, c .before .digit .ensures)
+    let written = c .before .before .before in
+    let at-cell = written .before .before in
+    let at-test = at-cell .before .before in
+    rw (c .divided .ensures, written .set-residue .ensures, at-cell .nth-cell .ensures, written .before .digit .ensures)
     (filling-turn _ _ _ (at-test .before .loop .inv) (at-test .loop-test .taken) (at-test .before .before .before .pre .1))
 
 returns : tie.Need-returns Inv-loop μ-loop
@@ -31,8 +33,8 @@ group-cells-spec =
     μ-loop
     loop-holds
     (λ c κs. search needs)
-    (λ c. search needs)
-    (λ c. search needs)
+    (λ c κs. search needs)
+    (λ c κs. search needs)
     (λ c κs. search needs)
     (λ c. search needs)
     (λ c. search needs)

@@ -1,21 +1,11 @@
--- `groups::numbers::base_at`: a base is not negative and small, so that it goes into a machine word.
-use borrow.Author.Needs.{needs}
-use lib.IntN.{pos}
-use lib.ListN.{getD}
-use mir.Syntax.{w64}
-use mir.Val.{SFits}
+-- `groups::numbers::base_at`: a base is small, so that it goes into a machine word.
 use native.Mathlib.Omega.{arith}
-use Rattle.number.proofs.Word.{back}
-use Rattle.groups.proofs.Whole.{cast-narrow}
+use borrow.Author.Needs.{needs}
 use Rattle.groups.proofs.numbers.base_at.Statement.{statement}
 use Rattle.groups.proofs.numbers.base_at.Tie as tie
 
 cast-result : tie.Need-cast-result
-cast-result c =
-    let start = c .before in
-    let z = getD (start .args .numbers .now) (start .args .at) (pos 0) in
-    let fits : SFits w64 z = search needs in
-    rw (back fits) (cast-narrow z (start .pre .1) (omega (arith, start .pre .2)))
+cast-result c = omega (arith, c .size-at .ensures, c .before .pre .2)
 
 pub base-at-spec : {M : Type 1} → statement M
-base-at-spec = tie.close (tie.spec (λ c. search needs) (λ c. search needs) cast-result (λ c. search needs))
+base-at-spec = tie.close (tie.spec (λ c κs. search needs) cast-result (λ c. search needs))

@@ -6,7 +6,6 @@ use native.Mathlib.Omega.{arith}
 use Rattle.meaning.specs.Number.{remainder}
 use Rattle.meaning.specs.Gadget.Sign.{signCells}
 use Rattle.meaning.proofs.Part.{written-after}
-use Rattle.number.proofs.Word.{back}
 use borrow.Author.Needs.{needs}
 use Rattle.groups.proofs.sign.signed_cells.Statement.{statement}
 use Rattle.groups.proofs.sign.signed_cells.Tie as tie
@@ -15,14 +14,13 @@ returns : tie.Need-returns
 returns c =
     let last = c .before .before in
     let first = last .before .before .before .before in
-    let s = first .before .before .before in
-    let a = s .args in
+    let a = first .before .before .before .args in
     written-after 1 (a .k + 2) (a .k + 3) _ _ _
-    (remainder (a .p) (a .y) ∷ [])
-    (signCells (a .p) (a .b) (a .k) (a .x))
+    (remainder (a .p) (a .y .0) ∷ [])
+    (signCells (a .p) (a .b) (a .k) (a .x .0))
     refl
-    (rw (back (s .fits .y)) at (first .value-cell .ensures))
-    (rw (back (s .fits .x)) at (last .sign-cells .ensures))
+    (first .value-cell .ensures)
+    (last .sign-cells .ensures)
     (omega arith)
 
 pub signed-cells-spec : {M : Type 1} → statement M

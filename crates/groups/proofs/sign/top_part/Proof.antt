@@ -28,11 +28,11 @@ below c = let g = c .before .pre in top-below g (c .before .args .k) (g .some-di
 mul-top : tie.Need-mul-top
 mul-top c = omega (arith, is c, below c, c .before .pre .small)
 
-cast-t6 : tie.Need-cast-t6
-cast-t6 c = omega (arith, is c, below c, c .before .pre .small)
+cast-own-residue : tie.Need-cast-own-residue
+cast-own-residue c = omega (arith, is c, below c, c .before .pre .small)
 
 returns : tie.Need-returns
-returns c p h = is c ∙ sym (remainder-of-residue p _ (omega (arith, below c)))
+returns c p h = c .own-residue .ensures ∙ is (c .before) ∙ sym (remainder-of-residue p _ (omega (arith, below (c .before))))
 
 pub top-part-spec : {M : Type 1} → statement M
-top-part-spec = tie.close (tie.spec (λ c. search needs) power-of-requires (λ c. search needs) (λ c. search needs) mul-top cast-t6 returns)
+top-part-spec = tie.close (tie.spec (λ c. search needs) power-of-requires (λ c. search needs) (λ c. search needs) mul-top cast-own-residue (λ c κs. search needs) returns)

@@ -3,9 +3,6 @@ use mathlib.Core.Path.{ap, _∙_}
 use Prim.Native.Nat.{ℕ}
 use lib.IntN.{pos}
 use lib.ListN.{getD}
-use mir.Syntax.{w64}
-use mir.Val.{SFits}
-use Rattle.number.proofs.Word.{back}
 use borrow.Author.Needs.{needs}
 use Rattle.groups.proofs.value.value_named.Statement.{statement}
 use Rattle.groups.proofs.value.value_named.Tie as tie
@@ -13,9 +10,7 @@ use Rattle.groups.proofs.value.value_named.Tie as tie
 returns : tie.Need-returns
 returns c =
     let values = c .before .before .args .values .now in
-    let f : SFits w64 (getD values (c .before .size-at .result) (pos 0)) = search needs in
-    back f ∙ ap (λ (i : ℕ). getD values i (pos 0)) (c .before .size-at .ensures)
+    c .whole-at .ensures ∙ ap (λ (i : ℕ). getD values i (pos 0)) (c .before .size-at .ensures)
 
 pub value-named-spec : {M : Type 1} → statement M
-value-named-spec =
-    tie.close (tie.spec (λ c κs. search needs) (λ c. search needs) (λ c. search needs) returns)
+value-named-spec = tie.close (tie.spec (λ c κs. search needs) (λ c κs. search needs) returns)

@@ -3,12 +3,12 @@ use mathlib.Core.Path.{refl}
 use Prim.Native.Nat.{_+_, _-_, _<_}
 use lib.ListN.{length}
 use denote.Ref.{now}
-use borrow.Author.Needs.{needs}
 use Rattle.meaning.specs.Machine.{pastU64}
 use Rattle.service.specs.Reply.{replyMeaning}
 use Rattle.service.proofs.Standing.{keeps-rules}
 use Rattle.service.proofs.Places.{placed-next}
 use Rattle.service.proofs.Checked.{Checking, checking-first, checking-end, checking-fails, checking-next, row-inside, row-fits, at-line, rows-given}
+use borrow.Author.Needs.{needs}
 use Rattle.service.proofs.checking.check_rows.Statement.{statement}
 use Rattle.service.proofs.checking.check_rows.Tie as tie
 
@@ -20,8 +20,8 @@ abbrev μ-loop : tie.MeasureT-loop
 
 loop-holds : tie.Need-loop-holds Inv-loop μ-loop
 loop-holds c =
-    let S = c .before .before in
-    checking-first (now (S .args .list)) (now (S .args .table)) (S .args .p) _ _ refl refl (S .pre)
+    let S = c .before .before .before in
+    rw (c .counts-of .ensures) (checking-first (now (S .args .list)) (now (S .args .table)) (S .args .p) _ _ refl refl (S .pre))
 
 take-line-requires : tie.Need-take-line-requires Inv-loop μ-loop
 take-line-requires c κs =
@@ -30,42 +30,42 @@ take-line-requires c κs =
 
 line-rows-requires : tie.Need-line-rows-requires Inv-loop μ-loop
 line-rows-requires c κs =
-    let w = c .before .before .before .before .before .before .loop .inv in
-    let inside = c .before .before .before .before .before .loop-test .taken in
-    let took = c .before .before .before .take-line .ensures .0 (at-line w inside) in
+    let w = c .before .before .before .before .before .before .before .loop .inv in
+    let inside = c .before .before .before .before .before .before .loop-test .taken in
+    let took = c .before .before .before .before .take-line .ensures .0 (at-line w inside) in
     rows-given w inside took
 
 add-t23 : tie.Need-add-t23 Inv-loop μ-loop
 add-t23 c =
-    let w = c .before .before .before .before .before .before .before .before .before .before .before .loop .inv in
-    let inside = c .before .before .before .before .before .before .before .before .before .before .loop-test .taken in
-    let took = c .before .before .before .before .before .before .before .before .take-line .ensures .0 (at-line w inside) in
+    let w = c .before .before .before .before .before .before .before .before .before .before .before .before .loop .inv in
+    let inside = c .before .before .before .before .before .before .before .before .before .before .before .loop-test .taken in
+    let took = c .before .before .before .before .before .before .before .before .before .take-line .ensures .0 (at-line w inside) in
     let yields = c .before .before .before .before .line-rows .ensures (rows-given w inside took) in
     let row = row-inside w _ _ (took .left-is) _ yields _ (c .before .before .rows .given .1) in
-    let small : c .before .before .before .before .before .before .before .before .before .before .before .loop .counts .rows + c .before .before .rows .given .0 .0 < pastU64 = row-fits w _ (keeps-rules took) row in
+    let small : c .before .before .before .before .before .before .before .before .before .before .before .before .loop .counts .rows + c .before .before .rows .given .0 .0 < pastU64 = row-fits w _ (keeps-rules took) row in
     search (needs, small)
 
 returns : tie.Need-returns Inv-loop μ-loop
 unfolding replyMeaning
 returns c =
-    let w = c .before .before .before .before .before .before .before .before .before .before .before .loop .inv in
-    let inside = c .before .before .before .before .before .before .before .before .before .before .loop-test .taken in
-    let took = c .before .before .before .before .before .before .before .before .take-line .ensures .0 (at-line w inside) in
+    let w = c .before .before .before .before .before .before .before .before .before .before .before .before .loop .inv in
+    let inside = c .before .before .before .before .before .before .before .before .before .before .before .loop-test .taken in
+    let took = c .before .before .before .before .before .before .before .before .before .take-line .ensures .0 (at-line w inside) in
     let yields = c .before .before .before .before .line-rows .ensures (rows-given w inside took) in
     checking-fails w _ _ (took .left-is) _ yields _ (c .before .before .rows .given .1)
 
 take-place-requires : tie.Need-take-place-requires Inv-loop μ-loop
 take-place-requires c κs =
-    let w = c .before .before .before .before .before .before .before .before .before .before .before .loop .inv in
-    let inside = c .before .before .before .before .before .before .before .before .before .before .loop-test .taken in
-    let took = c .before .before .before .before .before .before .before .before .take-line .ensures .0 (at-line w inside) in
+    let w = c .before .before .before .before .before .before .before .before .before .before .before .before .loop .inv in
+    let inside = c .before .before .before .before .before .before .before .before .before .before .before .loop-test .taken in
+    let took = c .before .before .before .before .before .before .before .before .before .take-line .ensures .0 (at-line w inside) in
     (w .placed .long, w .stands .few, took .next .few .values-most)
 
 loop-again : tie.Need-loop-again Inv-loop μ-loop
 loop-again c =
-    let w = c .before .before .before .before .before .before .before .before .before .before .before .before .before .loop .inv in
-    let inside = c .before .before .before .before .before .before .before .before .before .before .before .before .loop-test .taken in
-    let took = c .before .before .before .before .before .before .before .before .before .before .take-line .ensures .0 (at-line w inside) in
+    let w = c .before .before .before .before .before .before .before .before .before .before .before .before .before .before .loop .inv in
+    let inside = c .before .before .before .before .before .before .before .before .before .before .before .before .before .loop-test .taken in
+    let took = c .before .before .before .before .before .before .before .before .before .before .before .take-line .ensures .0 (at-line w inside) in
     let yields = c .before .before .before .before .before .before .line-rows .ensures (rows-given w inside took) in
     let placed = placed-next _ _ _ _ _ _ (w .stands .sound) (keeps-rules took) (w .placed) (w .stands .counted) (took .next .counted) (took .one-more)
     (took .next .few .values-most) in
@@ -81,6 +81,7 @@ check-rows-spec =
     (tie.spec
     Inv-loop
     μ-loop
+    (λ c κs. search needs)
     loop-holds
     (λ c. search needs)
     take-line-requires

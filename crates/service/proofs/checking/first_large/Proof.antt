@@ -2,11 +2,11 @@
 use mathlib.Core.Path.{sym, ap, _∙_}
 use Prim.Native.Nat.{_-_, _<_}
 use lib.ListN.{length}
-use borrow.Author.Needs.{needs}
 use Rattle.meaning.specs.Reply.{isCell, refusalAt}
 use Rattle.service.specs.Check.{cellsMeaning}
 use Rattle.service.proofs.Scan.{Scanned, all-none, scanned-none, scan-inside, scan-here, scan-next}
 use Rattle.service.proofs.Checked.{cell-large, cell-below}
+use borrow.Author.Needs.{needs}
 use Rattle.service.proofs.checking.first_large.Statement.{statement}
 use Rattle.service.proofs.checking.first_large.Tie as tie
 
@@ -36,8 +36,9 @@ loop-again c =
 returns-2 : tie.Need-returns-2 Inv-loop μ-loop
 unfolding cellsMeaning refusalAt
 returns-2 c =
-    let scanned = c .before .before .loop .inv in
-    ap (refusalAt 14) (scan-here _ _ _ _ (scanned .1) (scanned .0) (cell-large _ _ (c .if2 .left)))
+    let at-cell = c .before in
+    let scanned = at-cell .before .before .loop .inv in
+    rw (c .nth-cell .ensures) (ap (refusalAt 14) (scan-here _ _ _ _ (scanned .1) (scanned .0) (cell-large _ _ (at-cell .if2 .left))))
 
 pub first-large-spec : {M : Type 1} → statement M
 first-large-spec =
@@ -53,4 +54,5 @@ first-large-spec =
     (λ c. search needs)
     (λ c. search needs)
     loop-again
+    (λ c κs. search needs)
     returns-2)

@@ -1,18 +1,15 @@
 -- `service::making::first_outside`: the inputs are looked at from the first on.
-use mathlib.Core.Path.{sym, ap, _∙_}
+use mathlib.Core.Path.{_≡_, sym, ap, _∙_}
 use Prim.Native.Nat.{_-_}
 use lib.IntN.{pos}
 use lib.ListN.{length, getD}
-use mir.Syntax.{w64}
-use mir.Val.{SFits}
 use denote.Ref.{now}
-use borrow.Author.Needs.{needs}
 use borrow.Author.Tests.{not-true, not-false}
 use Rattle.meaning.specs.Number.{inRange}
 use Rattle.meaning.specs.Reply.{refusalAt}
-use Rattle.number.proofs.Word.{back}
 use Rattle.service.specs.Make.{inputsMeaning}
 use Rattle.service.proofs.Scan.{Scanned, scanned-none, scan-end, scan-here, scan-next}
+use borrow.Author.Needs.{needs}
 use Rattle.service.proofs.making.first_outside.Statement.{statement}
 use Rattle.service.proofs.making.first_outside.Tie as tie
 
@@ -25,20 +22,32 @@ abbrev μ-loop : tie.MeasureT-loop
 loop-holds : tie.Need-loop-holds Inv-loop μ-loop
 loop-holds c = scanned-none _ _ _
 
+-- the test of the input at this place
+tested : (c : tie.After-in-range Inv-loop μ-loop) → let at-loop = c .before .before .before in
+    let a = at-loop .before .args in
+    inRange (a .p) (getD (now (a .inputs)) (at-loop .loop .i) (pos 0)) ≡ c .in-range .result
+tested c = sym (rw (c .before .whole-at .ensures) at (c .in-range .ensures))
+
 returns : tie.Need-returns Inv-loop μ-loop
 unfolding inputsMeaning refusalAt
 returns c =
-    let f : SFits w64 (getD (now (c .before .before .before .before .before .args .inputs)) (c .before .before .before .before .loop .i) (pos 0)) = search needs in
-    ap (refusalAt 17) (scan-here (inRange (c .before .before .before .before .before .args .p)) (pos 0) (now (c .before .before .before .before .before .args .inputs)) _ (c .before .before .before .before .loop .inv) (c .before .before .before .loop-test .taken) (rw (back f) at (sym (c .before .in-range .ensures) ∙ not-true _ (c .if1 .taken))))
+    let at-test = c .before .before .before in
+    let a = at-test .before .before .args in
+    ap (refusalAt 17) (scan-here (inRange (a .p)) (pos 0) (now (a .inputs)) _ (at-test .before .loop .inv) (at-test .loop-test .taken)
+    (tested (c .before) ∙ not-true _ (c .if1 .taken)))
 
 loop-again : tie.Need-loop-again Inv-loop μ-loop
 loop-again c =
-    let f : SFits w64 (getD (now (c .before .before .before .before .before .args .inputs)) (c .before .before .before .before .loop .i) (pos 0)) = search needs in
-    scan-next (inRange (c .before .before .before .before .before .args .p)) (pos 0) (now (c .before .before .before .before .before .args .inputs)) _ (c .before .before .before .before .loop .inv) (c .before .before .before .loop-test .taken) (rw (back f) at (sym (c .before .in-range .ensures) ∙ not-false _ (c .if1 .left)))
+    let at-test = c .before .before .before in
+    let a = at-test .before .before .args in
+    scan-next (inRange (a .p)) (pos 0) (now (a .inputs)) _ (at-test .before .loop .inv) (at-test .loop-test .taken)
+    (tested (c .before) ∙ not-false _ (c .if1 .left))
 
 returns-2 : tie.Need-returns-2 Inv-loop μ-loop
 unfolding inputsMeaning refusalAt
-returns-2 c = ap (refusalAt 17) (scan-end (inRange (c .before .before .args .p)) (pos 0) (now (c .before .before .args .inputs)) _ (c .before .loop .inv) (c .loop-test .left))
+returns-2 c =
+    let a = c .before .before .args in
+    ap (refusalAt 17) (scan-end (inRange (a .p)) (pos 0) (now (a .inputs)) _ (c .before .loop .inv) (c .loop-test .left))
 
 pub first-outside-spec : {M : Type 1} → statement M
 first-outside-spec =
@@ -47,8 +56,7 @@ first-outside-spec =
     Inv-loop
     μ-loop
     loop-holds
-    (λ c. search needs)
-    (λ c. search needs)
+    (λ c κs. search needs)
     (λ c κs. search needs)
     returns
     (λ c. search needs)

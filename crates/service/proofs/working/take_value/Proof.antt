@@ -1,32 +1,22 @@
 -- `service::working::take_value`: one value is written where the line makes one, and none else.
-use mathlib.Core.Path.{sym, ap}
-use mir.Syntax.{w64}
-use mir.Val.{SFits}
+use mathlib.Core.Path.{sym, ap, _∙_}
 use denote.Ref.{now}
-use Rattle.number.proofs.Word.{back}
 use Rattle.service.specs.Make.{withValue, isTrue}
 use Rattle.groups.specs.declared.value.Worked.{Worked}
 use borrow.Author.Needs.{needs}
 use Rattle.service.proofs.working.take_value.Statement.{statement}
 use Rattle.service.proofs.working.take_value.Tie as tie
 
-mul-z : tie.Need-mul-z
-mul-z c =
-    let inside = c .before .before .before .pre _ (c .before .worked .given .1) in
-    search (needs, inside)
-
-slice-set-from-z : tie.Need-slice-set-from-z
-slice-set-from-z c =
-    let inside = c .before .before .before .pre _ (c .before .worked .given .1) in
-    search (needs, inside)
+set-whole-requires : tie.Need-set-whole-requires
+set-whole-requires c κs = c .before .before .before .before .pre _ (c .before .before .worked .given .1)
 
 returns : tie.Need-returns
 unfolding withValue isTrue
 returns c =
-    let S = c .before .before .before in
-    let is = c .before .worked .given .1 in
-    let f : SFits w64 (c .before .worked .given .0 .0) = search needs in
-    (sym (ap isTrue is), rw (back f) (sym (ap (λ (w : Worked). withValue (now (S .args .values)) (S .args .at) w) is)))
+    let written = c .before in
+    let S = written .before .before .before .before .before in
+    let is = written .before .before .before .worked .given .1 in
+    (sym (ap isTrue is), written .set-whole .ensures ∙ sym (ap (λ (w : Worked). withValue (now (S .args .values)) (S .args .at) w) is))
 
 returns-2 : tie.Need-returns-2
 unfolding withValue isTrue
@@ -47,8 +37,7 @@ take-value-spec =
     tie.close
     (tie.spec
     (λ c. search needs)
-    mul-z
-    slice-set-from-z
+    set-whole-requires
     (λ c. search needs)
     (λ c. search needs)
     (λ c. search needs)

@@ -2,18 +2,15 @@
 use mathlib.Core.Path.{refl, sym, ap, _∙_}
 use Prim.Native.Nat.{_-_, _≤_}
 use lib.ListN.{length}
-use mir.Syntax.{w64}
-use mir.Val.{SFits}
 use denote.Ref.{now}
-use borrow.Author.Needs.{needs}
 use borrow.Author.Tests.{not-true, not-false}
-use Rattle.number.proofs.Word.{back}
 use Rattle.service.specs.Make.{isTrue}
 use Rattle.service.proofs.ReadList.{read-short}
 use Rattle.service.proofs.Worked.{WorkingOn, working-first, working-end, working-false, working-next, value-inside, at-line, values-given}
+use Rattle.meaning.specs.Refusal.{textLimit}
+use borrow.Author.Needs.{needs}
 use Rattle.service.proofs.working.work_lines.Statement.{statement}
 use Rattle.service.proofs.working.work_lines.Tie as tie
-use Rattle.meaning.specs.Refusal.{textLimit}
 
 abbrev Inv-loop : tie.InvT-loop
 Inv-loop list inputs values₀ numbers₀ counts₀ at₀ n₀ values numbers counts at n = WorkingOn list inputs numbers values counts at n
@@ -23,8 +20,8 @@ abbrev μ-loop : tie.MeasureT-loop
 
 loop-holds : tie.Need-loop-holds Inv-loop μ-loop
 loop-holds c =
-    let S = c .before in
-    working-first (now (S .args .list)) (now (S .args .inputs)) _ (now (S .args .values)) refl (S .pre .1) (S .pre .0)
+    let S = c .before .before in
+    rw (c .counts-of .ensures) (working-first (now (S .args .list)) (now (S .args .inputs)) _ (now (S .args .values)) refl (S .pre .1) (S .pre .0))
 
 take-line-requires : tie.Need-take-line-requires Inv-loop μ-loop
 take-line-requires c κs =
@@ -44,8 +41,7 @@ take-value-requires c κs z value =
     let w = c .before .before .before .before .before .before .before .before .before .loop .inv in
     let inside = c .before .before .before .before .before .before .before .before .loop-test .taken in
     let took = c .before .before .before .before .before .before .take-line .ensures .0 (at-line w inside) in
-    let fits : SFits w64 (c .before .before .before .before .input-at .result) = search needs in
-    let yields = rw (back fits, c .before .before .before .before .input-at .ensures) at (c .before .line-works .ensures (values-given w inside took)) in
+    let yields = rw (c .before .before .before .before .input-at .ensures) at (c .before .line-works .ensures (values-given w inside took)) in
     value-inside w _ _ (took .left-is) _ yields (ap isTrue value) (took .kept) z value
 
 returns : tie.Need-returns Inv-loop μ-loop
@@ -53,14 +49,13 @@ returns c =
     let w = c .before .before .before .before .before .before .before .before .before .before .before .before .loop .inv in
     let inside = c .before .before .before .before .before .before .before .before .before .before .before .loop-test .taken in
     let took = c .before .before .before .before .before .before .before .before .before .take-line .ensures .0 (at-line w inside) in
-    let fits : SFits w64 (c .before .before .before .before .before .before .before .input-at .result) = search needs in
-    let yields = rw (back fits, c .before .before .before .before .before .before .before .input-at .ensures) at (c .before .before .before .before .line-works .ensures (values-given w inside took)) in
+    let yields = rw (c .before .before .before .before .before .before .before .input-at .ensures) at (c .before .before .before .before .line-works .ensures (values-given w inside took)) in
     let answer = sym (c .before .before .take-value .ensures .0) ∙ not-true _ (c .if1 .taken) in
     (λ m. working-false w _ _ (took .left-is) _ yields answer m _, c .before .values .given ∙ w .values-long)
 
 add-n : tie.Need-add-n Inv-loop μ-loop
 add-n c =
-    let list = now (c .before .before .before .before .before .before .before .before .before .before .before .before .before .before .before .args .list) in
+    let list = now (c .before .before .before .before .before .before .before .before .before .before .before .before .before .before .before .before .args .list) in
     let w = c .before .before .before .before .before .before .before .before .before .before .before .before .before .loop .inv in
     let numbered : c .before .before .before .before .before .before .before .before .before .before .before .before .before .loop .n ≤ c .before .before .before .before .before .before .before .before .before .before .before .before .before .loop .at = w .stands .numbered in
     let inside : c .before .before .before .before .before .before .before .before .before .before .before .before .before .loop .at ≤ length list = w .stands .inside in
@@ -72,8 +67,7 @@ loop-again c =
     let w = c .before .before .before .before .before .before .before .before .before .before .before .before .before .loop .inv in
     let inside = c .before .before .before .before .before .before .before .before .before .before .before .before .loop-test .taken in
     let took = c .before .before .before .before .before .before .before .before .before .before .take-line .ensures .0 (at-line w inside) in
-    let fits : SFits w64 (c .before .before .before .before .before .before .before .before .input-at .result) = search needs in
-    let yields = rw (back fits, c .before .before .before .before .before .before .before .before .input-at .ensures) at (c .before .before .before .before .before .line-works .ensures (values-given w inside took)) in
+    let yields = rw (c .before .before .before .before .before .before .before .before .input-at .ensures) at (c .before .before .before .before .before .line-works .ensures (values-given w inside took)) in
     let answer = sym (c .before .before .before .take-value .ensures .0) ∙ not-false _ (c .before .if1 .left) in
     rw (c .before .before .before .take-value .ensures .1) (working-next w _ _ (took .left-is) _ yields answer (took .kept) _ (took .next) (took .long))
 
@@ -86,6 +80,7 @@ work-lines-spec =
     (tie.spec
     Inv-loop
     μ-loop
+    (λ c κs. search needs)
     loop-holds
     (λ c. search needs)
     take-line-requires

@@ -3,8 +3,8 @@ use mathlib.Core.Path.{refl, sym, _∙_}
 use Prim.Native.Nat.{_-_, _≤_}
 use lib.ListN.{length}
 use denote.Ref.{now}
-use borrow.Author.Needs.{needs}
 use Rattle.service.proofs.Written.{Writing, writing-first, table-long, writing-end, writing-next, at-line, first-inside, cells-given, made-stand, next}
+use borrow.Author.Needs.{needs}
 use Rattle.service.proofs.writing.write_lines.Statement.{statement}
 use Rattle.service.proofs.writing.write_lines.Tie as tie
 
@@ -16,34 +16,50 @@ abbrev μ-loop : tie.MeasureT-loop
 
 loop-holds : tie.Need-loop-holds Inv-loop μ-loop
 loop-holds c =
-    let S = c .before .before in
-    writing-first (now (S .args .list)) (S .args .p) (now (S .args .values)) (now (S .args .table)) _ refl (S .pre)
+    let S = c .before .before .before in
+    rw (c .counts-of .ensures) (writing-first (now (S .args .list)) (S .args .p) (now (S .args .values)) (now (S .args .table)) _ refl (S .pre))
 
 take-line-requires : tie.Need-take-line-requires Inv-loop μ-loop
 take-line-requires c κs =
     let w = c .before .before .loop .inv in
     (at-line w (c .before .loop-test .taken), w .numbers-long)
 
-first : (t : tie.After-take-line Inv-loop μ-loop) → t .before .before .before .loop .counts .cells ≤ length (t .before .before .before .loop .table)
-first t =
-    let w = t .before .before .before .loop .inv in
-    let inside = t .before .before .loop-test .taken in
-    first-inside w inside (t .take-line .ensures .0 (at-line w inside))
+-- the line's first cell is one of the table's
+first : (c : tie.After-cell-number Inv-loop μ-loop) → c .cell-number .result ≤ length (c .before .before .before .before .before .loop .table)
+first c =
+    let took = c .before .before in
+    let w = took .before .before .before .loop .inv in
+    let inside = took .before .before .loop-test .taken in
+    rw (c .cell-number .ensures) (first-inside w inside (took .take-line .ensures .0 (at-line w inside)))
+
+mul-line-cells : tie.Need-mul-line-cells Inv-loop μ-loop
+mul-line-cells c = search (needs, first (c .before))
+
+sub-line-cells : tie.Need-sub-line-cells Inv-loop μ-loop
+sub-line-cells c = search (needs, first (c .before))
+
+part-line-cells-start : tie.Need-part-line-cells-start Inv-loop μ-loop
+part-line-cells-start c = search (needs, first (c .before))
 
 line-cells-requires : tie.Need-line-cells-requires Inv-loop μ-loop
 line-cells-requires c κs =
-    let w = c .before .before .before .before .before .before .loop .inv in
-    let inside = c .before .before .before .before .before .loop-test .taken in
-    let took = c .before .before .before .take-line .ensures .0 (at-line w inside) in
-    cells-given w inside took
+    let at-cell = c .before .before in
+    let taken = at-cell .before .before in
+    let w = taken .before .before .before .loop .inv in
+    let inside = taken .before .before .loop-test .taken in
+    rw (at-cell .cell-number .ensures) (cells-given w inside (taken .take-line .ensures .0 (at-line w inside)))
 
 loop-again : tie.Need-loop-again Inv-loop μ-loop
 loop-again c =
-    let w = c .before .before .before .before .before .before .before .before .before .before .loop .inv in
-    let inside = c .before .before .before .before .before .before .before .before .before .loop-test .taken in
-    let took = c .before .before .before .before .before .before .before .take-line .ensures .0 (at-line w inside) in
-    let written = c .before .before .before .line-cells .ensures (cells-given w inside took) (next w _ _ (took .left-is) (took .kept)) (made-stand w _ _ (took .left-is) (took .kept)) in
-    writing-next w _ _ (took .left-is) (took .kept) _ _ written (took .next) (took .long)
+    let lent = c .before .before .before in
+    let at-cell = lent .before .before .before in
+    let taken = at-cell .before .before in
+    let w = taken .before .before .before .loop .inv in
+    let inside = taken .before .before .loop-test .taken in
+    let took = taken .take-line .ensures .0 (at-line w inside) in
+    let yields = rw (at-cell .cell-number .ensures) at (lent .line-cells .ensures) in
+    let written = yields (cells-given w inside took) (next w _ _ (took .left-is) (took .kept)) (made-stand w _ _ (took .left-is) (took .kept)) in
+    rw (at-cell .cell-number .ensures) (writing-next w _ _ (took .left-is) (took .kept) _ _ written (took .next) (took .long))
 
 same-length : tie.Need-same-length Inv-loop μ-loop
 same-length c =
@@ -60,13 +76,15 @@ write-lines-spec =
     (tie.spec
     Inv-loop
     μ-loop
+    (λ c κs. search needs)
     loop-holds
     (λ c. search needs)
     take-line-requires
+    (λ c κs. search needs)
     (λ c. search needs)
-    (λ c. search (needs, first (c .before .before)))
-    (λ c. search (needs, first (c .before .before)))
-    (λ c. search (needs, first (c .before .before)))
+    mul-line-cells
+    sub-line-cells
+    part-line-cells-start
     (λ c. search needs)
     line-cells-requires
     (λ c. search needs)

@@ -2,7 +2,6 @@
 use mathlib.Core.Path.{_≡_}
 use Rattle.text.specs.Word.{wordOf}
 use Rattle.text.specs.declared.Word.{Word as Coded}
-use Rattle.number.proofs.Word.{back}
 use Rattle.groups.specs.declared.value.Worked.{Worked}
 use Rattle.table.specs.LineValues.{ValuesGiven, WorkYield}
 use Rattle.table.proofs.LineWord.{countOf, at-kind, by-word}
@@ -16,18 +15,11 @@ module _ (s : tie.Start) {v : Coded} (is : s .args .word ≡ v) where
   given : ValuesGiven (wordOf v) (s .args .numbers .now) (countOf v (s .args .count)) (s .args .values .now)
   given = at-kind (λ u m. ValuesGiven u (s .args .numbers .now) m (s .args .values .now)) (s .args .count) is (s .pre .kept) (s .pre)
 
-  yields : (r : Worked) → WorkYield (wordOf v) (s .args .numbers .now) (countOf v (s .args .count)) (s .args .values .now) (s .args .next) r
-      → WorkYield (wordOf (s .args .word)) (s .args .numbers .now) (s .args .count) (s .args .values .now) (s .args .next) r
+  yields : (r : Worked) → WorkYield (wordOf v) (s .args .numbers .now) (countOf v (s .args .count)) (s .args .values .now) (s .args .next .0) r
+      → WorkYield (wordOf (s .args .word)) (s .args .numbers .now) (s .args .count) (s .args .values .now) (s .args .next .0) r
   yields r =
-      by-word (λ u m. WorkYield u (s .args .numbers .now) m (s .args .values .now) (s .args .next) r) (s .args .count) is
+      by-word (λ u m. WorkYield u (s .args .numbers .now) m (s .args .values .now) (s .args .next .0) r) (s .args .count) is
       (s .pre .kept)
-
-returns-2 : tie.Need-returns-2
-unfolding wordOf countOf
-returns-2 c =
-    let s = c .before .before .before in
-    yields s (c .before .enum-told2 .given .1)
-    _ (rw (back (s .fits .next)) at (c .input-line-works .ensures (s .args .numbers .now) (s .args .values .now)))
 
 pub line-works-spec : {M : Type 1} → statement M
 unfolding wordOf countOf
@@ -50,7 +42,7 @@ line-works-spec =
     (λ c. search needs)
     (λ c κs. given (c .before .before) (c .enum-told8 .given .1))
     (λ c. yields (c .before .before) (c .enum-told .given .1) _ (field-yield _ _ _))
-    returns-2
+    (λ c. yields (c .before .before .before) (c .before .enum-told2 .given .1) _ (c .input-line-works .ensures _ _))
     (λ c. yields (c .before .before .before) (c .before .enum-told3 .given .1) _ (c .span-line-works .ensures _))
     (λ c. yields (c .before .before .before) (c .before .enum-told4 .given .1) _ (c .sum-line-works .ensures _))
     (λ c. yields (c .before .before .before) (c .before .enum-told5 .given .1) _ (c .relu-line-works .ensures _))

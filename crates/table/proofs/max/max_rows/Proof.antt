@@ -1,11 +1,13 @@
 -- `table::max::max_rows`: the row of the product, and then the two groups.
+use mathlib.Core.Path.{_≡_}
+use Prim.Native.Nat.{_+_}
 use native.Mathlib.Omega.{arith}
 use lib.IntN.{pos}
-use borrow.Author.Needs.{needs}
 use Rattle.meaning.specs.Row.{cell, _⊖_}
 use Rattle.groups.specs.Rows.{Leaves}
 use Rattle.groups.proofs.RowsForm.{leaves-read, leaves-⊖, leaves-⊗, leaves-plain}
 use Rattle.table.proofs.RowsMax.{max-rows-are, max-answer}
+use borrow.Author.Needs.{needs}
 use Rattle.table.proofs.max.max_rows.Statement.{statement}
 use Rattle.table.proofs.max.max_rows.Tie as tie
 
@@ -37,10 +39,21 @@ difference-requires c κs = (y-is (c .before) .below, u-is c .below)
 difference-requires-2 : tie.Need-difference-requires-2
 difference-requires-2 c κs = (y-is (c .before .before .before) .below, v-is c .below)
 
+-- where the second group starts
+second-at : (c : tie.After-cell-after2) → let a = c .before .before .before .before .before .before .before .before .before .before .args in
+    c .cell-after2 .result .0 ≡ a .at .0 + 1 + a .k
+second-at c = omega (arith, c .cell-after2 .ensures)
+
+group-rows-requires-2 : tie.Need-group-rows-requires-2
+group-rows-requires-2 c κs =
+    let start = c .before .before .before .before .before .before .before .before .before .before in
+    (start .pre .5, omega (arith, second-at c, start .pre .4), search needs)
+
 returns : tie.Need-returns
 returns c s u v p-is place-u-is place-v-is cells-is =
     let at-both = c .before in
-    let at-second = at-both .before .before in
+    let at-zero = at-both .before in
+    let at-second = at-zero .before in
     let at-first = at-second .before .before in
     let at-either = at-first .before .before in
     let at-over-v = at-either .before in
@@ -56,9 +69,9 @@ returns c s u v p-is place-u-is place-v-is cells-is =
     let over-v = leaves-⊖ (y-is at-y) (v-is at-v) (at-over-v .difference2 .ensures) in
     rw (max-rows-are s u v (a .place-u .0) (a .place-v .0) (a .at .0) (a .b) (a .k) place-u-is place-v-is cells-is)
     (max-answer (a .p) (a .table .now) F G (a .at .0) (a .b) (a .k) (start .pre .0) (leaves-⊗ over-u over-v (at-either .product .ensures))
-    (at-first .group-rows .ensures (a .p) F (pos 0) (start .pre .6) (leaves-plain F over-u))
-    (at-second .group-rows2 .ensures (a .p) G (pos 0) (start .pre .6) (leaves-plain G over-v))
-    (at-both .rows-before .ensures) (c .row-before .ensures))
+    (rw (at-first .before .cell-after .ensures) at (at-first .group-rows .ensures (a .p) F (pos 0) (start .pre .6) (leaves-plain F over-u)))
+    (rw (second-at (at-second .before)) at (at-second .group-rows2 .ensures (a .p) G (pos 0) (start .pre .6) (leaves-plain G over-v)))
+    (at-both .rows-before .ensures) (rw (at-zero .is-zero .ensures) at (c .row-before .ensures)))
 
 pub max-rows-spec : {M : Type 1} → statement M
 max-rows-spec =
@@ -70,11 +83,12 @@ max-rows-spec =
     (λ c κs. search needs)
     difference-requires-2
     (λ c κs. search needs)
-    (λ c. search needs)
+    (λ c κs. search needs)
     (λ c κs. search needs)
     (λ c. search needs)
     (λ c. search needs)
-    (λ c. search needs)
+    (λ c κs. search needs)
+    group-rows-requires-2
     (λ c κs. search needs)
     (λ c κs. search needs)
     (λ c κs. search needs)

@@ -1,14 +1,15 @@
 -- `table::relu::relu_rows`: the rows of the sign of the value, with f·v ≡ y as the last.
+use mathlib.Core.Path.{_∙_}
 use Prim.Native.Nat.{_+_}
 use native.Mathlib.Omega.{arith}
 use lib.IntN.{pos}
-use borrow.Author.Needs.{needs}
 use Rattle.meaning.specs.Known.{topPart}
 use Rattle.meaning.specs.Row.{cell, constant, _⊗_, _≅_}
 use Rattle.groups.specs.Rows.{Leaves}
-use Rattle.groups.proofs.RowsForm.{leaves-read, leaves-whole, leaves-⊕, leaves-⊗, row-test}
+use Rattle.groups.proofs.RowsForm.{leaves-read, leaves-after, leaves-whole, leaves-⊕, leaves-⊗, row-test}
 use Rattle.groups.proofs.RowsSign.{sign-number}
 use Rattle.table.proofs.RowsSigned.{relu-rows-are}
+use borrow.Author.Needs.{needs}
 use Rattle.table.proofs.relu.relu_rows.Statement.{statement}
 use Rattle.table.proofs.relu.relu_rows.Tie as tie
 
@@ -33,7 +34,9 @@ sum-requires c κs = (value-is (c .before) .below, top c .below)
 
 returns : tie.Need-returns
 returns c s v p-is place-is cells-is =
-    let at-made = c .before .before .before .before in
+    let at-group = c .before in
+    let at-same = at-group .before in
+    let at-made = at-same .before in
     let at-kept = at-made .before in
     let at-flag = at-kept .before in
     let at-number = at-flag .before .before in
@@ -42,13 +45,15 @@ returns c s v p-is place-is cells-is =
     let a = start .args in
     let t = a .table .now in
     let value = value-is (at-top .before) in
-    let flag = leaves-read (a .p) t (a .at .0 + 1 + a .k) (start .pre .1) (omega arith) (at-flag .residue-at2 .ensures) in
+    let flag = leaves-after (a .p) t (a .at .0 + 1 + a .k) (start .pre .1) (omega arith)
+    (omega (arith, at-flag .before .cell-after .ensures)) (at-flag .residue-at2 .ensures) in
     let made = leaves-read (a .p) t (a .at .0) (start .pre .1) (omega arith) (at-made .residue-at3 .ensures) in
     let number = leaves-⊕ value (top at-top) (at-number .sum .ensures) in
     let kept = leaves-⊗ flag value (at-kept .product .ensures) in
     let X = cell (a .place .0) in
     rw (relu-rows-are s v (a .place .0) (a .at .0) (a .b) (a .k) place-is cells-is)
-    (c .sign-rows .ensures X (λ f. f ⊗ X ≅ cell (a .at .0)) (sign-number X (a .b) (a .k) number) (row-test kept made))
+    ((rw (at-group .cell-after2 .ensures) at (c .sign-rows .ensures X (λ f. f ⊗ X ≅ cell (a .at .0))))
+    (sign-number X (a .b) (a .k) number) (at-same .is-same .ensures ∙ row-test kept made))
 
 pub relu-rows-spec : {M : Type 1} → statement M
 relu-rows-spec =
@@ -58,10 +63,11 @@ relu-rows-spec =
     (λ c κs. search needs)
     sum-requires
     (λ c. search needs)
-    (λ c. search needs)
     (λ c κs. search needs)
     (λ c κs. search needs)
     (λ c κs. search needs)
-    (λ c. search needs)
+    (λ c κs. search needs)
+    (λ c κs. search needs)
+    (λ c κs. search needs)
     (λ c κs. search needs)
     returns)

@@ -1,15 +1,10 @@
 -- `table::relu::relu_value`: the larger of 0 and v.
-use Rattle.number.proofs.Word.{back}
-use mir.Syntax.{w64}
-use mir.Val.{SFits}
 use borrow.Author.Needs.{needs}
 use Rattle.table.proofs.relu.relu_value.Statement.{statement}
 use Rattle.table.proofs.relu.relu_value.Tie as tie
 
 returns : tie.Need-returns
-returns c =
-    let f : SFits w64 (c .before .larger .result .0) = search needs in
-    rw (back f) (rw (back (c .before .before .fits .v)) at (c .before .larger .ensures))
+returns c = rw (c .before .whole-of .ensures) at (c .larger .ensures)
 
 pub relu-value-spec : {M : Type 1} → statement M
-relu-value-spec = tie.close (tie.spec (λ c κs. search needs) returns)
+relu-value-spec = tie.close (tie.spec (λ c κs. search needs) (λ c κs. search needs) returns)

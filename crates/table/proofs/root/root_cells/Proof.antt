@@ -6,48 +6,37 @@ use native.Mathlib.Omega.{arith}
 use lib.Dec.{lit≤}
 use lib.IntN.{pos, _*ℤ_}
 use lib.ListN.{length, drop}
-use mir.Syntax.{w64}
-use mir.Val.{SFits, toZ, ofZ}
 use borrow.Rule.Slice.PartMut.{putMid}
 use Rattle.meaning.specs.Number.{remainder}
 use Rattle.meaning.specs.Gadget.Digits.{groupCells}
 use Rattle.meaning.specs.Gadget.Root.{rootValue}
 use Rattle.meaning.proofs.Part.{written-after}
-use Rattle.number.proofs.Word.{back}
+use Rattle.number.specs.Bounded.{Bounded}
 use Rattle.number.proofs.Bounded.{bounded-more}
+use Rattle.groups.specs.Cells.{valueBound}
 use Rattle.table.specs.Root.{restCells}
 use Rattle.table.proofs.CellsRoot.{root-bounded, rootStart, length-start, root-cells-are}
 use borrow.Author.Needs.{needs}
 use Rattle.table.proofs.root.root_cells.Statement.{statement}
 use Rattle.table.proofs.root.root_cells.Tie as tie
 
--- the root, as it is handed on
-root : (c : tie.After-root-value) → toZ w64 (ofZ w64 (c .root-value .result)) ≡ rootValue (c .before .before .args .v)
-root c =
-    let s = c .before .before in
-    let f : SFits w64 (c .root-value .result) = search needs in
-    back f ∙ (rw (back (s .fits .v)) at (c .root-value .ensures))
+root-small : (c : tie.After-root-value) → Bounded valueBound (c .root-value .result .0)
+root-small c = rw (c .root-value .ensures) (root-bounded (c .before .before .pre .3))
 
 square-cells-requires : tie.Need-square-cells-requires
-square-cells-requires c κs =
-    let s = c .before .before .before in
-    (s .pre .0, search needs, rw (root (c .before)) (root-bounded (s .pre .3)))
+square-cells-requires c κs = (c .before .before .before .pre .0, search needs, root-small (c .before))
 
 two-groups-requires : tie.Need-two-groups-requires
 two-groups-requires c κs =
     let r = c .before .before .before .before .before in
-    let s = r .before .before in (
-      s .pre .1,
-      search needs,
-      rw (back (s .fits .v)) (bounded-more (s .pre .3) (lit≤ tt)),
-      rw (root r) (bounded-more (root-bounded (s .pre .3)) (lit≤ tt)),
-    )
+    let s = r .before .before in
+    (s .pre .1, search needs, bounded-more (s .pre .3) (lit≤ tt), bounded-more (root-small r) (lit≤ tt))
 
 rest-cells-requires : tie.Need-rest-cells-requires
 rest-cells-requires c κs =
     let r = c .before .before .before .before .before .before .before .before .before in
     let s = r .before .before in
-    (s .pre .1, search needs, rw (back (s .fits .v)) (s .pre .3), rw (root r) (root-bounded (s .pre .3)))
+    (s .pre .1, search needs, s .pre .3, root-small r)
 
 returns : tie.Need-returns
 returns c =
@@ -55,27 +44,26 @@ returns c =
     let groups = rest .before .before .before .before in
     let squares = groups .before .before .before .before in
     let r = squares .before .before in
-    let s = r .before .before in
-    let a = s .args in
-    let y = rootValue (a .v) in
+    let a = r .before .before .args in
+    let y = rootValue (a .v .0) in
     let cells = squares .square-cells .last .0 in
     let start : putMid 2 (length cells - 2) cells (groups .two-groups .last .0)
-    ≡ rootStart (a .p) (a .b) (a .k) (a .v) ++ drop (2 + 2 * a .k) (a .out .now) =
+    ≡ rootStart (a .p) (a .b) (a .k) (a .v .0) ++ drop (2 + 2 * a .k) (a .out .now) =
     written-after 2 (a .k + a .k) (2 + 2 * a .k) _ _ _
     (remainder (a .p) y ∷ remainder (a .p) (y *ℤ y) ∷ [])
-    (groupCells (a .b) (a .k) (a .v) (pos 0) ++ groupCells (a .b) (a .k) y (pos 0))
+    (groupCells (a .b) (a .k) (a .v .0) (pos 0) ++ groupCells (a .b) (a .k) y (pos 0))
     refl
-    (rw (root r) at (squares .square-cells .ensures))
-    (rw (root r, back (s .fits .v)) at (groups .two-groups .ensures))
+    (rw (r .root-value .ensures) at (squares .square-cells .ensures))
+    (rw (r .root-value .ensures) at (groups .two-groups .ensures))
     (omega arith) in
     written-after (2 + 2 * a .k) (a .k + a .k) (2 + 4 * a .k) _ _ _
-    (rootStart (a .p) (a .b) (a .k) (a .v))
-    (restCells (a .b) (a .k) (a .v) y)
-    (length-start (a .p) (a .b) (a .k) (a .v))
+    (rootStart (a .p) (a .b) (a .k) (a .v .0))
+    (restCells (a .b) (a .k) (a .v .0) y)
+    (length-start (a .p) (a .b) (a .k) (a .v .0))
     start
-    (rw (root r, back (s .fits .v)) at (rest .rest-cells .ensures))
+    (rw (r .root-value .ensures) at (rest .rest-cells .ensures))
     (omega arith)
-    ∙ ap (λ l. l ++ drop (2 + 4 * a .k) (a .out .now)) (root-cells-are (a .p) (a .b) (a .k) (a .v))
+    ∙ ap (λ l. l ++ drop (2 + 4 * a .k) (a .out .now)) (root-cells-are (a .p) (a .b) (a .k) (a .v .0))
 
 pub root-cells-spec : {M : Type 1} → statement M
 root-cells-spec =

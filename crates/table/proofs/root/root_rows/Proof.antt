@@ -2,13 +2,13 @@
 use Prim.Native.Nat.{_+_}
 use native.Mathlib.Omega.{arith}
 use lib.IntN.{pos}
-use borrow.Author.Needs.{needs}
 use Rattle.meaning.specs.Row.{cell, constant, _⊕_, _⊖_, _⊗_, _≅_, holds}
 use Rattle.groups.specs.Rows.{Leaves}
 use Rattle.groups.proofs.RowsFirst.{first-row}
-use Rattle.groups.proofs.RowsForm.{leaves-read, leaves-constant, leaves-⊕, leaves-⊖, leaves-⊗, row-test}
+use Rattle.groups.proofs.RowsForm.{leaves-read, leaves-after, leaves-constant, leaves-⊕, leaves-⊖, leaves-⊗, row-test}
 use Rattle.table.specs.Root.{fourGroups}
 use Rattle.table.proofs.RowsRoot.{root-rows-are, twice}
+use borrow.Author.Needs.{needs}
 use Rattle.table.proofs.root.root_rows.Statement.{statement}
 use Rattle.table.proofs.root.root_rows.Tie as tie
 
@@ -32,7 +32,7 @@ square-is : (c : tie.After-residue-at3) → let a = c .before .before .before .b
 square-is c =
     let start = c .before .before .before .before .before in
     let a = start .args in
-    leaves-read (a .p) (a .table .now) (a .at .0 + 1) (start .pre .1) (omega arith) (c .residue-at3 .ensures)
+    leaves-after (a .p) (a .table .now) (a .at .0 + 1) (start .pre .1) (omega arith) (c .before .cell-after .ensures) (c .residue-at3 .ensures)
 
 difference-requires : tie.Need-difference-requires
 difference-requires c κs = (value-is (c .before .before .before .before) .below, square-is (c .before) .below)
@@ -46,14 +46,20 @@ sum-requires-2 c κs = (square-is (c .before .before .before) .below, c .sum .en
 difference-requires-2 : tie.Need-difference-requires-2
 difference-requires-2 c κs = (c .sum2 .ensures .0, value-is (c .before .before .before .before .before .before .before) .below)
 
-add-t15-2 : tie.Need-add-t15-2
-add-t15-2 c =
-    let start = c .before .before .before .before .before .before .before .before .before .before .before in
+cell-after-requires-2 : tie.Need-cell-after-requires-2
+cell-after-requires-2 c κs =
+    let start = c .before .before .before .before .before .before .before .before .before .before in
     omega (arith, start .pre .3)
+
+four-groups-requires : tie.Need-four-groups-requires
+four-groups-requires c κs =
+    let start = c .before .before .before .before .before .before .before .before .before .before .before in
+    (omega (arith, c .cell-after2 .ensures, start .pre .3), start .pre .4)
 
 returns : tie.Need-returns
 returns c s v p-is place-is cells-is =
-    let at-later = c .before .before .before in
+    let at-same = c .before in
+    let at-later = at-same .before in
     let at-under = at-later .before .before in
     let at-sum = at-under .before in
     let at-twice = at-sum .before in
@@ -74,10 +80,11 @@ returns c s v p-is place-is cells-is =
     let over = leaves-⊖ value square (at-over .difference .ensures) in
     let under = leaves-⊖ (leaves-⊕ square twice-is (at-sum .sum2 .ensures)) value (at-under .difference2 .ensures) in
     let under-form = Q ⊕ constant (pos 2) ⊗ Y ⊖ V′ in
-    let later = at-later .four-groups .ensures (a .p) V′ Y (V′ ⊖ Q) under-form (start .pre .5) value root over under in
+    let later = rw (at-later .before .cell-after2 .ensures) at
+    (at-later .four-groups .ensures (a .p) V′ Y (V′ ⊖ Q) under-form (start .pre .5) value root over under) in
     rw (root-rows-are s v (a .place .0) (a .at .0) (a .b) (a .k) place-is cells-is)
     (first-row (holds (a .p) t) 0 1 (Y ⊗ Y ≅ Q) (fourGroups V′ Y (V′ ⊖ Q) under-form (a .at .0 + 2) (a .b) (a .k)) (omega arith)
-    (row-test (leaves-⊗ root root (at-squared .product .ensures)) square) (c .row-before .ensures) later)
+    (row-test (leaves-⊗ root root (at-squared .product .ensures)) square) (rw (at-same .is-same .ensures) at (c .row-before .ensures)) later)
 
 pub root-rows-spec : {M : Type 1} → statement M
 root-rows-spec =
@@ -85,14 +92,15 @@ root-rows-spec =
     (tie.spec
     (λ c κs. search needs)
     (λ c κs. search needs)
-    (λ c. search needs)
+    (λ c κs. search needs)
     (λ c κs. search needs)
     (λ c κs. search needs)
     difference-requires
     sum-requires
     sum-requires-2
     difference-requires-2
-    add-t15-2
+    cell-after-requires-2
+    four-groups-requires
     (λ c κs. search needs)
     (λ c κs. search needs)
     returns)

@@ -1,15 +1,13 @@
 -- `table::span::span_line_rows`: the line's numbers are what `span_rows` takes.
-use lib.IntN.{pos}
-use lib.ListN.{getD}
-use mir.Syntax.{w64}
-use mir.Val.{SFits}
 use Rattle.meaning.specs.Gadget.Span.{spanLine}
-use Rattle.number.proofs.Word.{back}
 use Rattle.table.proofs.LineKinds.{span-word}
 use Rattle.table.proofs.RowsLine.{one-places-given, one-checks, one-yield}
 use borrow.Author.Needs.{needs}
 use Rattle.table.proofs.span.span_line_rows.Statement.{statement}
 use Rattle.table.proofs.span.span_line_rows.Tie as tie
+
+one-place-requires : tie.Need-one-place-requires
+one-place-requires c κs = one-places-given (c .before .before .pre) (span-word _)
 
 span-rows-requires : tie.Need-span-rows-requires
 unfolding spanLine
@@ -20,15 +18,8 @@ span-rows-requires c κs =
 
 returns : tie.Need-returns
 returns c a =
-    let place = c .before .before in
-    let shift : SFits w64 (getD (place .before .before .before .args .numbers .now) 3 (pos 0)) = search needs in
-    one-yield a (span-word _) (place .one-place .ensures) (rw (back shift) at (c .span-rows .ensures))
+    let shift = c .before in
+    one-yield a (span-word _) (shift .before .one-place .ensures) (rw (shift .whole-at .ensures) at (c .span-rows .ensures))
 
 pub span-line-rows-spec : {M : Type 1} → statement M
-span-line-rows-spec =
-    tie.close
-    (tie.spec
-    (λ c κs. one-places-given (c .before .before .pre) (span-word _))
-    (λ c. search needs)
-    span-rows-requires
-    returns)
+span-line-rows-spec = tie.close (tie.spec one-place-requires (λ c κs. search needs) span-rows-requires returns)

@@ -1,20 +1,18 @@
 -- `table::span::span_rows`: one group, over the value less the shift.
-use borrow.Author.Needs.{needs}
 use Rattle.meaning.specs.Row.{cell, constant}
 use Rattle.meaning.specs.Gadget.Span.{spanLine}
-use Rattle.number.proofs.Word.{back}
 use Rattle.groups.specs.Rows.{Leaves}
 use Rattle.groups.proofs.RowsForm.{leaves-read, leaves-whole, leaves-⊖, leaves-number}
+use borrow.Author.Needs.{needs}
 use Rattle.table.proofs.span.span_rows.Statement.{statement}
 use Rattle.table.proofs.span.span_rows.Tie as tie
 
--- the shift, from the bits that hold it, and the value
+-- the shift, and the value
 lowest-is : (c : tie.After-remainder-of) → let a = c .before .before .args in
-    Leaves (a .p) (a .table .now) (c .remainder-of .result .0) (constant (a .shift))
+    Leaves (a .p) (a .table .now) (c .remainder-of .result .0) (constant (a .shift .0))
 lowest-is c =
     let start = c .before .before in
-    leaves-whole (start .args .p) (start .args .table .now) (start .args .shift) (start .pre .0)
-    (rw (back (start .fits .shift)) at (c .remainder-of .ensures))
+    leaves-whole (start .args .p) (start .args .table .now) (start .args .shift .0) (start .pre .0) (c .remainder-of .ensures)
 
 value-is : (c : tie.After-residue-at) → let a = c .before .before .before .args in
     Leaves (a .p) (a .table .now) (c .residue-at .result .0) (cell (a .place .0))
@@ -35,14 +33,7 @@ returns c s v p-is place-is cells-is =
     let a = start .args in
     let X = cell (a .place .0) in
     let number = leaves-⊖ (value-is at-value) (lowest-is (at-value .before)) (at-number .difference .ensures) in
-    rw (place-is, cells-is) (c .group-rows .ensures (a .p) X (a .shift) (start .pre .5) (leaves-number X (a .shift) number))
+    rw (place-is, cells-is) (c .group-rows .ensures (a .p) X (a .shift .0) (start .pre .5) (leaves-number X (a .shift .0) number))
 
 pub span-rows-spec : {M : Type 1} → statement M
-span-rows-spec =
-    tie.close
-    (tie.spec
-    (λ c κs. search needs)
-    (λ c κs. search needs)
-    difference-requires
-    (λ c κs. search needs)
-    returns)
+span-rows-spec = tie.close (tie.spec (λ c κs. search needs) (λ c κs. search needs) difference-requires (λ c κs. search needs) returns)

@@ -1,11 +1,6 @@
 -- `table::sum::sum_line_works`: a line that was read is what `sum_works` takes.
-use mathlib.Core.Path.{_∙_}
-use mir.Syntax.{w64}
-use mir.Val.{SFits}
-use Rattle.number.proofs.Word.{back}
 use Rattle.table.specs.Line.{knownCount}
 use Rattle.table.proofs.WorksLine.{sum-given, sum-yield}
-use borrow.Author.Needs.{needs}
 use Rattle.table.proofs.sum.sum_line_works.Statement.{statement}
 use Rattle.table.proofs.sum.sum_line_works.Tie as tie
 
@@ -13,9 +8,7 @@ sum-works-requires : tie.Need-sum-works-requires
 sum-works-requires c κs = (knownCount (c .pre .kept), sum-given (c .pre))
 
 returns : tie.Need-returns
-returns c next =
-    let f : SFits w64 (c .sum-works .result) = search needs in
-    sum-yield (λ n given. back f ∙ c .sum-works .ensures n given) next
+returns c next = sum-yield (c .sum-works .ensures) next
 
 pub sum-line-works-spec : {M : Type 1} → statement M
 sum-line-works-spec = tie.close (tie.spec sum-works-requires returns)
