@@ -1,4 +1,4 @@
--- Checking a table against a list that was read: what its cells and its rows are asked with, and what they reply.
+-- Checking a table against a list that was read: what its cells and its rows are given, and what they reply.
 use mathlib.Core.Path.{_≡_}
 use mathlib.Core.List.{List}
 use mathlib.Core.Option.{Option, none, some}

@@ -1,4 +1,4 @@
--- Making a table for a list that was read: what working its lines and writing their cells are asked with, and what they then tell.
+-- Making a table for a list that was read: what working its lines and writing their cells are given, and what they then yield.
 use mathlib.Core.Path.{_≡_}
 use mathlib.Core.Bool.{Bool, true, false}
 use mathlib.Core.List.{List}
