@@ -1,5 +1,5 @@
-//! Primes, powers and inverses: the little number theory that the service needs (FORMAT 1.2, 3.4,
-//! and for the witness FORMAT 7.11).
+//! Primes, powers and inverses: the little number theory that the service needs
+//! (FORMAT 1.2, 3.4, and for the witness FORMAT 7.11).
 
 /// The primes below 256, tried first as divisors (FORMAT 1.2).
 const SMALL_PRIMES: [u32; 54] = [

@@ -99,6 +99,20 @@ fn every_reply_is_the_one_of_the_page() {
     }
 }
 
+/// p and the counts of values, cells and rows, where a page has them.
+#[test]
+fn every_count_is_the_one_of_the_page() {
+    let cases = sources();
+    let mut counted = 0;
+    for directed in &cases {
+        if let Some(counts) = directed.counts {
+            assert_eq!(read(&directed.case.list), Ok(counts), "{}", directed.way);
+            counted += 1;
+        }
+    }
+    assert_eq!(counted, 7);
+}
+
 /// Making, and the program, write the page's table, figure for figure.
 #[test]
 fn true_tables_are_made() {

@@ -26,11 +26,13 @@ pub struct Directed {
     pub call: Call,
     pub case: Case,
     pub reply: (u64, u64),
+    /// What reading the list gives, where a page has these figures.
+    pub counts: Option<Counts>,
 }
 
 impl Directed {
     pub fn new(way: &str, call: Call, case: Case, reply: (u64, u64)) -> Directed {
-        Directed { way: way.to_string(), call, case, reply }
+        Directed { way: way.to_string(), call, case, reply, counts: None }
     }
 
     /// About reading a list.

@@ -24,6 +24,7 @@ use super::{
     program_text, sources_format, sources_range, sources_relu, sources_root, sources_whole, text,
     Case,
 };
+use crate::Counts;
 
 /// The kind of these cases.
 pub const SOURCE: &str = "source";
@@ -54,6 +55,12 @@ impl Example {
     /// What reading the list replies.
     pub fn reads(self, reply: (u64, u64)) -> Vec<Directed> {
         vec![Directed::list(&self.way("read"), text(self.list), reply)]
+    }
+
+    /// A list that is read: p, and how many values, cells and rows it has.
+    pub fn counts(self, [p, values, cells, rows]: [u64; 4]) -> Vec<Directed> {
+        let counts = Some(Counts { p, values, cells, rows });
+        self.reads((0, 0)).into_iter().map(|read| Directed { counts, ..read }).collect()
     }
 
     /// What making from this column replies. No cell of the lent table is a remainder, so that
