@@ -6,9 +6,9 @@
  *  - what a call writes (all that is not const) overlaps nothing else that is lent to the same call.
  * Nothing is kept after a call and nothing is allocated: calls may run at the same time. A call takes less than 64 KiB of stack.
  *
- * A reply is a number and a place, as document 01 has them under "Replies": number 0 for a list that was read, a table that was accepted
- * and a table that was made, 1 to 20 for a refusal. The place is a line, a cell, a row or an input, by the number. Lines, cells, rows,
- * values and inputs count from 0. */
+ * A reply is a number and a place (FORMAT 9.3 and 9.18 in docs/FORMAT.md): number 0 for a list that was read, a table that was accepted
+ * and a table that was made, 1 to 20 for a refusal, whose clause has its number (FORMAT 10.1 to 10.20). The place is a line, a cell, a row
+ * or an input, by the number. Lines, cells, rows, values and inputs count from 0. */
 #ifndef DIGIT_TABLE_H
 #define DIGIT_TABLE_H
 
@@ -19,7 +19,7 @@
 extern "C" {
 #endif
 
-/* Reads a list.
+/* Reads a list (FORMAT 9.4, 9.19).
  * Reads: the list's bytes.
  * Writes: the place, 0 where the list is read; and p and its counts of values, cells and rows where 0 is returned. A refusal leaves these four
  *   as they are.
@@ -27,7 +27,7 @@ extern "C" {
 uint32_t digit_table_read(const uint8_t *list, size_t list_length,
                           size_t *place, uint32_t *p, size_t *values, size_t *cells, size_t *rows);
 
-/* Checks a table, whoever wrote it.
+/* Checks a table, whoever wrote it (FORMAT 9.6).
  * Reads: the list's bytes and the table's cells.
  * Writes: the place, 0 where the table is accepted. The table is left as it is.
  * Returns: 0, or the number of the refusal, 1 to 15. */
@@ -35,7 +35,7 @@ uint32_t digit_table_check(const uint8_t *list, size_t list_length,
                            const uint32_t *table, size_t table_length,
                            size_t *place);
 
-/* Makes the table of a column of inputs. The table has as many cells as digit_table_read counts.
+/* Makes the table of a column of inputs (FORMAT 9.7, 9.8). The table has as many cells as digit_table_read counts.
  * Reads: the list's bytes and the inputs.
  * Writes: the place; and every cell of the table where 0 is returned, no cell where not.
  * Returns: 0, or the number of the refusal, 1 to 13 or 16 to 18. */
@@ -44,7 +44,7 @@ uint32_t digit_table_make(const uint8_t *list, size_t list_length,
                           uint32_t *table, size_t table_length,
                           size_t *place);
 
-/* Shows a line: which cells of a table hold it, table[*first] to table[*first + count - 1].
+/* Shows a line (FORMAT 9.9, 9.10, 9.20): which cells of a table hold it, table[*first] to table[*first + count - 1].
  * Reads: the list's bytes. Of the table the length alone counts.
  * Writes: the first cell, 0 where there is none. *first + count is never more than table_length.
  * Returns: the count of cells. It is 0 for the field line, for a line that is not there, for a refused list and for a wrong table length. */
@@ -52,7 +52,7 @@ size_t digit_table_show(const uint8_t *list, size_t list_length,
                         const uint32_t *table, size_t table_length,
                         size_t line, size_t *first);
 
-/* Calls a desk, which is three counts; a fresh one has 0, 0, 0. It checks the table and counts the call.
+/* Calls a desk (FORMAT 9.11 to 9.15, 9.19), which is three counts; a fresh one has 0, 0, 0. It checks the table and counts the call.
  * Reads: the counts, the list's bytes and the table's cells.
  * Writes: the place, and the counts: heard is one more, and so is accepted where 0 is returned, else refused. Refusals 19 and 20, which come
  *   before all others, leave the counts as they are.
@@ -62,8 +62,8 @@ uint32_t digit_table_desk_call(uint64_t *heard, uint64_t *accepted, uint64_t *re
                                const uint32_t *table, size_t table_length,
                                size_t *place);
 
-/* Answers an input as the program does: a list, the line `end`, then one input a line, by the lines of the table or by one line
- * `refused`, number, place.
+/* Answers an input as the program does (FORMAT 9.16, 9.17): a list, the line `end`, then one input a line, by the lines of the table or by
+ * one line `refused`, number, place.
  * Reads: the input's bytes.
  * Writes: the answer, at the start of the output, where it has room; the rest of the output, or all of it where the answer has no room, is
  *   left as it is.

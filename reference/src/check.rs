@@ -1,10 +1,11 @@
-//! Checking an offered table: its length, its cells, then every row in order.
+//! Checking an offered table: its length, its cells, then every row in order (FORMAT 9.6, 10.26).
+//! The rows are those of the format's chapter 7.
 
 use crate::line::{Digits, Line, Term};
 use crate::plan::{Plan, Step};
 use crate::Refusal;
 
-/// Refusal 13, 14 or 15, or none where the table is accepted.
+/// Refusal 13, 14 or 15, or none where the table is accepted (FORMAT 10.13, 10.14, 10.15).
 pub fn check(plan: &Plan, table: &[u32]) -> Result<(), Refusal> {
     if table.len() != plan.cells {
         return Err(Refusal::new(13, 0));
@@ -16,7 +17,8 @@ pub fn check(plan: &Plan, table: &[u32]) -> Result<(), Refusal> {
     plan.steps.iter().try_for_each(|step| rows.line(step))
 }
 
-/// The walk over the rows. All cells are below p, so a product of two is below 2^62.
+/// The walk over the rows, which are numbered over the whole list (FORMAT 7.6). All cells are below
+/// p, so a product of two is below 2^62.
 struct Rows<'a> {
     plan: &'a Plan,
     table: &'a [u32],
@@ -26,7 +28,8 @@ struct Rows<'a> {
 type Held = Result<(), Refusal>;
 
 impl Rows<'_> {
-    /// All rows of one line.
+    /// All rows of one line; field and in have none (FORMAT 7.7), span those of its group
+    /// (FORMAT 7.9).
     fn line(&mut self, step: &Step) -> Held {
         let cell = step.first_cell;
         match &step.line {
@@ -40,6 +43,7 @@ impl Rows<'_> {
         }
     }
 
+    /// The value ≡ c0 + c1·v1 + .. (FORMAT 7.8).
     fn sum(&mut self, cell: usize, constant: i64, terms: &[Term]) -> Held {
         let mut sum = constant;
         for term in terms {
@@ -48,19 +52,21 @@ impl Rows<'_> {
         self.same(self.cell(cell), sum)
     }
 
+    /// The rows of a sign over v, then f·v ≡ y (FORMAT 7.13).
     fn relu(&mut self, cell: usize, v: i64, digits: Digits) -> Held {
         let form = self.value(v);
         let f = self.sign(cell + 1, digits, form)?;
         self.same(f * form, self.cell(cell))
     }
 
+    /// The rows of a sign over u-v, then y ≡ 1-f (FORMAT 7.14).
     fn which(&mut self, cell: usize, u: i64, v: i64, digits: Digits) -> Held {
         let f = self.sign(cell + 1, digits, self.value(u) - self.value(v))?;
         self.same(self.cell(cell), 1 - f)
     }
 
-    /// What relu and which share: the group with shift -B, then the three rows on f and w.
-    /// Hands back f.
+    /// What relu and which share: the group with shift -B, then the three rows on f and w
+    /// (FORMAT 7.10, 7.12). Hands back f.
     fn sign(&mut self, first: usize, digits: Digits, form: i64) -> Result<i64, Refusal> {
         self.group(first, digits, form, -digits.big_b())?;
         let past = first + digits.count as usize;
@@ -72,6 +78,7 @@ impl Rows<'_> {
         Ok(f)
     }
 
+    /// (y-u)·(y-v) ≡ 0, then the groups over y-u and y-v (FORMAT 7.15).
     fn max(&mut self, cell: usize, u: i64, v: i64, digits: Digits) -> Held {
         let over_u = self.cell(cell) - self.value(u);
         let over_v = self.cell(cell) - self.value(v);
@@ -80,6 +87,7 @@ impl Rows<'_> {
         self.group(cell + 1 + digits.count as usize, digits, over_v, 0)
     }
 
+    /// y·y ≡ q, then the four groups (FORMAT 7.16).
     fn root(&mut self, cell: usize, v: i64, digits: Digits) -> Held {
         let (y, q, v) = (self.cell(cell), self.cell(cell + 1), self.value(v));
         self.same(y * y, q)?;
@@ -91,7 +99,7 @@ impl Rows<'_> {
         Ok(())
     }
 
-    /// A digit group: a row for each digit, then form - L ≡ d0 + d1·b + ..
+    /// A digit group: a row for each digit, then form - L ≡ d0 + d1·b + .. (FORMAT 7.4).
     fn group(&mut self, first: usize, digits: Digits, form: i64, shift: i64) -> Held {
         let cells = first..first + digits.count as usize;
         for cell in cells.clone() {
@@ -104,11 +112,12 @@ impl Rows<'_> {
         self.same(form - shift, sum)
     }
 
-    /// One row whose two sides must leave the same remainder modulo p.
+    /// One row whose two sides must leave the same remainder modulo p (FORMAT 1.9).
     fn same(&mut self, left: i64, right: i64) -> Held {
         self.row((left - right) % self.plan.p == 0)
     }
 
+    /// The next row; refusal 15 where it does not hold (FORMAT 10.15).
     fn row(&mut self, holds: bool) -> Held {
         if !holds {
             return Err(Refusal::new(15, self.row));
@@ -121,6 +130,7 @@ impl Rows<'_> {
         i64::from(self.table[cell])
     }
 
+    /// The cell that a name stands for in a row (FORMAT 7.2).
     fn value(&self, name: i64) -> i64 {
         self.cell(self.plan.value_cells[name as usize])
     }

@@ -1,5 +1,5 @@
 //! Small lists, of which every table can be tried: a checker must accept exactly the true tables
-//! of their columns, which are had by making the table of every column.
+//! of their columns (FORMAT 8.11), which are had by making the table of every column.
 //!
 //! The tests try the reference's own checker on them; the comparison tries the proved one.
 
@@ -24,7 +24,7 @@ pub struct SmallList {
 }
 
 impl SmallList {
-    /// The list in the paper's way of writing, where it is read.
+    /// The list as `text` takes it, where it is read.
     pub fn written(gadget: &'static str, lines: &str) -> Option<SmallList> {
         SmallList::read(gadget, text(lines))
     }

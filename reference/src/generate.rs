@@ -1,8 +1,9 @@
 //! A deterministic generator of test cases: the same seed and index always give the same case.
 //!
 //! `case` draws one case by chance; `directed` lists cases built on purpose, each with the reply
-//! that the paper gives, so that every refusal is reached in every way it can be; `sources` lists
-//! the worked examples of the source documents and of the paper, with their own figures.
+//! that the format gives, so that every refusal of its chapter 10 is reached in every way it can
+//! be; `sources` lists the worked examples of the source documents and of the format, with their
+//! own figures.
 
 mod columns;
 mod damage;
@@ -15,7 +16,7 @@ mod directed_program;
 mod directed_tables;
 mod lists;
 mod sources;
-mod sources_paper;
+mod sources_format;
 mod sources_range;
 mod sources_relu;
 mod sources_root;
@@ -64,7 +65,7 @@ impl Case {
     }
 }
 
-/// A list from the paper's way of writing: a blank for each tab, a semicolon between lines.
+/// A list as it is written in this crate: a blank for each tab, a semicolon between lines.
 pub fn text(lines: &str) -> Vec<u8> {
     let mut list: Vec<u8> = lines
         .bytes()
@@ -78,7 +79,7 @@ pub fn text(lines: &str) -> Vec<u8> {
     list
 }
 
-/// What the program reads for a list and a column of inputs.
+/// What the program reads for a list and a column of inputs (FORMAT 11.3, 11.4).
 pub fn program_text(list: &[u8], inputs: &[i64]) -> Vec<u8> {
     let mut stdin = list.to_vec();
     stdin.extend(b"end\n");

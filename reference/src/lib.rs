@@ -1,8 +1,9 @@
 //! Digit tables over Z/p: the public calls of the service, over bytes, i64 inputs and u32 cells.
 //!
-//! Written from the paper `01-scope.md` alone, as directly as its sentences allow, to be run
-//! against another program that does the same. A reply is a pair (number, place); 0, 0 says
-//! that a table was accepted or made.
+//! What the format, `docs/FORMAT.md`, says, as directly as its clauses allow. It was written apart
+//! from the program that it is run against. The calls are those of the format's chapter 9, for
+//! anything that FORMAT 9.1 lets them be given. A reply is a pair (number, place); 0, 0 says that
+//! a table was accepted or made (FORMAT 9.3).
 
 mod check;
 mod desk;
@@ -20,7 +21,7 @@ pub use program::respond;
 
 use plan::Plan;
 
-/// What a read list returns: its prime, and its counts of values, cells and rows.
+/// What a read list returns: its prime, and its counts of values, cells and rows (FORMAT 9.4, 8.7).
 #[derive(Clone, Copy, Debug, PartialEq, Eq)]
 pub struct Counts {
     pub p: u64,
@@ -29,7 +30,7 @@ pub struct Counts {
     pub rows: u64,
 }
 
-/// A refusal: its number in the paper's table of replies, and its place.
+/// A refusal: its number in the format's chapter 10, and its place (FORMAT 9.3).
 #[derive(Clone, Copy, Debug, PartialEq, Eq)]
 pub struct Refusal {
     pub number: u64,
@@ -42,7 +43,7 @@ impl Refusal {
     }
 }
 
-/// Reads a list: its counts, or the first refusal of 1 to 12.
+/// Reads a list: its counts, or the first refusal of 1 to 12 (FORMAT 9.4, 10.23).
 pub fn read(list: &[u8]) -> Result<Counts, Refusal> {
     let plan = Plan::read(list)?;
     Ok(Counts {
@@ -53,20 +54,20 @@ pub fn read(list: &[u8]) -> Result<Counts, Refusal> {
     })
 }
 
-/// Checks an offered table: all its cells, then the rows in order.
+/// Checks an offered table: all its cells, then the rows in order (FORMAT 9.6).
 pub fn check(list: &[u8], table: &[u32]) -> (u64, u64) {
     reply(Plan::read(list).and_then(|plan| check::check(&plan, table)))
 }
 
-/// Makes the table of these inputs; a refusal leaves the table as it was.
+/// Makes the table of these inputs; a refusal leaves the table as it was (FORMAT 9.7, 9.8).
 pub fn make(list: &[u8], inputs: &[i64], table: &mut [u32]) -> (u64, u64) {
     reply(Plan::read(list).and_then(|plan| work::make(&plan, inputs, table)))
 }
 
-/// Hands back the stretch of the table that holds the cells of a line.
+/// Hands back the stretch of the table that holds the cells of a line (FORMAT 9.9).
 ///
 /// It is empty for the field line, for a line that is not there, for a refused list and for a
-/// wrong table length.
+/// wrong table length (FORMAT 9.10).
 pub fn show<'a>(list: &[u8], table: &'a [u32], line: usize) -> &'a [u32] {
     let Ok(plan) = Plan::read(list) else {
         return &[];
@@ -79,7 +80,7 @@ pub fn show<'a>(list: &[u8], table: &'a [u32], line: usize) -> &'a [u32] {
     }
 }
 
-/// The pair that a call returns.
+/// The pair that a call returns (FORMAT 9.3).
 fn reply(outcome: Result<(), Refusal>) -> (u64, u64) {
     match outcome {
         Ok(()) => (0, 0),

@@ -1,14 +1,15 @@
-//! One line of a list: from bytes to its word and numbers, and what the line lays out.
+//! One line of a list: from bytes to its word and numbers, by chapters 2 and 3 of the format, and
+//! how many cells and rows the line lays out (FORMAT 7.3).
 
 use crate::prime::capped_power;
 
-/// The greatest size of a number.
+/// The greatest size of a number (FORMAT 2.6).
 const GREATEST: i64 = 2_147_483_647;
 
-/// The most pairs that a sum may have.
+/// The most pairs that a sum may have (FORMAT 4.5).
 const MOST_PAIRS: usize = 16;
 
-/// A digit group's base b and digit count k.
+/// A digit group's base b and digit count k (FORMAT 3.4).
 #[derive(Clone, Copy, Debug, PartialEq, Eq)]
 pub struct Digits {
     pub base: i64,
@@ -16,7 +17,7 @@ pub struct Digits {
 }
 
 impl Digits {
-    /// c = b^k, cut down to the cap.
+    /// c = b^k (FORMAT 3.4), cut down to the cap.
     pub fn c(self) -> i64 {
         capped_power(self.base, self.count)
     }
@@ -26,20 +27,20 @@ impl Digits {
         capped_power(self.base, self.count - 1)
     }
 
-    /// B = (b-1)·b^(k-1), exact where c is at most p.
+    /// B = (b-1)·b^(k-1) (FORMAT 3.4), exact where c is at most p.
     pub fn big_b(self) -> i64 {
         (self.base - 1) * self.top()
     }
 }
 
-/// One term of a sum: a coefficient and the name of a value.
+/// One term of a sum: a coefficient and the name of a value (FORMAT 3.8).
 #[derive(Clone, Copy, Debug, PartialEq, Eq)]
 pub struct Term {
     pub factor: i64,
     pub name: i64,
 }
 
-/// A line as written; its numbers are numbers, but not yet in range.
+/// A line as written, by the table of FORMAT 3.1; its numbers are numbers, but not yet in range.
 #[derive(Clone, Debug, PartialEq, Eq)]
 pub enum Line {
     Field { p: i64 },
@@ -52,7 +53,7 @@ pub enum Line {
     Root { v: i64, digits: Digits },
 }
 
-/// Reads one line, without its byte 10; None is refusal 3.
+/// Reads one line, without its byte 10 (FORMAT 2.2, 2.4, 2.7); None is refusal 3.
 pub fn read_line(text: &[u8]) -> Option<Line> {
     let mut fields = text.split(|&byte| byte == b'\t');
     let word = fields.next()?;
@@ -73,7 +74,7 @@ pub fn read_line(text: &[u8]) -> Option<Line> {
     })
 }
 
-/// The pairs of a sum, 0 to 16 of them; anything else is a wrong field count.
+/// The pairs of a sum, 0 to 16 of them; anything else is a wrong count of numbers (FORMAT 4.5).
 fn read_terms(numbers: &[i64]) -> Option<Vec<Term>> {
     if !numbers.len().is_multiple_of(2) || numbers.len() > 2 * MOST_PAIRS {
         return None;
@@ -82,7 +83,8 @@ fn read_terms(numbers: &[i64]) -> Option<Vec<Term>> {
     Some(numbers.chunks(2).map(term).collect())
 }
 
-/// Reads a number: 0, or digits without leading zero, with - before it if negative.
+/// Reads a number: 0, or digits without leading zero, with - before it if negative; its size has
+/// a limit (FORMAT 2.5, 2.6).
 pub fn read_number(text: &[u8]) -> Option<i64> {
     let (sign, digits) = match text {
         b"0" => return Some(0),
@@ -116,7 +118,7 @@ impl Line {
         }
     }
 
-    /// Whether the test holds for L, c0 and each coefficient of the line.
+    /// Whether the test holds for L, c0 and each coefficient of the line (FORMAT 4.3, 4.4).
     pub fn every_whole(&self, test: impl Fn(i64) -> bool) -> bool {
         match self {
             Line::Span { low, .. } => test(*low),
@@ -127,7 +129,7 @@ impl Line {
         }
     }
 
-    /// Whether the test holds for every name of a value in the line.
+    /// Whether the test holds for every name of a value in the line (FORMAT 3.3).
     pub fn every_name(&self, test: impl Fn(i64) -> bool) -> bool {
         match self {
             Line::Field { .. } | Line::In => true,
@@ -137,12 +139,12 @@ impl Line {
         }
     }
 
-    /// Whether the line makes the next value.
+    /// Whether the line makes the next value (FORMAT 3.2).
     pub fn makes_value(&self) -> bool {
         !matches!(self, Line::Field { .. } | Line::Span { .. })
     }
 
-    /// How many cells the line lays out.
+    /// How many cells the line lays out (FORMAT 7.3).
     pub fn cells(&self) -> usize {
         let k = self.digit_count();
         match self {
@@ -155,7 +157,7 @@ impl Line {
         }
     }
 
-    /// How many rows the line lays out.
+    /// How many rows the line lays out (FORMAT 7.3).
     pub fn rows(&self) -> usize {
         let group = self.digit_count() + 1;
         match self {

@@ -1,25 +1,26 @@
-//! Reading a list: line by line, each judged by the refusals in the order of their numbers.
+//! Reading a list: line by line, each judged by the refusals in the order of their numbers, by
+//! chapters 4 and 10 of the format (FORMAT 10.21).
 
 use crate::ends::{after, After, Ends};
 use crate::line::{read_line, Line};
 use crate::prime::is_odd_prime;
 use crate::Refusal;
 
-/// The greatest length of a text, in bytes.
+/// The greatest length of a text, in bytes (FORMAT 4.8).
 pub const MOST_BYTES: usize = 65_536;
-/// The most values and cells of a list, and the most digits of a group.
+/// The most values and cells of a list, and the most digits of a group (FORMAT 4.6, 4.7, 4.2).
 const MOST_VALUES: usize = 256;
 const MOST_CELLS: usize = 4_096;
 const MOST_DIGITS: i64 = 31;
 
-/// A line that has been read, with the place of its first cell.
+/// A line that has been read, with the place of its first cell (FORMAT 7.1).
 #[derive(Clone, Debug)]
 pub struct Step {
     pub line: Line,
     pub first_cell: usize,
 }
 
-/// A list as far as it has been read.
+/// A list as far as it has been read: what reading knows from line to line (FORMAT 9.5).
 #[derive(Clone, Debug)]
 pub struct Plan {
     /// The prime; 0 until the field line is read.
@@ -47,7 +48,7 @@ impl Plan {
         }
     }
 
-    /// Reads a whole text.
+    /// Reads a whole text (FORMAT 2.1): refusals 1 and 2, then the lines (FORMAT 10.1, 10.2, 10.21).
     pub fn read(list: &[u8]) -> Result<Plan, Refusal> {
         if list.len() > MOST_BYTES {
             return Err(Refusal::new(1, 0));
@@ -63,6 +64,9 @@ impl Plan {
     }
 
     /// Reads the next line; refused by a number of 3 to 12, it leaves the plan as it was.
+    ///
+    /// The tests stand in the order of FORMAT 10.21: 3 by FORMAT 10.3, 4 and 5 in `prime_with`, 6
+    /// to 9 by FORMAT 10.6, 10.7, 10.8, 10.9, and 10 to 12 in `after`.
     pub fn take(&mut self, text: &[u8]) -> Result<(), u64> {
         let line = read_line(text).ok_or(3u64)?;
         let p = self.prime_with(&line)?;
@@ -86,7 +90,7 @@ impl Plan {
         Ok(())
     }
 
-    /// The prime that holds from this line on, or refusal 4 or 5.
+    /// The prime that holds from this line on (FORMAT 3.5), or refusal 4 or 5 (FORMAT 10.4, 10.5).
     fn prime_with(&self, line: &Line) -> Result<i64, u64> {
         match *line {
             Line::Field { p } if self.steps.is_empty() => is_odd_prime(p).then_some(p).ok_or(5),
@@ -96,6 +100,7 @@ impl Plan {
         }
     }
 
+    /// Adds a line that is not refused (FORMAT 9.5).
     fn add(&mut self, line: Line, after: After) {
         let first_cell = self.cells;
         match after {
@@ -113,7 +118,7 @@ impl Plan {
     }
 }
 
-/// Whether b, k, L, c0 and the coefficients lie in their ranges.
+/// Whether b, k, L, c0 and the coefficients lie in their ranges (FORMAT 4.1, 4.2, 4.3, 4.4).
 fn in_range(line: &Line, m: i64) -> bool {
     let digits_fit = line
         .digits()

@@ -1,6 +1,7 @@
-//! Primes, powers and inverses: the little number theory that the service needs.
+//! Primes, powers and inverses: the little number theory that the service needs
+//! (FORMAT 1.2, 3.4, and for the witness FORMAT 7.11).
 
-/// The primes below 256, tried first as divisors.
+/// The primes below 256, tried first as divisors (FORMAT 1.2).
 const SMALL_PRIMES: [u32; 54] = [
     2, 3, 5, 7, 11, 13, 17, 19, 23, 29, 31, 37, 41, 43, 47, 53, 59, 61, 67, 71, 73, 79, 83, 89, 97,
     101, 103, 107, 109, 113, 127, 131, 137, 139, 149, 151, 157, 163, 167, 173, 179, 181, 191, 193,
@@ -10,7 +11,7 @@ const SMALL_PRIMES: [u32; 54] = [
 /// Above every p, so a power cut down to this size is still too great for every rule.
 pub const POWER_CAP: i64 = 1 << 31;
 
-/// Whether a number of at most 2,147,483,647 is an odd prime.
+/// Whether a number of at most 2,147,483,647 is an odd prime (FORMAT 1.2).
 pub fn is_odd_prime(number: i64) -> bool {
     if number < 3 || number % 2 == 0 {
         return false;
@@ -44,7 +45,7 @@ pub fn capped_power(base: i64, exponent: i64) -> i64 {
     power
 }
 
-/// The remainder w below the prime p with t·w ≡ 1, for a t that p does not divide.
+/// The remainder w below the prime p with t·w ≡ 1, for a t that p does not divide (FORMAT 7.11).
 pub fn inverse(t: i64, p: i64) -> i64 {
     // Euclid's steps, where at all times low ≡ x·t and high ≡ y·t modulo p.
     let (mut low, mut high) = (t.rem_euclid(p), p);

@@ -1,4 +1,5 @@
-//! The program: from its whole standard input to its whole standard output.
+//! The program: from its whole standard input to its whole standard output, by chapter 11 of the
+//! format.
 
 use crate::line::read_number;
 use crate::plan::{Plan, MOST_BYTES};
@@ -6,7 +7,8 @@ use crate::work::make;
 use crate::Refusal;
 use std::io::Write;
 
-/// Everything that the program writes for this input, each line ended by byte 10.
+/// Everything that the program writes for this input (FORMAT 9.16), each line ended by byte 10
+/// (FORMAT 11.9, 11.10).
 pub fn respond(input: &[u8]) -> Vec<u8> {
     match answer(input) {
         Ok(table) => table_lines(&table),
@@ -14,7 +16,8 @@ pub fn respond(input: &[u8]) -> Vec<u8> {
     }
 }
 
-/// The made table, or the refusal.
+/// The made table, or the refusal, in the order of FORMAT 11.11: 1 and 2 by FORMAT 11.2, 11.3, the
+/// list's own by FORMAT 11.4, 11.5, 3 of an input line by FORMAT 11.6, the rest by FORMAT 11.7.
 fn answer(input: &[u8]) -> Result<Vec<u32>, Refusal> {
     if input.len() > MOST_BYTES {
         return Err(Refusal::new(1, 0));
@@ -35,7 +38,7 @@ fn answer(input: &[u8]) -> Result<Vec<u32>, Refusal> {
     Ok(table)
 }
 
-/// The count of cells, then each cell and its remainder.
+/// The count of cells, then each cell and its remainder (FORMAT 11.8).
 fn table_lines(table: &[u32]) -> Vec<u8> {
     let mut output = format!("table\t{}\n", table.len()).into_bytes();
     for (cell, remainder) in table.iter().enumerate() {

@@ -1,11 +1,13 @@
-//! Making a table: the lines are worked over whole numbers first, then the cells are written.
+//! Making a table: the lines are worked over whole numbers first, then the cells are written, by
+//! chapters 7 and 8 of the format.
 
 use crate::line::{Digits, Line};
 use crate::plan::Plan;
 use crate::prime::inverse;
 use crate::Refusal;
 
-/// Fills the table with the true table of the inputs; a refusal leaves it as it was.
+/// Fills the table with the true table of the inputs (FORMAT 9.7, 9.8). A refusal leaves it as it
+/// was; the order of refusals is that of FORMAT 10.27.
 pub fn make(plan: &Plan, inputs: &[i64], table: &mut [u32]) -> Result<(), Refusal> {
     let m = (plan.p - 1) / 2;
     if table.len() != plan.cells {
@@ -22,7 +24,8 @@ pub fn make(plan: &Plan, inputs: &[i64], table: &mut [u32]) -> Result<(), Refusa
     Ok(())
 }
 
-/// All values as whole numbers, or the first line whose statement is false.
+/// All values as whole numbers, or the first line whose statement is false (FORMAT 8.3, 8.4). An
+/// `in` line takes the next input (FORMAT 3.6).
 pub fn work(plan: &Plan, inputs: &[i64]) -> Result<Vec<i64>, usize> {
     let mut inputs = inputs.iter().copied();
     let mut values = Vec::with_capacity(plan.value_cells.len());
@@ -39,7 +42,8 @@ pub fn work(plan: &Plan, inputs: &[i64]) -> Result<Vec<i64>, usize> {
     Ok(values)
 }
 
-/// The condition that a line gives on earlier values; a line that gives none is true.
+/// What a line states of earlier values; one that says nothing is true (FORMAT 8.1). The
+/// statements are those of FORMAT 3.7, 3.9, 3.10, 3.11, 3.12.
 pub fn statement(line: &Line, values: &[i64]) -> bool {
     let of = |name: i64| values[name as usize];
     match *line {
@@ -52,12 +56,13 @@ pub fn statement(line: &Line, values: &[i64]) -> bool {
     }
 }
 
-/// -B ≤ form ≤ b^(k-1)-1, the statement of relu and which.
+/// -B ≤ form ≤ b^(k-1)-1, the statement of relu and which (FORMAT 3.9, 3.10).
 fn signed_fits(form: i64, digits: Digits) -> bool {
     -digits.big_b() <= form && form < digits.top()
 }
 
-/// The value that a line other than `in` makes, where it makes one.
+/// The value that a line other than `in` makes, where it makes one: that of
+/// FORMAT 3.8, 3.9, 3.10, 3.11, 3.12.
 pub fn new_value(line: &Line, values: &[i64]) -> Option<i64> {
     let of = |name: i64| values[name as usize];
     match line {
@@ -72,7 +77,7 @@ pub fn new_value(line: &Line, values: &[i64]) -> Option<i64> {
     }
 }
 
-/// Writes every cell, in order; all statements are known to be true.
+/// Writes every cell, in order; all statements are known to be true (FORMAT 8.5, 8.6).
 fn write(plan: &Plan, values: &[i64], table: &mut [u32]) {
     let mut pen = Pen { p: plan.p, rest: table.iter_mut() };
     let mut made = values.iter().copied();
@@ -85,7 +90,7 @@ fn write(plan: &Plan, values: &[i64], table: &mut [u32]) {
     }
 }
 
-/// Writes a line's cells after its value y.
+/// Writes a line's cells after its value y (FORMAT 7.9, 7.13, 7.14, 7.15, 7.16).
 fn write_rest(pen: &mut Pen, line: &Line, values: &[i64], y: i64) {
     let of = |name: i64| values[name as usize];
     match *line {
@@ -116,14 +121,15 @@ struct Pen<'a> {
 }
 
 impl Pen<'_> {
-    /// The remainder that a whole number leaves.
+    /// The remainder that a whole number leaves (FORMAT 1.6).
     fn put(&mut self, whole: i64) {
         if let Some(cell) = self.rest.next() {
             *cell = whole.rem_euclid(self.p) as u32;
         }
     }
 
-    /// The base-b digits of a whole number from 0 to c-1, lowest first; hands back the highest.
+    /// The base-b digits of a whole number from 0 to c-1, lowest first (FORMAT 7.5); hands back the
+    /// highest.
     fn digits(&mut self, whole: i64, digits: Digits) -> i64 {
         let mut left = whole;
         let mut digit = 0;
@@ -135,7 +141,7 @@ impl Pen<'_> {
         digit
     }
 
-    /// The cells of relu and which after y: the digits of form + B, f and w.
+    /// The cells of relu and which after y: the digits of form + B, f and w (FORMAT 7.10, 7.11).
     fn sign(&mut self, form: i64, digits: Digits) {
         let highest = self.digits(form + digits.big_b(), digits);
         let t = highest - (digits.base - 1);

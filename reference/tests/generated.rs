@@ -7,7 +7,7 @@ use std::collections::{BTreeMap, BTreeSet};
 const SEED: u64 = 2024;
 const BUDGET: u64 = 12_000;
 
-/// The column that stands in a table's input cells, and the table made from it.
+/// The column that stands in a table's input cells (FORMAT 8.10), and the table made from it.
 fn remade(case: &Case, p: u64) -> Option<Vec<u32>> {
     let lines: Vec<&[u8]> = case.list.split(|&byte| byte == b'\n').collect();
     let is_in = |line: &usize| lines[*line] == b"in";
@@ -95,7 +95,7 @@ fn chance_reaches_every_refusal() {
     assert!(counts[&("check", 0)] > BUDGET / 10);
 }
 
-/// Demand 3: a table of the right length with all cells below p is accepted exactly when it is
+/// FORMAT 8.11: a table of the right length with all cells below p is accepted exactly when it is
 /// the true table of its own input cells.
 #[test]
 fn accepted_exactly_when_true() {
@@ -109,6 +109,7 @@ fn accepted_exactly_when_true() {
     }
 }
 
+/// FORMAT 8.13, 9.8.
 #[test]
 fn made_tables_are_accepted_and_refusals_change_nothing() {
     for case in cases(SEED + 2, BUDGET) {
@@ -121,7 +122,7 @@ fn made_tables_are_accepted_and_refusals_change_nothing() {
 }
 
 /// A made table with one cell changed is refused, unless that cell is an input's and the rest
-/// does not depend on it: then it is the true table of another column.
+/// does not depend on it: then it is the true table of another column (FORMAT 8.14).
 #[test]
 fn one_changed_cell() {
     for case in cases(SEED + 3, BUDGET / 10) {
@@ -143,6 +144,7 @@ fn one_changed_cell() {
     }
 }
 
+/// FORMAT 9.9, 9.10.
 #[test]
 fn shown_stretches_make_up_the_table() {
     for case in cases(SEED + 4, BUDGET / 4) {
@@ -166,6 +168,7 @@ fn shown_stretches_make_up_the_table() {
     }
 }
 
+/// FORMAT 9.12, 9.13.
 #[test]
 fn desk_counts() {
     let mut desk = Desk::fresh();
@@ -185,7 +188,7 @@ fn desk_counts() {
     }
 }
 
-/// The program writes what making gives for the same list and inputs.
+/// The program writes what making gives for the same list and inputs (FORMAT 11.7).
 #[test]
 fn program_agrees_with_making() {
     for case in cases(SEED + 6, BUDGET / 2) {

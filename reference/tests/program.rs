@@ -1,4 +1,4 @@
-//! The program itself, run as a process: it writes what `respond` returns.
+//! The program itself, run as a process (FORMAT 11.1): it writes what `respond` returns.
 
 use reference::generate::{cases, directed, Call};
 use reference::respond;

@@ -1,4 +1,4 @@
-//! The reference program held to the figures of the source documents and of the paper.
+//! The reference program held to the figures of the source documents and of the format.
 //!
 //! The cases of `generate::sources` carry the figures; the examples that a source works out in its
 //! text stand here once more, written out whole.
@@ -7,7 +7,7 @@ use reference::generate::{sources, text, Call, Directed};
 use reference::{check, make, read, respond};
 use std::collections::{BTreeMap, BTreeSet};
 
-/// Every example that has cases, by its place.
+/// Every example that has cases, by its place in a source or its clause of the format.
 const PLACES: [&str; 39] = [
     "000, example 6.1",
     "000, example 6.2",
@@ -30,24 +30,24 @@ const PLACES: [&str; 39] = [
     "004, example 5.1",
     "004, step 11",
     "004, step 2",
-    "01, P1",
-    "01, P10",
-    "01, P11",
-    "01, P2",
-    "01, P3",
-    "01, P4",
-    "01, P5",
-    "01, P6",
-    "01, P7",
-    "01, P8",
-    "01, P9",
-    "01, making and checking",
-    "01, mistake 1",
-    "01, mistake 2",
-    "01, mistake 3",
-    "01, mistake 4",
-    "01, mistake 5",
-    "01, the program",
+    "FORMAT 8.15",
+    "FORMAT 11.12",
+    "FORMAT 12.1",
+    "FORMAT 12.2",
+    "FORMAT 12.3",
+    "FORMAT 12.4",
+    "FORMAT 12.5",
+    "FORMAT 12.6",
+    "FORMAT 12.7",
+    "FORMAT 12.8",
+    "FORMAT 12.9",
+    "FORMAT 12.10",
+    "FORMAT 12.11",
+    "FORMAT 12.12",
+    "FORMAT 12.13",
+    "FORMAT 12.14",
+    "FORMAT 12.15",
+    "FORMAT 12.16",
 ];
 
 /// The place of a case's example.
@@ -99,6 +99,20 @@ fn every_reply_is_the_one_of_the_page() {
     }
 }
 
+/// p and the counts of values, cells and rows, where a page has them.
+#[test]
+fn every_count_is_the_one_of_the_page() {
+    let cases = sources();
+    let mut counted = 0;
+    for directed in &cases {
+        if let Some(counts) = directed.counts {
+            assert_eq!(read(&directed.case.list), Ok(counts), "{}", directed.way);
+            counted += 1;
+        }
+    }
+    assert_eq!(counted, 7);
+}
+
 /// Making, and the program, write the page's table, figure for figure.
 #[test]
 fn true_tables_are_made() {
@@ -110,7 +124,8 @@ fn true_tables_are_made() {
     }
 }
 
-/// The program replies what making does, and a refusal leaves the lent table as it was.
+/// The program replies what making does, and a refusal leaves the lent table as it was
+/// (FORMAT 11.7, 9.8).
 #[test]
 fn refused_columns_change_nothing() {
     for directed in sources().iter().filter(|directed| directed.call == Call::Make) {

@@ -1,4 +1,4 @@
-//! P1 of document 01: makes the table of -3, prints it as the program does, and checks it at a desk.
+//! P1 (FORMAT 12.1): makes the table of -3, prints it as the program does, and checks it at a desk.
 
 use digit_table::{make, read, show, Desk, Refusal};
 

@@ -1,6 +1,6 @@
 //! Digit tables over Z/p: reads lists, makes and checks tables, shows a line's cells, counts at a desk, and answers as the program does.
 //!
-//! The work is done by the static library of `crates/exports`, whose functions are proved to answer as document 01 says for every
+//! The work is done by the static library of `crates/exports`, whose functions are proved to answer as docs/FORMAT.md says for every
 //! input. They ask nothing of their caller but that what is lent is there and does not overlap, which references ensure. So every
 //! function here may be called with any arguments.
 
@@ -27,7 +27,7 @@ pub struct Counts {
     pub rows: usize,
 }
 
-/// A refusal: its number in document 01's table of replies, and its place.
+/// A refusal: its number and its place (FORMAT 9.3). The clause of refusal n is that number of chapter 10, from FORMAT 10.1 to 10.20.
 #[derive(Clone, Copy, Debug, PartialEq, Eq)]
 pub struct Refusal {
     /// From 1 to 20.
@@ -52,7 +52,7 @@ fn reply(number: u32, place: usize) -> Result<(), Refusal> {
     }
 }
 
-/// Reads a list: its counts, or its first refusal, 1 to 12.
+/// Reads a list (FORMAT 9.4): its counts, or its first refusal, 1 to 12.
 pub fn read(list: &[u8]) -> Result<Counts, Refusal> {
     let mut counts = Counts { p: 0, values: 0, cells: 0, rows: 0 };
     read_into(list, &mut counts).map(|()| counts)
@@ -76,7 +76,7 @@ pub fn read_into(list: &[u8], counts: &mut Counts) -> Result<(), Refusal> {
     reply(number, place)
 }
 
-/// Checks a table, whoever wrote it: accepted, or refused 1 to 15.
+/// Checks a table, whoever wrote it (FORMAT 9.6): accepted, or refused 1 to 15.
 pub fn check(list: &[u8], table: &[u32]) -> Result<(), Refusal> {
     let mut place = 0;
     // SAFETY: the slices are there for the call, and the place is apart from them.
@@ -86,8 +86,8 @@ pub fn check(list: &[u8], table: &[u32]) -> Result<(), Refusal> {
     reply(number, place)
 }
 
-/// Makes the table of a column of inputs, in a slice of as many cells as the list has. A refusal, 1 to 13 or 16 to 18, leaves the slice
-/// as it was.
+/// Makes the table of a column of inputs (FORMAT 9.7, 9.8), in a slice of as many cells as the list has. A refusal, 1 to 13 or 16 to
+/// 18, leaves the slice as it was.
 pub fn make(list: &[u8], inputs: &[i64], table: &mut [u32]) -> Result<(), Refusal> {
     let mut place = 0;
     // SAFETY: the slices are there for the call, `table` is borrowed for it alone, and the place is apart from them.
@@ -105,8 +105,8 @@ pub fn make(list: &[u8], inputs: &[i64], table: &mut [u32]) -> Result<(), Refusa
     reply(number, place)
 }
 
-/// Hands back the part of the table that holds the cells of a line. It is empty for the field line, for a line that is not there, for a
-/// refused list and for a wrong table length.
+/// Hands back the part of the table that holds the cells of a line (FORMAT 9.9, 9.10). It is empty for the field line, for a line
+/// that is not there, for a refused list and for a wrong table length.
 pub fn show<'a>(list: &[u8], table: &'a [u32], line: usize) -> &'a [u32] {
     let mut first = 0;
     // SAFETY: the slices are there for the call, and the number is apart from them.
@@ -124,11 +124,11 @@ pub fn show<'a>(list: &[u8], table: &'a [u32], line: usize) -> &'a [u32] {
     &table[first..first + count]
 }
 
-/// In an output of so many bytes every answer has room.
+/// In an output of so many bytes every answer has room (FORMAT 9.17).
 pub const LONGEST_ANSWER: usize = 65_547;
 
-/// Answers an input as the program does: a list, the line `end`, then one input a line, by the lines of the table or by one line `refused`,
-/// number, place.
+/// Answers an input as the program does (FORMAT 9.16): a list, the line `end`, then one input a line, by the lines of the table or by
+/// one line `refused`, number, place.
 pub fn respond(input: &[u8]) -> Vec<u8> {
     let mut output = vec![0; LONGEST_ANSWER];
     let length = respond_into(input, &mut output);
@@ -136,8 +136,8 @@ pub fn respond(input: &[u8]) -> Vec<u8> {
     output
 }
 
-/// The same into a lent output. It begins with the answer, whose length is returned; where the answer has no room the output is as it was,
-/// and 0 is returned.
+/// The same into a lent output. It begins with the answer, whose length is returned; where the answer has no room the output is as it
+/// was, and 0 is returned.
 pub fn respond_into(input: &[u8], output: &mut [u8]) -> usize {
     // SAFETY: the slices are there for the call, and `output` is borrowed for it alone.
     unsafe {
@@ -145,7 +145,7 @@ pub fn respond_into(input: &[u8], output: &mut [u8]) -> usize {
     }
 }
 
-/// Three counts of the tables that a desk has heard, all 0 when fresh.
+/// Three counts of the tables that a desk has heard, all 0 when fresh (FORMAT 9.11).
 #[derive(Clone, Copy, Debug, Default, PartialEq, Eq)]
 pub struct Desk {
     /// How many calls were counted: accepted and refused together.
@@ -162,8 +162,8 @@ impl Desk {
         Desk::default()
     }
 
-    /// Checks a table and counts the call. Refusals 19, where the counts do not agree, and 20, at the full count, come before all others
-    /// and leave the counts as they are.
+    /// Checks a table and counts the call (FORMAT 9.12, 9.13). Refusals 19, where the counts do not agree, and 20, at the full count,
+    /// come before all others and leave the counts as they are.
     pub fn call(&mut self, list: &[u8], table: &[u32]) -> Result<(), Refusal> {
         let mut place = 0;
         // SAFETY: the slices are there for the call; the counts are borrowed for it alone, and the place is apart from all.

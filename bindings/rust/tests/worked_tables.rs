@@ -1,4 +1,4 @@
-//! The worked tables P1 to P11 of document 01, and what the calls do with arguments that fit nothing.
+//! The worked tables P1 to P11 (FORMAT 12.1 to 12.11), and what the calls do with arguments that fit nothing.
 
 use digit_table::{
     check, make, read, read_into, respond, respond_into, show, Counts, Desk, Refusal,

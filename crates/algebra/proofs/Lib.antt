@@ -1,3 +1,5 @@
+-- The laws of algebra/specs, and how they are proved: integers first, then tests as propositions, then congruence, primes, digits and the root,
+-- each file on those before it.
 pub mod Integer
 pub mod Test
 pub mod Congruence

@@ -39,7 +39,7 @@ code-counts d run fresh few =
     let c = rw (sym after) at (counts (callsOf run) few) in
     (c .0, c .1, c .2, c .3, replies ∙ c .4)
 
--- ---- what a call gave is all seen, and all that can be seen can be given
+-- ---- what a call gave is its meaning and nothing more, and every meaning can be given
 
 code-of : MeantCalled → Called
 code-of k =

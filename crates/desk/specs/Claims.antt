@@ -1,4 +1,4 @@
--- What is claimed of the code (demand 2), as types: after any number of calls the counts still mean what they say.
+-- What is claimed of the code, as types: after any number of calls the counts still mean what they say.
 use Prim.Native.Nat.{_<_, _^_}
 use mathlib.Core.Path.{_≡_}
 use mathlib.Core.Bool.{not}
@@ -12,7 +12,7 @@ use Rattle.desk.specs.declared.Desk.{Desk}
 use Rattle.desk.specs.Desk.{Fresh, Agrees}
 use Rattle.desk.specs.Run.{Run, callsOf, repliesOf, deskOf}
 
--- from a fresh desk, up to the full count: each count is the number of such calls, and each call is answered by its check
+-- from a fresh desk, up to the full count: each count is the number of such calls, and each call is answered by its check. FORMAT 9.14
 abbrev pub CodeCounts : Type 0
 CodeCounts =
     (d : Desk) (run : Run d) → Fresh d → length (callsOf run) < 2 ^ 64 →
@@ -26,10 +26,11 @@ CodeCounts =
 abbrev pub EveryListRuns : Type 0
 EveryListRuns = (d : Desk) (calls : List Call) → (run : Run d) × (callsOf run ≡ calls)
 
+-- the reply of a full desk. FORMAT 10.20
 unfoldable pub fullReply : Call → Reply
 fullReply c = record { number = 20; place = 0 }
 
--- at the full count: every further call is refused 20, 0 and nothing moves
+-- at the full count: every further call is refused 20, 0 and nothing moves. FORMAT 9.15
 abbrev pub CodeStaysFull : Type 0
 CodeStaysFull =
     (d : Desk) (run : Run d) → Agrees d → d .heard ≡ fullCount →

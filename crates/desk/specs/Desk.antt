@@ -14,19 +14,19 @@ deskMeaning d = counted (d .heard) (d .accepted) (d .refused)
 unfoldable pub calledMeaning : Called → MeantCalled
 calledMeaning c = called (deskMeaning (c .desk)) (replyMeaning (c .reply))
 
--- a fresh desk, as `Desk::fresh` promises it: three counts, all 0
+-- a fresh desk, as `Desk::fresh` promises it: three counts, all 0. FORMAT 9.11
 abbrev pub Fresh : Desk → Type 0
 Fresh d = deskMeaning d ≡ freshDesk
 
--- what a call of this desk gave is what document 01 says
+-- what a call of this desk gave is what the definitions give, for every desk, list and table. FORMAT 9.1, 9.2, 9.12
 abbrev pub Answers : Desk → Call → Called → Type 0
 Answers d c gave = calledMeaning gave ≡ deskAnswer (deskMeaning d) (checkOf c)
 
--- the counts of a desk agree
+-- the counts of a desk agree. FORMAT 9.13
 abbrev pub Agrees : Desk → Type 0
 Agrees d = d .heard ≡ d .accepted + d .refused
 
--- a call that is counted: heard and exactly one of the others are one more, accepted where the reply is 0
+-- a call that is counted: heard and exactly one of the others are one more, accepted where the reply is 0. FORMAT 9.12
 pub record CountsOne (d : Desk) (c : Called) : Type 0 where
   pub agrees : Agrees (c .desk)
   pub heard : c .desk .heard ≡ d .heard + 1

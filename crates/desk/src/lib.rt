@@ -1,4 +1,4 @@
-// The desk (document 01, "Show, desk, program"): a check that counts. It says how many tables it has heard, accepted and refused,
+// The desk: a check that counts (FORMAT 9.11, 9.12). It says how many tables it has heard, accepted and refused,
 // and stops at the full count, where one more could not be counted.
 use service::Reply;
 use service::check;

@@ -1,7 +1,7 @@
-// The public calls for programs in other languages, by the C ABI: numbers pass as themselves, a slice as a pointer and a length, and a
-// place that is lent for one number as a pointer. No function asks anything of its caller but that what it lends is there and that what
-// is written overlaps nothing else that is lent. Each returns the number of its reply, but for showing and
-// answering, which return a count.
+// The public calls for programs in other languages, by the C ABI: numbers pass as themselves, a slice as a pointer and a length, and a place that
+// is lent for one number as a pointer. No function asks anything of its caller but that what it lends is there and that what is written overlaps
+// nothing else that is lent. Each returns the number of its reply, but for showing and answering, which return a count.
+// FORMAT 9.1, 9.2, 9.18, 9.21, 9.22
 use desk::Desk;
 use program::respond;
 use service::Answer;
@@ -20,10 +20,11 @@ ghost use Rattle.program.specs.Answered.{Answered};
 ghost use Rattle.exports.specs.Read.{numbers, numbersAfter};
 ghost use Rattle.exports.specs.Show.{upFrom};
 
-// A list of more cells is refused.
+// A list of more cells is refused. FORMAT 4.7
 const MOST_CELLS: usize = 4096;
 
 // Reads a list: 0 and its p and counts, or the number and place of its refusal. The place is written, and the other four where the number is 0.
+// FORMAT 9.4, 9.19
 #[no_mangle]
 pub extern "C" fn digit_table_read(
     list: &[u8],
@@ -53,7 +54,7 @@ pub extern "C" fn digit_table_read(
     }
 }
 
-// Checks a table. The place is written.
+// Checks a table. The place is written. FORMAT 9.6, 9.18
 #[no_mangle]
 pub extern "C" fn digit_table_check(list: &[u8], table: &[u32], place: &mut usize) -> u32
     ensures { λ r. ⌜ reply r (now (place .exit)) ≡ checkReply (now (list .entry)) (now (table .entry)) ⌝ }
@@ -63,7 +64,7 @@ pub extern "C" fn digit_table_check(list: &[u8], table: &[u32], place: &mut usiz
     checked.number
 }
 
-// Makes the table of a column of inputs. The place is written, and the table where the number is 0.
+// Makes the table of a column of inputs. The place is written, and the table where the number is 0. FORMAT 9.7, 9.8, 9.18
 #[no_mangle]
 pub extern "C" fn digit_table_make(
     list: &[u8],
@@ -80,6 +81,7 @@ pub extern "C" fn digit_table_make(
 }
 
 // Calls a desk, lent as its three counts; all 0 is a fresh one. The place is written, and the counts are those after the call.
+// FORMAT 9.12, 9.19
 #[no_mangle]
 pub extern "C" fn digit_table_desk_call(
     heard: &mut u64,
@@ -108,7 +110,7 @@ pub extern "C" fn digit_table_desk_call(
 }
 
 // Shows a line: how many cells the part of the table has, and its first cell, which is written; both 0 where the part is empty.
-// `show` is asked for the part of a table whose cells are their own numbers, so that the part tells where it starts.
+// `show` is asked for the part of a table whose cells are their own numbers, so that the part tells where it starts. FORMAT 9.9, 9.10, 9.20
 #[no_mangle]
 pub extern "C" fn digit_table_show(
     list: &[u8],
@@ -134,7 +136,7 @@ pub extern "C" fn digit_table_show(
 }
 
 // Answers the program's whole input: the output begins with the answer, whose length is returned; where it has no room, nothing is written and
-// 0 is returned.
+// 0 is returned. FORMAT 9.16, 9.20
 #[no_mangle]
 pub extern "C" fn digit_table_respond(input: &[u8], output: &mut [u8]) -> usize
     ensures { λ r. ⌜ Answered (responseTo (now (input .entry))) (now (output .entry)) (now (output .exit)) r ⌝ }

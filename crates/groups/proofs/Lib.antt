@@ -1,3 +1,5 @@
+-- The laws of what the kinds of lines share, in the order in which a line is treated.
+--
 -- whole numbers and machine words
 pub mod Whole
 pub mod SignPower

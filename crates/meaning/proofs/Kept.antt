@@ -1,5 +1,5 @@
 -- The rules that the lines of a list keep, as later proofs go through the lines: what is found by any rules of one line (none is broken, or the
--- first that is), and a line that breaks none of document 01's keeps what each asks.
+-- first that is), and a line that breaks none of the rules of a list keeps what each asks.
 use Prim.Native.Nat.{ℕ, suc, _<_}
 use native.Mathlib.Omega.{arith}
 use mathlib.Core.Path.{_≡_, refl, sym, _∙_}

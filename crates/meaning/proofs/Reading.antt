@@ -274,7 +274,7 @@ module _ {S : Type 0} (w : Way S) (ordered : T (inOrder (w .rules))) where
   pub fits-ranked : (text : List ℕ) (r i : ℕ) → FitsBy w text r i → rank r < length testOrder
   fits-ranked text r i f = test-ranked rs ordered (fits-test text r i f .1)
 
--- ---- the rules of document 01
+-- ---- the rules of a list
 
 pub rules-in-order : T (inOrder rules)
 unfolding inOrder ascends testsOf rank placeAmong testOrder rules rulesWithin rulesWith

@@ -1,4 +1,4 @@
--- The worked tables of document 01, P1 to P11, by computation.
+-- The worked tables P1 to P11, by computation.
 use Rattle.meaning.proofs.Compute.{computing}
 use Rattle.meaning.specs.Examples.{WorkedTables}
 

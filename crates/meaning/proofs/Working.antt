@@ -47,7 +47,7 @@ drop-in-range : (p i : ℕ) (xs : List ℤ) → AllInRange p xs → AllInRange p
 drop-in-range p i xs h j l = rw (getD-drop i xs j (pos 0)) (h (i + j) (omega (arith, length-drop i xs)))
 
 module _ (s′ : Known) (t : List ℕ) where
-  -- what is told of the lines from here on
+  -- what the lines from here on yield
   pub record MadeValues (s : Known) (xs : List ℤ) (ls : List Line) (ws : List ℤ) : Type 0 where
     pub inputs-stand : map (signedAt (s′ .p) t) (inputCellsFrom s ls) ≡ xs
     pub within : Within (s′ .known) ws

@@ -1,5 +1,6 @@
--- What is claimed of the definitions, as types: demands 2 and 3 over whole lists, tables and sequences of calls.
--- Their proofs are terms of these types, in proofs/.
+-- What is claimed of the definitions, as types, over whole lists, tables and sequences of calls: reading is exact, checking is exact, digits are
+-- exact, what is accepted is the true table of its own inputs and nothing else, the maker writes it, the desk counts. Their proofs are terms of
+-- these types, in proofs/.
 use Prim.Native.Nat.{ℕ, _+_, _-_, _≤_, _<_, _^_}
 use mathlib.Core.Path.{_≡_}
 use mathlib.Core.Bool.{Bool, true, not}
@@ -24,14 +25,16 @@ use Rattle.meaning.specs.Desk.{Desk, called, freshDesk, fullCount, isAcc
 
 -- ---- reading is exact
 
+-- the bytes of a line of a text
 unfoldable pub lineAt : (text : List ℕ) (line : ℕ) → List ℕ
 lineAt text n = getD (linesOf text) n []
 
+-- what is known after bytes: no more than before, where they spell no line
 unfoldable pub afterBytes : {S : Type 0} → (S → Line → S) → S → Option Line → S
 afterBytes next s none = s
 afterBytes next s (some l) = next s l
 
--- what is known before line n, if the lines before it are read
+-- what is known before line n, if the lines before it are read. FORMAT 10.22
 unfoldable pub knownBefore : {S : Type 0} → (S → Line → S) → S → List (List ℕ) → (n : ℕ) → S
 knownBefore next s bs ℕ.zero = s
 knownBefore next s [] (ℕ.suc n) = s
@@ -44,36 +47,38 @@ noRule = rule 0 (λ n s l. true)
 abbrev pub ruleAt : {S : Type 0} → List (RuleOf S) → ℕ → RuleOf S
 ruleAt rs k = getD rs k noRule
 
--- a refusal from 3 on fits line n, in state s, that has these bytes
+-- a refusal from 3 on fits line n, in state s, that has these bytes. FORMAT 10.22
 pub data FitsLine {S : Type 0} (rs : List (RuleOf S)) (n : ℕ) (s : S) (bytes : List ℕ) (number : ℕ) : Type 0 where
   no-line : number ≡ 3 → lineOf bytes ≡ none → FitsLine rs n s bytes number
   breaks : (k : ℕ) (l : Line) → k < length rs → number ≡ ruleAt rs k .refusal → lineOf bytes ≡ some l
       → ¬ T (ruleAt rs k .keeps n s l) → FitsLine rs n s bytes number
 
--- a row of the table of refusals fits the text at a place, where it is read in this way
+-- a refusal fits the text at a place, where it is read in this way. FORMAT 10.1, 10.2, 10.22
 pub data FitsBy {S : Type 0} (w : Way S) (text : List ℕ) (number place : ℕ) : Type 0 where
   too-long : number ≡ 1 → place ≡ 0 → textLimit < length text → FitsBy w text number place
   not-ended : number ≡ 2 → place ≡ 0 → ¬ T (isEnded text) → FitsBy w text number place
   in-line : place < length (linesOf text)
       → FitsLine (w .rules) place (knownBefore (w .next) (w .start) (linesOf text) place) (lineAt text place) number → FitsBy w text number place
 
--- 1 to 12
+-- 1 to 12. FORMAT 10.22
 abbrev pub Fits : (text : List ℕ) (number place : ℕ) → Type 0
 Fits text number place = FitsBy plain text number place
 
--- by place, then in the order of the tests: 1 and 2 have place 0
+-- by place, then in the order of the tests: 1 and 2 have place 0. FORMAT 10.22
 abbrev pub Before : (number place number′ place′ : ℕ) → Type 0
 Before n i n′ i′ = (i < i′) ⊎ ((i ≡ i′) × (rank n < rank n′))
 
--- the lines of a text are these
+-- the lines of a text are these. FORMAT 2.1, 2.7
 abbrev pub Spells : List ℕ → List Line → Type 0
 Spells text ls = map lineOf (linesOf text) ≡ map some ls
 
+-- what is known after lines. FORMAT 9.5
 unfoldable pub knownAfter : {S : Type 0} → (S → Line → S) → S → List Line → S
 knownAfter next s [] = s
 knownAfter next s (l ∷ ls) = knownAfter next (next s l) ls
 
--- a list is read exactly when no refusal fits it, and a refusal that is replied is the first that fits
+-- a list is read exactly when no refusal fits it, a refusal that is replied is the first that fits, and what is read are the lines that the text
+-- spells. FORMAT 10.23
 abbrev pub ReadsExactlyBy : {S : Type 0} → Way S → Type 0
 ReadsExactlyBy {S} w =
     (text : List ℕ) →
@@ -82,22 +87,22 @@ ReadsExactlyBy {S} w =
     (FitsBy w text number place × ((n i : ℕ) → Before n i number place → ¬ FitsBy w text n i)))
     × ((ls : List Line) (s : S) → readingBy w text ≡ read ls s → Spells text ls × (s ≡ knownAfter (w .next) (w .start) ls))
 
--- demand 2: "A list is read exactly when none of 01's refusals fits it"
+-- by the rules of Refusal.antt. FORMAT 10.23
 abbrev pub ReadsExactly : Type 0
 ReadsExactly = ReadsExactlyBy plain
 
 -- ---- rows
 
--- a table of the list's length with all cells below p
+-- a table of the list's length with all cells below p. FORMAT 8.8
 pub record WellFormed (s : Known) (t : List ℕ) : Type 0 where
   pub long : length t ≡ s .cells
   pub below : (i : ℕ) → i < length t → getD t i 0 < s .p
 
--- row i of the list holds in the table
+-- row i of the list holds in the table. FORMAT 1.9, 7.6
 abbrev pub Holds : Known → List Line → List ℕ → ℕ → Type 0
 Holds s ls t i = T (holds (s .p) t (getD (rowsOf ls) i (among 0 0)))
 
--- demand 2: "accepted exactly when every row holds modulo p, else the first failing row is named"
+-- accepted exactly when all rows hold, else the first that does not is named. FORMAT 8.12
 abbrev pub ChecksRows : Type 0
 ChecksRows =
     (text : List ℕ) (ls : List Line) (s : Known) (t : List ℕ) → reading text ≡ read ls s → WellFormed s t →
@@ -107,7 +112,7 @@ ChecksRows =
 
 -- ---- accepted
 
--- "An accepted check and a made table return 0, 0": the number alone tells it, by which the desk counts
+-- the number alone tells a reply 0, 0: by it the desk counts. FORMAT 9.3
 abbrev pub AcceptedByNumber : Type 0
 AcceptedByNumber =
     ((text t : List ℕ) → T (isAccepted (checkReply text t)) ↔ (checkReply text t ≡ reply 0 0))
@@ -115,8 +120,8 @@ AcceptedByNumber =
 
 -- ---- the digit rule
 
--- "The digit rule is shown for all b, k and forms together": where it allows a group over a form with ends E..F and shift L, the group's rows
--- hold exactly where the whole number x of the form lies in L..L+c-1 and the cells are the digits of x - L
+-- where the digit rule allows a group over a form with ends E..F and shift L, the rows of the group hold exactly where the whole number x of the
+-- form lies in L..L+c-1 and the cells are the digits of x - L; for all b, k and forms together. FORMAT 6.3
 abbrev pub DigitsAreExact : Type 0
 DigitsAreExact =
     (p b k at : ℕ) (es : Ends) (L x : ℤ) (form : Form) (t : List ℕ) → 0 < p → 0 < b → T (digitRule p b k es L) → es .E ≤ℤ x → x ≤ℤ es .F →
@@ -126,24 +131,24 @@ DigitsAreExact =
 
 -- ---- true tables
 
--- "its input cells are those of the in lines"
+-- the input cells of a list. FORMAT 8.10
 unfoldable pub inputCellsFrom : Known → List Line → List ℕ
 inputCellsFrom s [] = []
 inputCellsFrom s (l ∷ ls) = take (gadget s l .inputs) (s .cells ∷ []) ++ inputCellsFrom (after s l) ls
 
+-- the signed value of the cell at a place. FORMAT 1.7
 unfoldable pub signedAt : ℕ → List ℕ → ℕ → ℤ
 signedAt p t i = signed p (getD t i 0)
 
--- "inputs stand in them when they are these cells' signed values"
+-- the column of inputs that stands in a table. FORMAT 8.10
 unfoldable pub inputsOf : Known → List Line → List ℕ → List ℤ
 inputsOf s ls t = map (signedAt (s .p) t) (inputCellsFrom fresh ls)
 
--- "A table's signed values are those of the cells laid out for values"
+-- a table's signed values. FORMAT 8.9
 unfoldable pub valuesOf : Known → List ℕ → List ℤ
 valuesOf s t = map (signedAt (s .p) t) (s .places)
 
--- demand 3, whoever wrote the table: "accepted exactly when working from its own input cells meets no false statement and the true
--- table of that column is this table, cell for cell"
+-- whoever wrote the table: it is accepted exactly when it fits the list and is the true table of the column that stands in it. FORMAT 8.11, 8.14
 abbrev pub AcceptsTrueTables : Type 0
 AcceptsTrueTables =
     (text : List ℕ) (ls : List Line) (s : Known) (t : List ℕ) → reading text ≡ read ls s →
@@ -151,13 +156,13 @@ AcceptsTrueTables =
 
 -- ---- making
 
--- "a column of inputs in -M..M, one for each in line"
+-- a column of inputs for a list that is read. FORMAT 8.2
 pub record Column (s : Known) (xs : List ℤ) : Type 0 where
   pub count : length xs ≡ s .inputs
   pub within : (i : ℕ) → i < length xs → T (inRange (s .p) (getD xs i (pos 0)))
 
--- demand 3: the maker writes the true table, the one table with these inputs that is accepted, "for every column of inputs whose
--- statements are true, and replies 18 with the first false line otherwise", where no table with these inputs is accepted
+-- the maker writes the true table, which is accepted, and no other table in which these inputs stand is; or it replies the first false line, and
+-- then none is. FORMAT 8.13
 abbrev pub MakesTheOnly : Type 0
 MakesTheOnly =
     (text : List ℕ) (ls : List Line) (s : Known) (xs : List ℤ) (t : List ℕ) →
@@ -172,16 +177,16 @@ MakesTheOnly =
 
 -- ---- counts
 
--- how many calls there are whose check is accepted, and how many whose check is refused
+-- how many elements pass a test
 unfoldable pub howMany : {A : Type 0} → (A → Bool) → List A → ℕ
 howMany f [] = 0
 howMany f (x ∷ xs) = mathlib.Core.Bool.cond (f x) 1 0 + howMany f xs
 
+-- is a call's check accepted? FORMAT 9.3
 unfoldable pub passes : Call → Bool
 passes c = isAccepted (checkOf c)
 
--- demand 2: "For every sequence of desk calls up to the full count, heard = accepted + refused, and each is the number of such
--- calls"; each call is answered by its check's reply
+-- from a fresh desk, up to the full count: each count is the number of such calls, and each call is answered by its check. FORMAT 9.14
 abbrev pub Counts : Type 0
 Counts =
     (calls : List Call) → length calls < 2 ^ 64 →
@@ -192,7 +197,7 @@ Counts =
     × (d .refused ≡ howMany (λ c. not (passes c)) calls)
     × (deskReplies freshDesk calls ≡ map checkOf calls)
 
--- at the full count every further call is refused 20 and nothing moves
+-- at the full count every further call is refused 20 and nothing moves. FORMAT 9.15
 abbrev pub StaysFull : Type 0
 StaysFull =
     (d : Desk) → d .heard ≡ d .accepted + d .refused → d .heard ≡ fullCount →

@@ -1,5 +1,5 @@
--- What a line does: one interface, which reading, making and checking go by, and a module for each kind of line.
--- Digits and Sign are what several of them share.
+-- What a line does: one interface, which reading, making and checking go by, and a module for each kind of line. Digits and Sign are what several
+-- of them share.
 pub mod Interface
 pub mod Digits
 pub mod Sign

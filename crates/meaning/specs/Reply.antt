@@ -1,5 +1,5 @@
--- What reading, checking, making and showing answer, and what they leave in the lent table
--- (document 01, "Making and checking", "Show, desk, program", "Replies").
+-- What reading, checking, making and showing reply, and what they leave in the lent table; clauses 9.3 to 9.10, and refusals 13 to 18, of
+-- docs/FORMAT.md.
 use Prim.Native.Nat.{ℕ, zero, suc}
 use mathlib.Core.Bool.{Bool, cond}
 use mathlib.Core.List.{List, [], _∷_, _++_}
@@ -15,7 +15,7 @@ use Rattle.meaning.specs.Meaning.{gadget, after}
 use Rattle.meaning.specs.Refusal.{onSome, onReading, reading}
 use Rattle.meaning.specs.Work.{Worked, false-at, true-table, work}
 
--- a number and a place; "An accepted check and a made table return 0, 0"
+-- a number and a place; 0, 0 where a table is accepted or made. FORMAT 9.3
 pub record Reply : Type 0 where
   pub number : ℕ
   pub place : ℕ
@@ -23,12 +23,14 @@ pub record Reply : Type 0 where
 abbrev pub reply : ℕ → ℕ → Reply
 reply n at = record { number = n; place = at }
 
--- ---- reading: "A read list returns p and its counts of values, cells and rows."
+-- ---- reading
 
+-- what reading replies: p and the counts of values, cells and rows, or a refusal. FORMAT 9.4
 pub data Answer : Type 0 where
   counts : (p values cells rows : ℕ) → Answer
   refusal : Reply → Answer
 
+-- the counts are those of the whole list. FORMAT 8.7, 9.4
 unfoldable pub readReply : List ℕ → Answer
 readReply text =
     onReading (reading text) (λ n at. refusal (reply n at)) (λ ls s. counts (s .p) (length (s .known)) (s .cells) (s .rows))
@@ -45,7 +47,7 @@ unfoldable pub refusalAt : (number : ℕ) → Option ℕ → Option Reply
 refusalAt r none = none
 refusalAt r (some i) = some (reply r i)
 
--- the rows of a list, in order
+-- the rows of a list, in order. FORMAT 7.6
 unfoldable pub rowsFrom : Known → List Line → List Row
 rowsFrom s [] = []
 rowsFrom s (l ∷ ls) = gadget s l .rows ++ rowsFrom (after s l) ls
@@ -53,23 +55,24 @@ rowsFrom s (l ∷ ls) = gadget s l .rows ++ rowsFrom (after s l) ls
 unfoldable pub rowsOf : List Line → List Row
 rowsOf ls = rowsFrom fresh ls
 
--- "A cell holds a remainder from 0 to p-1"
+-- is this number a remainder? p and what is above it are none. FORMAT 1.5, 12.14
 unfoldable pub isCell : (p cell : ℕ) → Bool
 isCell p cell = ltb cell p
 
--- "tests all cells, then rows in order"
+-- the length, then all cells, then rows in order. FORMAT 10.13, 10.14, 10.15, 10.26
 unfoldable pub checked : Known → List Line → List ℕ → Reply
 checked s ls t =
     cond (eqb (length t) (s .cells))
     (onSome (firstFail (isCell (s .p)) 0 t) (reply 14) (onSome (firstFail (holds (s .p) t) 0 (rowsOf ls)) (reply 15) (reply 0 0)))
     (reply 13 0)
 
+-- what checking replies: the refusal of the list comes first. FORMAT 9.6, 10.26
 unfoldable pub checkReply : (list table : List ℕ) → Reply
 checkReply text t = onReading (reading text) reply (λ ls s. checked s ls t)
 
 -- ---- making: 13, 16, 17, 18
 
--- a making's reply, and the table after it
+-- a making's reply, and the table after it. FORMAT 9.8
 pub record Making : Type 0 where
   pub answer : Reply
   pub table : List ℕ
@@ -77,10 +80,12 @@ pub record Making : Type 0 where
 abbrev pub making : Reply → List ℕ → Making
 making r t = record { answer = r; table = t }
 
+-- the true table, or the first false line and the table as it was. FORMAT 9.8, 10.18
 unfoldable pub filled : Worked → List ℕ → Making
 filled (false-at n) t = making (reply 18 n) t
 filled (true-table vs cs) t = making (reply 0 0) cs
 
+-- the length, then the count of inputs, then all inputs, then the lines; a refusal leaves the table as it was. FORMAT 10.13, 10.16, 10.17, 10.27
 unfoldable pub made : Known → List Line → List ℤ → List ℕ → Making
 made s ls xs t =
     cond (eqb (length t) (s .cells))
@@ -89,21 +94,23 @@ made s ls xs t =
     (making (reply 16 0) t))
     (making (reply 13 0) t)
 
+-- what making replies and leaves: the refusal of the list comes first. FORMAT 9.7, 9.8, 10.27
 unfoldable pub makeReply : (list : List ℕ) → List ℤ → (table : List ℕ) → Making
 makeReply text xs t = onReading (reading text) (λ n at. making (reply n at) t) (λ ls s. made s ls xs t)
 
 -- ---- showing: the stretch of the table that holds the cells of line n
 
+-- as many cells as the line has, from its first. FORMAT 9.9
 unfoldable pub stretch : Known → List Line → (n : ℕ) → List ℕ → List ℕ
 stretch s [] n t = []
 stretch s (l ∷ ls) zero t = take (gadget s l .width) (drop (s .cells) t)
 stretch s (l ∷ ls) (suc n) t = stretch (after s l) ls n t
 
--- "empty for the field line, for a line that is not there, for a refused list and for a wrong table length"
+-- nothing is shown of a refused list or a table of the wrong length; no cell is looked at. FORMAT 9.9, 9.10
 unfoldable pub shown : (list table : List ℕ) (line : ℕ) → List ℕ
 shown text t n = onReading (reading text) (λ _ _. []) (λ ls s. cond (eqb (length t) (s .cells)) (stretch fresh ls n t) [])
 
--- and the cell where that stretch starts, 0 where nothing is shown
+-- the cell where that stretch starts, 0 where nothing is shown. FORMAT 9.10
 unfoldable pub startFrom : Known → List Line → (n : ℕ) → ℕ
 startFrom s [] n = 0
 startFrom s (l ∷ ls) zero = s .cells

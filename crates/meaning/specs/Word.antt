@@ -1,5 +1,5 @@
--- What a word is (document 01, "The list" and "The lines"), in one place: how it is spelled, what the numbers after it are, and what its line does.
--- A new word is one clause of `kindOf`.
+-- What a word is, in one place: how it is spelled, what the numbers after it are, and what its line does. A new word is one clause of `kindOf`.
+-- Clauses 3.1 to 3.4 of docs/FORMAT.md; what each line does stands in Gadget.antt's modules.
 use Prim.Native.Nat.{ℕ, suc, _%_}
 use mathlib.Core.Bool.{Bool, true, false, _&&_}
 use mathlib.Core.List.{List, [], _∷_}
@@ -18,6 +18,7 @@ use Rattle.meaning.specs.Gadget.Which.{whichLine}
 use Rattle.meaning.specs.Gadget.Max.{maxLine}
 use Rattle.meaning.specs.Gadget.Root.{rootLine}
 
+-- the eight words. FORMAT 3.1
 pub data Word : Type 0 where
   field input span sum relu which max root : Word
 
@@ -39,41 +40,45 @@ alternate [] = []
 alternate (x ∷ []) = x ∷ []
 alternate (x ∷ (y ∷ xs)) = x ∷ alternate xs
 
+-- a list but for its first number
 unfoldable pub withoutFirst : List ℤ → List ℤ
 withoutFirst [] = []
 withoutFirst (n ∷ ns) = ns
 
--- "b is a base, k a digit count"
+-- a base and a count of digits. FORMAT 3.4
 pub record Digits : Type 0 where
   pub b : ℤ
   pub k : ℤ
 
+-- those that stand at this place and the next
 unfoldable pub digitsAt : List ℤ → ℕ → List Digits
 digitsAt ns i = record { b = numberAt ns i; k = numberAt ns (suc i) } ∷ []
 
--- the most numbers that a line has: a sum's constant and 16 pairs
+-- the most numbers that a line has: a sum's constant and 16 pairs. FORMAT 3.1, 4.5
 abbrev pub mostNumbers : ℕ
 mostNumbers = 33
 
 -- ---- the kinds of lines
 
+-- what a word is. FORMAT 3.1
 pub record Kind : Type 0 where
   pub spelling : List ℕ
-  -- the line that sets p
+  -- the line that sets p. FORMAT 3.5
   pub isField : Bool
-  -- are these as many numbers as the word has after it?
+  -- are these as many numbers as the word has after it? FORMAT 3.1, 4.5
   pub isCounted : List ℤ → Bool
-  -- the numbers that name values: u and v, and v1, v2, .. of a sum
+  -- the numbers that name values: u and v, and v1, v2, .. of a sum. FORMAT 3.3
   pub names : List ℤ → List ℤ
-  -- c0 and the coefficients c1, c2, .. of a sum
+  -- c0 and the coefficients c1, c2, .. of a sum. FORMAT 4.4
   pub coefficients : List ℤ → List ℤ
-  -- L of a span
+  -- L of a span. FORMAT 4.3
   pub shifts : List ℤ → List ℤ
-  -- the base and the digit count
+  -- the base and the digit count. FORMAT 3.4
   pub digits : List ℤ → List Digits
   -- what the line does, by what is known before it
   pub gadget : Known → List ℤ → Gadget
 
+-- which numbers a line has: none of a sort, no base, one name, two names
 abbrev hasNone : List ℤ → List ℤ
 hasNone ns = []
 
@@ -112,6 +117,7 @@ kindWith s n names i g = record {
   gadget = g;
 }
 
+-- each word. FORMAT 3.1, 3.2
 unfoldable pub kindOf : Word → Kind
 kindOf field = kindWithout (bytes "field") true 1 fieldLine
 kindOf input = kindWithout (bytes "in") false 0 inputLine
@@ -125,7 +131,7 @@ kindOf span = record {
   digits = λ ns. digitsAt ns 1;
   gadget = λ s ns. spanLine s (sizeAt ns 0) (sizeAt ns 1) (sizeAt ns 2) (numberAt ns 3);
 }
--- "0 to 16 pairs" after the constant
+-- a constant, then 0 to 16 pairs. FORMAT 4.5
 kindOf sum = record {
   spelling = bytes "sum";
   isField = false;

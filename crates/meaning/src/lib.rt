@@ -1,1 +1,1 @@
-// Document 01 as definitions (specs/) and the proofs of its claims (proofs/). There is no code here.
+// The product as definitions (specs/) and the proofs of what is claimed of them (proofs/). There is no code here.

@@ -130,7 +130,9 @@ pub fn in_range(x: Whole, p: u32) -> bool
     requires { ⌜ 0 < p ⌝ }
     ensures { λ r. ⌜ r ≡ inRange p (x .0) ⌝ }
 {
-    within(lowest(p), x, highest(p))
+    let low = lowest(p);
+    let high = highest(p);
+    within(low, x, high)
 }
 
 // ---- arithmetic, where the result fits

@@ -17,7 +17,7 @@ use Rattle.program.specs.declared.input.Ending.the-variants.{At, Missing
 use Rattle.program.specs.declared.input.Inputs.{Inputs}
 use Rattle.program.specs.declared.input.Inputs.the-variants.{Numbers, NoNumber}
 
--- the first line `end` starts at `at`, after so many lines
+-- the first line `end` starts at `at`, after so many lines. FORMAT 11.3, 11.4
 pub record EndsAt (input : List ℕ) (at lines : ℕ) : Type 0 where
   pub parts : Parts
   pub are : partsOf (linesOf input) ≡ some parts
@@ -26,6 +26,7 @@ pub record EndsAt (input : List ℕ) (at lines : ℕ) : Type 0 where
   pub counted : lines ≡ length (parts .list)
   pub left : linesFrom input (at + 4) ≡ parts .inputs
 
+-- where it is, or that it is missing. FORMAT 11.3
 unfoldable pub EndYield : List ℕ → Ending → Type 0
 EndYield input (At at lines) = EndsAt input at lines
 EndYield input Missing = orRefused 2 (partsOf (linesOf input)) ≡ refusedBy 2
@@ -37,6 +38,7 @@ pub record NumbersRead (lines : List (List ℕ)) (stored : List ℤ) (count : �
   pub room : length stored ≡ valueLimit
   pub stands : take valueLimit (orNone (numbersOf lines)) ≡ take count stored
 
+-- all are numbers, or the first line that is none. FORMAT 11.6
 unfoldable pub InputsYield : List (List ℕ) → List ℤ → Inputs → Type 0
 InputsYield lines stored (Numbers count) = NumbersRead lines stored count
 InputsYield lines stored (NoNumber i) = refusalAt 3 (firstFail (λ l. isSome (number l)) 0 lines) ≡ some (reply 3 i)

@@ -4,7 +4,7 @@ use Prim.Native.Nat.{ℕ, _+_}
 use Rattle.meaning.specs.Text.{bytes, decimalOf}
 use Rattle.meaning.specs.Program.{tabbed}
 
--- a line of two numbers
+-- a line of two numbers. FORMAT 11.8
 abbrev pub pairText : (first second : ℕ) → List ℕ
 pairText first second = tabbed (decimalOf first) (decimalOf second) ++ 10 ∷ []
 
@@ -12,6 +12,6 @@ pairText first second = tabbed (decimalOf first) (decimalOf second) ++ 10 ∷ []
 abbrev pub longestPair : ℕ
 longestPair = 20 + 20 + 2
 
--- the first line of a table
+-- the first line of a table. FORMAT 11.8
 abbrev pub headingText : (count : ℕ) → List ℕ
 headingText count = tabbed (bytes "table") (decimalOf count) ++ 10 ∷ []

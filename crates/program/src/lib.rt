@@ -11,7 +11,7 @@ use text::is_ended;
 ghost use Rattle.meaning.specs.Program.{respond as responseTo};
 ghost use Rattle.program.specs.Answered.{Answered};
 
-// The public call: for every input the answer of document 01, where it has room in the output.
+// The public call: for every input the program's answer, where it has room in the output. FORMAT 9.16, 11.11
 pub fn respond(input: &[u8], output: &mut [u8]) -> usize
     ensures { λ r. ⌜ Answered (responseTo (now (input .entry))) (now (output .entry)) (now (output .exit)) r ⌝ }
 {

@@ -1,4 +1,4 @@
--- Line 0: what reading tells of it, by its word and its number.
+-- Line 0: what it yields, by its word and its number.
 use mathlib.Core.Path.{_≡_, refl, sym, ap, _∙_}
 use mathlib.Core.Bool.{true, false, not, _&&_}
 use mathlib.Core.List.{List, [], _∷_}

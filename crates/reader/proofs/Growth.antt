@@ -29,7 +29,7 @@ use Rattle.reader.specs.Step.{stops, goes, stepOf, stepMeaning, placedAt
 use Rattle.reader.specs.declared.state.Counts.{Counts}
 use Rattle.reader.specs.declared.state.Stepped.{Stepped}
 
--- ---- what is told, taken apart
+-- ---- what a line yields, taken apart
 
 yield-refused : (o : Option ℕ) (es : List Ends) (a : Known) (n : ℕ) → refuses n ≡ onSome o refuses (makes es) → stops n ≡ onSome o stops (goes a)
 unfolding onSome

@@ -67,7 +67,7 @@ module _ {v w : Word} {m : ℕ} {numbers : List ℤ} (n : ℕ) (parsed : ParsedL
   pub with-count : {Lent : Type 0} → Lent → Lent × (n ≤ length numbers) × Small n numbers
   with-count lent = (lent, omega (arith, counted-so, parsed .most, parsed .numbers-long), λ i l. parsed .small i (omega (arith, counted-so)))
 
-  -- what is told of it is what is told of the line that was read
+  -- what it yields is what the line that was read yields
   pub at-count : (s : Known) (x : Yield) → x ≡ lineYield s (lineWith (wordOf w) (take n numbers)) → x ≡ lineYield s (lineWith (wordOf v) (take m numbers))
   at-count s x h = h ∙ ap₂ (λ (u : Word) (i : ℕ). lineYield s (lineWith (wordOf u) (take i numbers))) (sym q) (sym counted-so)
 

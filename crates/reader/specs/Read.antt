@@ -36,6 +36,7 @@ pub data Survey : Type 0 where
   counted : (p values inputs cells rows : ℕ) → Survey
   refusedAt : (number place : ℕ) → Survey
 
+-- what reading counts, and the count of inputs, which making asks for. FORMAT 8.7
 unfoldable pub surveyOf : Reading → Survey
 surveyOf r = onReading r refusedAt (λ ls s. counted (s .p) (length (s .known)) (s .inputs) (s .cells) (s .rows))
 
@@ -43,12 +44,12 @@ unfoldable pub surveyMeaning : Surveyed → Survey
 surveyMeaning (Counted p c) = counted p (c .values) (c .inputs) (c .cells .0) (c .rows)
 surveyMeaning (NotRead number place) = refusedAt number place
 
--- p of a read list is an odd prime, and of a number's size
+-- p of a read list is an odd prime, and of a number's size. FORMAT 1.1
 unfoldable pub PrimeFound : Surveyed → Type 0
 PrimeFound (Counted p c) = OddPrime p × (p ≤ greatest)
 PrimeFound (NotRead number place) = Unit {0}
 
--- what is replied of it
+-- what is replied of it: all but the count of inputs. FORMAT 9.4
 unfoldable pub replyOf : Survey → Meant
 replyOf (counted p values inputs cells rows) = counts p values cells rows
 replyOf (refusedAt number place) = refusal (reply number place)
@@ -57,7 +58,7 @@ unfoldable pub answerMeaning : Answer → Meant
 answerMeaning (Read p values cells rows) = counts p values cells rows
 answerMeaning (Refused number place) = refusal (reply number place)
 
--- demand 2 of a reply: it is a read list's exactly when no refusal fits the text, and a refusal's exactly when that is the first that fits
+-- it is a read list's reply exactly when no refusal fits the text, and a refusal's exactly when that is the first that fits. FORMAT 10.23
 abbrev pub Exact : List ℕ → Meant → Type 0
 Exact text a =
     (((p : ℕ) × (values : ℕ) × (cells : ℕ) × (rows : ℕ) × (a ≡ counts p values cells rows)) ↔ ((number place : ℕ) → ¬ Fits text number place))

@@ -34,7 +34,7 @@ pub enum Answer {
     Refused(u32, usize),
 }
 
-// The public call: for every byte string the reply of document 01, and so the first refusal that fits the text, or none.
+// The public call: for every byte string the reply of the definitions, and so the first refusal that fits the text, or none. FORMAT 9.4
 pub fn read(list: &[u8]) -> Answer
     ensures replied { λ r. ⌜ answerMeaning r ≡ readReply (now (list .entry)) ⌝ }
     ensures exact { λ r. ⌜ Exact (now (list .entry)) (answerMeaning r) ⌝ }

@@ -1,4 +1,4 @@
--- The lines that have a base and a digit count: span, relu, which, max and root. In what they differ is their `Layout`; what is told of them up
+-- The lines that have a base and a digit count: span, relu, which, max and root. In what they differ is their `Layout`; what they yield up
 -- to rule 9 follows from it.
 use mathlib.Core.Path.{_≡_, refl, sym, _∙_, ap}
 use mathlib.Core.Bool.{Bool, true, false, cond, _&&_, and-true}
@@ -67,7 +67,7 @@ pub record Begins (K : Layout) (values : ℕ) (ns : List ℤ) (b k : ℕ) : Type
 abbrev tested : ℤ → ℤ → Bool
 tested x y = isDigits (record { b = x; k = y })
 
--- what is told of a line that has begun so, by what is told of it from rule 10 on
+-- what a line yields that has begun so, by what it yields from rule 10 on
 abbrev yieldBegun : Begun → (rest : (b k : ℕ) → Yield) → Yield
 yieldBegun (Stops n) rest = refuses n
 yieldBegun (Digits b k) rest = rest b k
@@ -130,7 +130,7 @@ module _ {K : Layout} {p values cells : ℕ} {numbers : List ℤ} {r : Begun} (y
     early-is : earlyOf s (K .word) line ≡ early
     early-is = rw (shape .is s numbers, shape .makes-so-many s numbers (natAbs x) (natAbs y), shape .cells s numbers (natAbs x) (natAbs y), known-count ready meaning, meaning .cells-are, shape .names values numbers) refl
 
-    -- over any ends that are told where no rule is broken
+    -- over any ends that it yields where no rule is broken
     yield-with : (es : List Ends) → yieldWith s (lineWith (K .word) line) es ≡ yieldBegun r (λ b k. late (K .line s numbers b k) es)
     yield-with es =
         yield-by-rules s (K .word) line es (shape .plain) ∙ rw (ranged-is, early-is, shape .is s numbers)
@@ -264,7 +264,7 @@ span-shape = record {
   cells = λ s ns b k. omega arith;
 }
 
--- ---- a span line, which makes no value: what is told of it are the new ends of its value
+-- ---- a span line, which makes no value: what it yields are the new ends of its value
 
 module _ {p values cells : ℕ} {numbers : List ℤ} {r : Begun} (yields : BegunBy spanLayout p values cells numbers r)
     {lows highs : List ℤ} (ready : Ready p values cells lows highs) {s : Known} (meaning : Represented s p values cells lows highs) where

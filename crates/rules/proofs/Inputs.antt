@@ -1,4 +1,4 @@
--- What reading tells of an input line: it breaks no rule but those of room.
+-- What an input line yields: it breaks no rule but those of room.
 use mathlib.Core.Path.{_≡_, refl, sym, _∙_}
 use mathlib.Core.Bool.{true, false}
 use mathlib.Core.List.{List, [], _∷_}

@@ -1,4 +1,4 @@
--- What is told of a line, by the first rule that it breaks: for every kind of line after line 0, and what follows for those with a base
+-- What a line yields, by the first rule that it breaks: for every kind of line after line 0, and what follows for those with a base
 -- and a digit count.
 use mathlib.Core.Path.{_≡_, refl}
 use mathlib.Core.Bool.{Bool, true, false, cond}
@@ -31,7 +31,7 @@ yieldWith s l es = onSome (firstBroken rules 1 s l) refuses (makes es)
 unfoldable pub late : Gadget → List Ends → Yield
 late g es = cond (g .unambiguous) (cond (g .fits) (cond (g .overlaps) (makes es) (refuses 12)) (refuses 11)) (refuses 10)
 
--- the rules from 7 on: `early` is the first broken of 7 to 9, or 0, and `rest` is what is told from rule 10 on
+-- the rules from 7 on: `early` is the first broken of 7 to 9, or 0, and `rest` is what the line yields from rule 10 on
 unfoldable pub yieldUnless : (early : ℕ) (rest : Yield) → Yield
 yieldUnless zero rest = rest
 yieldUnless (suc n) rest = refuses (suc n)
@@ -68,7 +68,7 @@ cellsFit s w ns = leb (s .cells + kindOf w .gadget s ns .width) cellLimit
 abbrev pub earlyOf : Known → Word → List ℤ → ℕ
 earlyOf s w ns = earlyBroken (areNamed s w ns) (length (s .known)) (length (kindOf w .gadget s ns .made)) (s .cells) (kindOf w .gadget s ns .width)
 
--- what is told of any line after line 0
+-- what any line after line 0 yields
 pub yield-by-rules : (s : Known) (w : Word) (ns : List ℤ) (es : List Ends) → kindOf w .isField ≡ false
     → yieldWith s (lineWith w ns) es ≡ cond (isRanged (s .p) w ns) (yieldUnless (earlyOf s w ns) (late (kindOf w .gadget s ns) es)) (refuses 6)
 unfolding firstBroken rules rulesWith rulesWithin isPlaced earlyBroken gadget late

@@ -1,4 +1,4 @@
--- What is told of a sum line: its coefficients and its names are every other number, and its ends are taken term by term.
+-- What a sum line yields: its coefficients and its names are every other number, and its ends are taken term by term.
 use mathlib.Core.Path.{_≡_, refl, sym, _∙_}
 use mathlib.Core.Bool.{Bool, true, false, cond, _&&_}
 use mathlib.Core.List.{List, [], _∷_}

@@ -71,14 +71,14 @@ pub record Field (p : ℕ) : Type 0 where
 abbrev pub narrow : (p c : ℕ) → KnownEnds → (shift : ℤ) → Bool
 narrow p c es shift = leZ (es .F -ℤ shift) (pos (p - 1)) && leZ (shift +ℤ pos (c - 1) -ℤ es .E) (pos (p - 1))
 
--- what is told of a line by this rule, where those up to 9 are kept: the ends that the line makes, or refusal 10
+-- what a line yields by this rule, where those up to 9 are kept: the ends that the line makes, or refusal 10
 abbrev pub ruleYield : Bool → KnownEnds → Yield
 ruleYield kept es = cond kept (makes (es ∷ [])) (refuses 10)
 
--- of a root line, where the rules up to 9 are kept, with c = b^k: "Allowed exactly when c ≥ 3 and c² ≤ M+1"
+-- of a root line, where the rules up to 9 are kept, with c = b^k: c is at least 3 and c² at most M+1. FORMAT 6.4
 unfoldable pub rootYield : (p c : ℕ) → Yield
 rootYield p c = ruleYield (leb 3 c && leb (c * c) (half p + 1)) (ends (pos 0) (pos (c - 1)))
 
--- what is told of a span line where the rules up to 10 are kept, with the new ends of v
+-- what a span line yields where the rules up to 10 are kept, with the new ends of v
 unfoldable pub sharedYield : KnownEnds → Yield
 sharedYield new = cond (leZ (new .E) (new .F)) (makes (new ∷ [])) (refuses 12)

@@ -1,4 +1,4 @@
--- What is told of a sum line where the rules up to 9 are kept, over the arrays that hold the known ends.
+-- What a sum line yields where the rules up to 9 are kept, over the arrays that hold the known ends.
 use mathlib.Core.Bool.{cond}
 use mathlib.Core.List.{List, [], _∷_}
 use Prim.Native.Nat.{ℕ}

@@ -1,5 +1,5 @@
-// The rules that several kinds of lines have in common, each proved equal to its definition. What a line names is read from its
-// numbers here, so that the kinds of lines do no arithmetic on machine words of their own.
+// The rules that several kinds of lines have in common, each proved equal to its definition. What a line names is read from its numbers
+// here. Whole numbers are added and compared by the functions of number, so that no kind of line has arithmetic on signed words of its own.
 use number::power::Power;
 use number::power::capped_power;
 use number::whole::Whole;
@@ -82,7 +82,7 @@ pub fn is_ranged(numbers: &[i64], at: usize, p: u32) -> bool
 
 // Whether the number at a place names one of the values that are made.
 pub fn is_made(numbers: &[i64], at: usize, values: usize) -> bool
-    requires { ⌜ (at < length (now numbers)) × (values ≤ valueLimit) ⌝ }
+    requires { ⌜ at < length (now numbers) ⌝ }
     ensures { λ r. ⌜ r ≡ isMade values (getD (now (numbers .entry)) at (pos 0)) ⌝ }
 {
     is_below(whole_at(numbers, at), values)
@@ -90,7 +90,7 @@ pub fn is_made(numbers: &[i64], at: usize, values: usize) -> bool
 
 // The same of the first two numbers.
 pub fn are_made(numbers: &[i64], values: usize) -> bool
-    requires { ⌜ (1 < length (now numbers)) × (values ≤ valueLimit) ⌝ }
+    requires { ⌜ 1 < length (now numbers) ⌝ }
     ensures { λ r. ⌜ r ≡ isMade values (getD (now (numbers .entry)) 0 (pos 0)) && isMade values (getD (now (numbers .entry)) 1 (pos 0)) ⌝ }
 {
     if is_made(numbers, 0, values) {

@@ -21,7 +21,7 @@ ghost use lib.ListN.{length, getD, take, drop};
 ghost use Rattle.meaning.specs.Word.{sum, alternate, mostNumbers};
 ghost use Rattle.meaning.specs.Number.{inRange};
 ghost use Rattle.meaning.specs.Known.{Known, ends};
-ghost use Rattle.meaning.specs.Refusal.{all, isMade, valueLimit};
+ghost use Rattle.meaning.specs.Refusal.{all, isMade};
 ghost use Rattle.meaning.specs.Gadget.Sum.{termsOf, scaled, added, endsInRange};
 ghost use Rattle.number.specs.Bounded.{Bounded};
 ghost use Rattle.rules.specs.Ready.{Small, Ready, Represented, greatestProduct, greatest};
@@ -76,7 +76,7 @@ fn coefficients_ranged(numbers: &[i64], count: usize, p: u32) -> bool
 
 // v1, v2, ..: the numbers at 2, 4, ..
 fn names_made(numbers: &[i64], count: usize, values: usize) -> bool
-    requires { ⌜ (count ≤ length (now numbers)) × (count ≤ mostNumbers) × (values ≤ valueLimit) ⌝ }
+    requires { ⌜ (count ≤ length (now numbers)) × (count ≤ mostNumbers) ⌝ }
     ensures { λ r. ⌜ r ≡ all (isMade values) (alternate (drop 2 (take count (now (numbers .entry))))) ⌝ }
 {
     let mut i: usize = 2;

@@ -197,7 +197,7 @@ module _ {list table : List ℕ} {p : ℕ} {numbers : List ℤ} {places : List �
     w .stands .few .cells-most,
   )
 
-  -- ---- what the rows of a line are asked with
+  -- ---- what the rows of a line are given
 
   abbrev pub at-line : at < length list → AtLine list c at
   at-line inside = record { listed = w .given .listed; number = w .number; state = w .state; left = w .left; stands = w .stands; inside = inside }

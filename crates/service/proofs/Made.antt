@@ -69,7 +69,7 @@ module _ (list : List ℕ) (xs : List ℤ) (t : List ℕ) where
   unfolding makeReply onReading
   make-read l = rw (l .is-read) refl
 
--- a reply and a table, told together, keep the promise of `make`
+-- a reply and a table together keep the promise of `make`
 pub makes-by : {list : List ℕ} {xs : List ℤ} {t after : List ℕ} {r : Reply} → making (replyMeaning r) after ≡ makeReply list xs t → Makes list xs t r after
 makes-by e = record { replied = ap (λ (q : Making). q .answer) e; left = ap (λ (q : Making). q .table) e }
 
@@ -86,7 +86,7 @@ module _ (ls : List Line) (s : Known) (xs values : List ℤ) (x : Working) (done
   unfolding WorkingYield
   all-worked is = subst (WorkingYield ls s xs values) is done
 
--- what writing is asked with, once every statement is found true
+-- what writing is given, once every statement is found true
 module _ (list table : List ℕ) (p : ℕ) (xs values : List ℤ) (a : WorkGiven list xs) (prime : a .listed .last .p ≡ p) (long : length table ≡ a .listed .last .cells)
     (values-long : length values ≡ valueLimit) (x : Working) (done : WorkingYield (a .listed .lines) (a .listed .last) xs values x) (is : x ≡ AllTrue) where
   pub written-cells : List ℕ

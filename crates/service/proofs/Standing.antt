@@ -197,7 +197,7 @@ module _ {list : List ℕ} {c : Counts} {at : ℕ} (a : AtLine list c at) {befor
     small = numbers-small (a .stands) ended (a .inside) parsed long is;
   })
 
--- ---- what a line that was taken tells
+-- ---- what is known of a line that was taken
 
 module _ {list : List ℕ} {c : Counts} {at : ℕ} {a : AtLine list c at} {numbers : List ℤ} {t : Taken} (took : Took a numbers t) where
   pub keeps-rules : Keeps (a .number) (a .state) (taken numbers t)

@@ -159,7 +159,7 @@ module _ {list : List ℕ} {inputs numbers values : List ℤ} {c : Counts} {at n
       within = w .within;
     }
 
-  -- ---- what the line's working then tells
+  -- ---- what the line's working then yields
 
   module _ (l : Line) (rest : List Line) (left-is : w .left ≡ l ∷ rest) (r : Worked)
       (yields : workedMeaning r ≡ cond (gadget (w .state) l .statement before) (value (gadget (w .state) l .values before next)) (refusedBy 18)) where

@@ -57,7 +57,7 @@ values-extended (l ∷ ls) n s vs xs ws cs e =
     let later = values-extended ls (suc n) (after s l) (vs ++ g .values vs x) (drop (g .inputs) xs) ws (parts .1 .0) (parts .1 .1) in
     (g .values vs x ++ later .0, sym (append-assoc vs (g .values vs x) (later .0)) ∙ later .1)
 
--- ---- the cells of a list are told by its values
+-- ---- the cells of a list follow from its values
 
 -- an input is the value of its line, and no other line looks at the next input
 module _ (s : Known) (ns vs : List ℤ) (x y : ℤ) where
@@ -95,7 +95,7 @@ next-parts vs ps qs us ts ws h e f =
     part cs zs = sym (ap (λ (q : List ℤ). take (length cs) (drop (length vs) q)) (append-assoc vs cs zs)
         ∙ ap (take (length cs)) (drop-at vs (cs ++ zs) (length vs) refl) ∙ take-at cs zs (length cs) refl)
 
--- one line with the next input x or y, and the later lines, whose cells are told by the values before them
+-- one line with the next input x or y, and the later lines, whose cells follow from the values before them
 module _ (l : Line) (n : ℕ) (s : Known) (vs ws : List ℤ) (x y : ℤ) (later-x later-y : List ℤ → Worked) (cs ds : List ℕ) where
   abbrev g : Gadget
   g = gadget s l
@@ -208,7 +208,7 @@ module _ {list : List ℕ} {p : ℕ} {values : List ℤ} {before table : List �
       ∙ ap (λ (z : Known). true-table (take (length (z .known)) values) (b .cells)) (same-last (b .given .listed) l)) in
       w .table-is ∙ ap (λ (q : List ℕ). w .done ++ q) (drop-of-length-le before all-done ∙ ap cellsIn ended) ∙ w .all-cells ∙ same
 
-  -- ---- what the cells of a line are asked with
+  -- ---- what the cells of a line are given
 
   -- the part of the table that is lent
   abbrev pub part : List ℕ

@@ -1,6 +1,6 @@
--- What is claimed of the code's own replies, as types: for every list, table and column, whoever wrote the table. Each speaks of a reply
--- that keeps the promise of `check` or `make` (`Checks`, `Makes`), and of the table that `make` leaves.
--- The proofs are terms of these types, in proofs/Claims.antt. Document 01 and crates/meaning/specs say what the words mean.
+-- What is claimed of the code's own replies, as types: for every list, table and column, whoever wrote the table. Each speaks of a reply that
+-- keeps the promise of `check` or `make` (`Checks`, `Makes`), and of the table that `make` leaves. The proofs are terms of these types, in
+-- proofs/Claims.antt; docs/FORMAT.md and crates/meaning/specs say what the words mean.
 use Prim.Native.Nat.{ℕ, _<_}
 use mathlib.Core.Path.{_≡_}
 use mathlib.Core.Logic.{_↔_, _⊎_}
@@ -16,19 +16,19 @@ use Rattle.meaning.specs.Claims.{WellFormed, Holds, Column, inputsOf, valuesOf}
 use Rattle.service.specs.Reply.{replyMeaning, Checks, Makes}
 use Rattle.service.specs.declared.reply.Reply.{Reply}
 
--- "0, 0"
+-- the reply 0, 0. FORMAT 9.3
 abbrev pub Accepts : Reply → Type 0
 Accepts r = replyMeaning r ≡ reply 0 0
 
--- the number alone tells it, of a check and of a making: by it the desk counts, and a caller by the C ABI knows
+-- the number alone tells it, of a check and of a making: by it the desk counts, and a caller by the C ABI knows. FORMAT 9.3
 abbrev pub AcceptedByNumber : Type 0
 AcceptedByNumber =
     ((list table : List ℕ) (r : Reply) → Checks list table r → (r .number ≡ 0) ↔ Accepts r)
     × ((list : List ℕ) (inputs : List ℤ) (table : List ℕ) (r : Reply) (after : List ℕ) → Makes list inputs table r after → (r .number ≡ 0) ↔ Accepts r)
 
--- ---- demand 2: rows
+-- ---- rows
 
--- "A table of the right length with cells below p is accepted exactly when every row holds modulo p, else the first failing row is named"
+-- a table that fits the list is accepted exactly when all rows hold, else the first that does not is named. FORMAT 8.12
 abbrev pub RowsAreChecked : Type 0
 RowsAreChecked =
     (list : List ℕ) (ls : List Line) (s : Known) (table : List ℕ) (r : Reply) → Checks list table r → reading list ≡ read ls s → WellFormed s table →
@@ -36,22 +36,23 @@ RowsAreChecked =
     × ((row : ℕ) → replyMeaning r ≡ reply 15 row ↔ ((row < s .rows) × (¬ Holds s ls table row) × ((i : ℕ) → i < row → Holds s ls table i)))
     × (Accepts r ⊎ ((row : ℕ) × (replyMeaning r ≡ reply 15 row)))
 
--- ---- demand 3: true tables
+-- ---- true tables
 
--- "For every read list and any table, whoever wrote it: accepted exactly when it is the true table of its own inputs"
+-- whoever wrote the table: it is accepted exactly when it is the true table of the inputs that stand in it. FORMAT 8.11
 abbrev pub OnlyTrueTablesPass : Type 0
 OnlyTrueTablesPass =
     (list : List ℕ) (ls : List Line) (s : Known) (table : List ℕ) (r : Reply) → Checks list table r → reading list ≡ read ls s →
     Accepts r ↔ (WellFormed s table × (work ls (inputsOf s ls table) ≡ true-table (valuesOf s table) table))
 
--- and no table passes with a list that is refused
+-- no table passes with a list that is refused. FORMAT 9.6
 abbrev pub NothingPassesUnread : Type 0
 NothingPassesUnread =
     (list table : List ℕ) (r : Reply) → Checks list table r → Accepts r → (ls : List Line) × (s : Known) × (reading list ≡ read ls s)
 
--- ---- demand 3: making
+-- ---- making
 
--- "The maker writes that table for every column of inputs whose statements are true, and replies 18 with the first false line otherwise"
+-- the maker writes the true table of a column whose statements are true; else it replies the first false line, and no table in which the column
+-- stands is accepted. FORMAT 8.13, 10.18
 abbrev pub MakesTrueTables : Type 0
 MakesTrueTables =
     (list : List ℕ) (ls : List Line) (s : Known) (inputs : List ℤ) (table : List ℕ) (r : Reply) (after : List ℕ) →
@@ -61,7 +62,7 @@ MakesTrueTables =
     × ((line : ℕ) → work ls inputs ≡ false-at line → (replyMeaning r ≡ reply 18 line) × (after ≡ table)
     × ((other : List ℕ) (checked : Reply) → Checks list other checked → inputsOf s ls other ≡ inputs → ¬ Accepts checked))
 
--- what the maker wrote passes, and no other table with these inputs does
+-- what the maker wrote passes, and no other table with these inputs does. FORMAT 8.13
 abbrev pub MadeTablesPass : Type 0
 MadeTablesPass =
     (list : List ℕ) (inputs : List ℤ) (table : List ℕ) (r : Reply) (after : List ℕ) → Makes list inputs table r after → Accepts r →
@@ -69,9 +70,9 @@ MadeTablesPass =
     × ((ls : List Line) (s : Known) → reading list ≡ read ls s → (other : List ℕ) (checked : Reply) → Checks list other checked → Accepts checked →
     inputsOf s ls other ≡ inputs → other ≡ after)
 
--- ---- demand 1: memory
+-- ---- memory
 
--- "a refused call changes nothing"
+-- a refused making leaves the table as it was. FORMAT 9.8
 abbrev pub RefusedMakingChangesNothing : Type 0
 RefusedMakingChangesNothing =
     (list : List ℕ) (inputs : List ℤ) (table : List ℕ) (r : Reply) (after : List ℕ) → Makes list inputs table r after → ¬ Accepts r → after ≡ table

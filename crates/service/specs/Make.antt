@@ -1,4 +1,4 @@
--- Making a table for a list that was read: what working its lines and writing their cells are asked with, and what they then tell.
+-- Making a table for a list that was read: what working its lines and writing their cells are given, and what they then yield.
 use mathlib.Core.Path.{_≡_}
 use mathlib.Core.Bool.{Bool, true, false}
 use mathlib.Core.List.{List}
@@ -20,7 +20,7 @@ use Rattle.service.specs.declared.working.Working.{Working}
 use Rattle.service.specs.declared.working.Working.the-variants.{AllTrue, FalseAt}
 use Rattle.meaning.specs.Refusal.{valueLimit}
 
--- the refusal at the first input outside the signed range: "17, input"
+-- the refusal at the first input outside the signed range. FORMAT 10.17
 unfoldable pub inputsMeaning : Inputs → Option Reply
 inputsMeaning AllInRange = none
 inputsMeaning (Outside i) = some (reply 17 i)
@@ -36,13 +36,13 @@ isTrue (Value x) = true
 isTrue NoValue = true
 isTrue False = false
 
--- a column of inputs for a list that was read
+-- a column of inputs for a list that was read. FORMAT 8.2
 pub record WorkGiven (list : List ℕ) (inputs : List ℤ) : Type 0 where
   pub listed : ListRead list
   pub column : Column (listed .last) inputs
 
--- the refusal at the first line whose statement is false, "18, line", which leaves any table as it was; or none is false, and the values
--- stand in the array
+-- the refusal at the first line whose statement is false, which leaves any table as it was; or none is false, and the values stand in the array.
+-- FORMAT 10.18, 8.5
 unfoldable pub WorkingYield : List Line → Known → (inputs values : List ℤ) → Working → Type 0
 WorkingYield ls s xs values (FalseAt n) = (t : List ℕ) → filled (work ls xs) t ≡ making (reply 18 n) t
 WorkingYield ls s xs values AllTrue = (cells : List ℕ) × (work ls xs ≡ true-table (take (length (s .known)) values) cells)

@@ -8,14 +8,15 @@ use Rattle.meaning.specs.Reply.{reply, checkReply, makeReply}
 use Rattle.meaning.specs.Reply.{Reply as Meant}
 use Rattle.service.specs.declared.reply.Reply.{Reply}
 
+-- a number and a place. FORMAT 9.3
 unfoldable pub replyMeaning : Reply → Meant
 replyMeaning r = reply (r .number) (r .place)
 
--- what `check` promises of its reply
+-- what `check` promises of its reply, for every list and table. FORMAT 9.1, 9.2, 9.6
 abbrev pub Checks : (list table : List ℕ) → Reply → Type 0
 Checks list table r = replyMeaning r ≡ checkReply list table
 
--- what `make` promises of its reply and of the table afterwards
+-- what `make` promises of its reply and of the table afterwards, for every list, column and table. FORMAT 9.1, 9.2, 9.7, 9.8
 pub record Makes (list : List ℕ) (inputs : List ℤ) (table : List ℕ) (r : Reply) (after : List ℕ) : Type 0 where
   pub replied : replyMeaning r ≡ makeReply list inputs table .answer
   pub left : after ≡ makeReply list inputs table .table

@@ -12,7 +12,7 @@ use Rattle.service.specs.declared.showing.Stretch.{Stretch}
 abbrev pub cellPlace : (start : ℕ × ℕ) (cell : ℕ) → ℕ × ℕ
 cellPlace start cell = (start .0, cell * 4 + start .1)
 
--- from one cell to another are the cells of that line of the list, in every table
+-- from one cell to another are the cells of that line of the list, in every table. FORMAT 9.9, 9.10
 pub record IsStretch (list : List ℕ) (line : ℕ) (l : ListRead list) (r : Stretch) : Type 0 where
   pub ordered : r .from .0 ≤ r .to .0
   pub inside : r .to .0 ≤ l .last .cells

@@ -24,7 +24,7 @@ enum Cells {
     Large(Cell),
 }
 
-// The public call: for every list and table the reply of document 01.
+// The public call: for every list and table the reply of the definitions. FORMAT 9.6
 pub fn check(list: &[u8], table: &[u32]) -> Reply
     ensures { λ r. ⌜ Checks (now (list .entry)) (now (table .entry)) r ⌝ }
 {

@@ -26,7 +26,7 @@ enum Inputs {
     Outside(usize),
 }
 
-// The public call: for every list, column and table the reply of document 01, and the table that it leaves.
+// The public call: for every list, column and table the reply of the definitions, and the table that it leaves. FORMAT 9.7, 9.8
 pub fn make(list: &[u8], inputs: &[i64], table: &mut [u32]) -> Reply
     ensures { λ r. ⌜ Makes (now (list .entry)) (now (inputs .entry)) (now (table .entry)) r (now (table .exit)) ⌝ }
 {

@@ -1,4 +1,4 @@
--- A line's word in the code and its word in the definitions: what is asked or told of a line by the one, and by the other at the count of
+-- A line's word in the code and its word in the definitions: what is given of a line and what it yields by the one, and by the other at the count of
 -- numbers that it has.
 use mathlib.Core.Path.{_≡_, refl, sym, subst, _∙_}
 use mathlib.Core.Bool.{true}

@@ -1,5 +1,5 @@
 -- A line of a list that was read, as the functions that check its rows take it: the places that its names lead to, the room for its
--- cells, and that what is told of the code's numbers is told of the line.
+-- cells, and that what the code's numbers yield the line yields.
 use mathlib.Core.Path.{_≡_, refl, sym, ap, subst, _∙_}
 use mathlib.Core.Bool.{false}
 use mathlib.Core.List.{List, []}
@@ -31,7 +31,7 @@ pub no-row : (p : ℕ) (w : Word) (numbers : List ℤ) (count : ℕ) (table : Li
 unfolding gadget rowsMeaning firstFail refusalAt
 no-row p w numbers count table cells places none a = rw (none (a .kept .state) (take count numbers)) refl
 
--- ---- what is asked, and what is told
+-- ---- what is given, and what it yields
 
 -- p, the table, and the digit group of a line that has so many cells, as the functions that check its rows ask it
 pub record GroupGiven (p : ℕ) (table : List ℕ) (cells width b k : ℕ) : Type 0 where

@@ -1,4 +1,4 @@
--- What a read list tells of a sum, as `sum_works` asks it: where the ends of every step lie in -M..M, and each value lies between
+-- What a read list gives of a sum, as `sum_works` takes it: where the ends of every step lie in -M..M, and each value lies between
 -- its ends, no step of the sum is great.
 use mathlib.Core.List.{List, [], _∷_}
 use Prim.Native.Nat.{ℕ, _≤_}

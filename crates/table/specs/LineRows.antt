@@ -1,4 +1,4 @@
--- What the rows of a line are asked with, and what is then told: the first of them that fails.
+-- What the rows of a line are given, and what they then yield: the first of them that fails.
 use mathlib.Core.Path.{_≡_}
 use mathlib.Core.Bool.{false}
 use mathlib.Core.List.{List}

@@ -1,4 +1,4 @@
--- What working a line and writing its cells are asked with, and what is then told, by the line's gadget.
+-- What working a line and writing its cells are given, and what they then yield, by the line's gadget.
 use mathlib.Core.Path.{_≡_}
 use mathlib.Core.Bool.{false, cond}
 use mathlib.Core.List.{List, _++_}

@@ -1,4 +1,4 @@
--- What an answer of `line_of` tells its caller: the line, that it has the right count of numbers, and that they are small.
+-- What an answer of `line_of` says to its caller: the line, that it has the right count of numbers, and that they are small.
 use mathlib.Core.Path.{_≡_, refl, sym, _∙_}
 use mathlib.Core.Bool.{Bool, true, false, cond}
 use mathlib.Core.List.{List, [], _∷_}

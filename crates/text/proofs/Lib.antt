@@ -1,3 +1,5 @@
+-- The laws behind the readers, from bytes to lines: places and ends first, then numbers, words, fields and a line, and last what the line reader's answer says to
+-- its callers (`Answers`).
 pub mod Bytes
 pub mod Numbers
 pub mod Places

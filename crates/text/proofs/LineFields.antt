@@ -74,7 +74,7 @@ module _ {text : List ℕ} {at : ℕ} (l : InLine text at (endOf text at)) where
     unfolding fieldsOf
     fields = rw (line-cut text at) (fields-found line ends)
 
-    -- what is told of the word with so many numbers, by whether as many belong to it
+    -- what the word with so many numbers yields, by whether as many belong to it
     yield-by : (right : Bool) (after : List ℤ) (count : ℕ) {place : ℕ} → kindOf (wordOf w) .isCounted (take count after) ≡ right
         → lineOf (lineAt text at) ≡ assemble (some (wordOf w)) (some (take count after)) → count ≤ mostNumbers
         → place ≡ endOf text at + 1 → (f : Fields) → f ≡ wordedBy right w count place → FieldsYield text at after f

@@ -193,7 +193,7 @@ spelling-no-number which = refl
 spelling-no-number max = refl
 spelling-no-number root = refl
 
--- ---- a line at a place: what `fields_of` tells of it
+-- ---- a line at a place: what its fields yield
 
 -- a word's field has its spelling
 spelled-at : (t : Bool) (v w : MeantWord) (f : List ℕ) (later : Option MeantWord) → sameBytes (kindOf v .spelling) f ≡ t → (later ≡ some w → f ≡ kindOf w .spelling)

@@ -63,7 +63,7 @@ pub record Stored (ns before after : List ℤ) : Type 0 where
   pub stand : after ≡ take mostNumbers ns ++ drop (length (take mostNumbers ns)) before
   pub kept : length after ≡ length before
 
--- ---- what is told of fields
+-- ---- what fields yield
 
 -- the numbers of the fields from `from` on, and where the line ends; or no word has such numbers
 unfoldable pub NumbersYield : List ℕ → ℕ → List ℤ → NumberFields → Type 0

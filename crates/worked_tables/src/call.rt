@@ -1,9 +1,10 @@
-// The calls of the service, each printed on one line: the row of the paper, the call and what it was given, then what it returned and left.
+// The calls of the service, each printed on one line: the row's name, the call and what it was given, then what it returned and left.
 use super::print::print;
 use super::print::print_cells;
 use super::print::print_count;
 use super::print::print_inputs;
 use super::print::print_list;
+use super::print::print_value;
 use service::Answer;
 use service::Reply;
 use service::check;
@@ -114,6 +115,30 @@ pub fn run_show(row: &[u8], list: &[u8], inputs: &[i64], line: usize) {
     let table = &mut room[..cells];
     make(list, inputs, table);
     print_cells(show(list, table, line));
+    print(b"\n");
+}
+
+// p, and 0 where the list is not read.
+fn prime_of(list: &[u8]) -> u32 {
+    let answer = read(list);
+    let Answer::Read(p, _, _, _) = answer else {
+        return 0;
+    };
+    p
+}
+
+// The value that a line makes in the table that is made: the whole number that its cell, the line's first, stands for.
+pub fn run_value(row: &[u8], list: &[u8], inputs: &[i64], line: usize) {
+    print_call(row, b" value", list);
+    print_inputs(inputs);
+    print(b" line");
+    print_count(line as u64);
+    print(b":");
+    let mut room: [u32; ROOM] = [BLANK; ROOM];
+    let cells = cell_count(list, &room);
+    let table = &mut room[..cells];
+    make(list, inputs, table);
+    print_value(show(list, table, line), prime_of(list));
     print(b"\n");
 }
 

@@ -1,5 +1,5 @@
-// Runs document 01's worked tables P1 to P11 through the compiled service, a line for each call. Every number after a call's first colon
-// is what the call returned or left; the numbers before it are what it was given.
+// Runs the worked tables P1 to P11 (clauses 12.1 to 12.11 of docs/FORMAT.md) through the compiled service, a line for each call. Every number
+// after a call's first colon is what the call returned or left; the numbers before it are what it was given.
 mod call;
 mod print;
 
@@ -7,11 +7,14 @@ use call::run_check;
 use call::run_make;
 use call::run_read;
 use call::run_show;
+use call::run_value;
 
 fn relu_rows() {
     let list = b"field\t31\nin\nrelu\t0\t2\t4\n";
     run_make(b"P1", list, &[-3]);
     run_show(b"P1", list, &[-3], 2);
+    run_value(b"P1", list, &[-3], 1);
+    run_value(b"P1", list, &[-3], 2);
     run_make(b"P2", list, &[5]);
     run_make(b"P3", list, &[-8]);
     run_make(b"P4", list, &[8]);
@@ -30,6 +33,7 @@ fn root_rows() {
 fn span_rows() {
     let list = b"field\t101\nin\nspan\t0\t5\t2\t-27\n";
     run_make(b"P8", list, &[-18]);
+    run_value(b"P8", list, &[-18], 1);
     run_make(b"P8", list, &[-27]);
     run_make(b"P8", list, &[-3]);
     run_make(b"P8", list, &[22]);
@@ -45,9 +49,11 @@ fn pair_rows() {
     let max = b"field\t31\nin\nin\nspan\t0\t2\t3\t0\nspan\t1\t2\t3\t0\nmax\t0\t1\t2\t3\n";
     run_make(b"P10", max, &[3, 6]);
     run_show(b"P10", max, &[3, 6], 5);
+    run_value(b"P10", max, &[3, 6], 5);
     let which = b"field\t31\nin\nin\nspan\t0\t2\t3\t0\nspan\t1\t2\t3\t0\nwhich\t0\t1\t2\t4\n";
     run_make(b"P10", which, &[2, 2]);
     run_show(b"P10", which, &[2, 2], 5);
+    run_value(b"P10", which, &[2, 2], 5);
 }
 
 fn main() {

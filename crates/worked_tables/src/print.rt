@@ -1,6 +1,10 @@
 // Printing on one line, without its end: a list with its tabs as blanks, a column of inputs and a table with a blank before each number.
 use libc::STDOUT_FILENO;
 use number::Whole;
+use number::cell::nth_cell;
+use number::residue::is_digit;
+use number::residue::residue_at;
+use number::residue::signed_value;
 use number::whole::is_negative;
 use number::whole::magnitude;
 use number::whole::whole_at;
@@ -30,6 +34,16 @@ pub fn print_inputs(inputs: &[i64]) {
     while i < inputs.len() {
         print_whole(whole_at(inputs, i));
         i += 1;
+    }
+}
+
+// The whole number that the first cell stands for, its signed value. A cell of p or more is no remainder, and stands for none. FORMAT 1.7, 1.8
+pub fn print_value(cells: &[u32], p: u32) {
+    if 0 < cells.len() {
+        let cell = residue_at(cells, nth_cell(0));
+        if is_digit(cell, p) {
+            print_whole(signed_value(cell, p));
+        }
     }
 }
 

@@ -37,15 +37,15 @@ impl Comparison {
         }
     }
 
-    /// A case built on purpose: the two agree, and on the reply that the document gives. Where a source has a true table, making from its
-    /// inputs writes that table.
+    /// A case built on purpose: the two agree, and on the reply that the format gives. Where a source has a true table, making from its
+    /// inputs writes that table; where a page has the counts of a list, reading gives them.
     pub fn compare_directed(&mut self, directed: &Directed, lines: &[usize]) {
-        let Directed { way, call, case, reply } = directed;
+        let Directed { way, call, case, reply, counts } = directed;
         self.compare(way, case, lines);
         let actual = directed.actual();
         if actual != *reply {
-            let seen = [("reference", format!("{actual:?}")), ("document", format!("{reply:?}"))];
-            self.differ(&format!("{way}: the document's reply"), case, lines, seen);
+            let seen = [("reference", format!("{actual:?}")), ("format", format!("{reply:?}"))];
+            self.differ(&format!("{way}: the format's reply"), case, lines, seen);
         }
         if case.kind == SOURCE && *call == Call::Check && *reply == (0, 0) {
             let mut made = vec![u32::MAX; case.table.len()];
@@ -53,6 +53,16 @@ impl Comparison {
             if making != (0, 0) || made != case.table {
                 let seen = [("proved", format!("{making:?} {made:?}")), ("source", "table".into())];
                 self.differ(&format!("{way}: the source's table"), case, lines, seen);
+            }
+        }
+        if let Some(counts) = counts {
+            let page = [counts.p, counts.values, counts.cells, counts.rows];
+            let mut read = [0; 4];
+            let reading = Proved::read(&case.list, &mut read);
+            if reading != (0, 0) || read != page {
+                let seen =
+                    [("proved", format!("{reading:?} {read:?}")), ("format", format!("{page:?}"))];
+                self.differ(&format!("{way}: the format's counts"), case, lines, seen);
             }
         }
     }

@@ -9,7 +9,7 @@ pub type Counts = [u64; 4];
 /// heard, accepted and refused.
 pub type Desk = [u64; 3];
 
-/// The calls of document 01.
+/// The calls of the format's chapter 9.
 pub trait Service {
     /// The counts are written where the list is read; a refusal leaves them as they were.
     fn read(list: &[u8], counts: &mut Counts) -> Reply;
@@ -21,7 +21,7 @@ pub trait Service {
     fn respond(input: &[u8], output: &mut [u8]) -> usize;
 }
 
-/// The program that was written from the document alone.
+/// The reference, which was written apart from the proved service.
 pub struct Reference;
 
 impl Service for Reference {

@@ -4,7 +4,7 @@ use compare::{all_lines, outcome, Comparison, Counts, Desk, Proved, Reference, R
 use reference::generate::{cases, directed, large, text, Call, Case};
 
 #[test]
-fn directed_cases_agree_with_each_other_and_the_paper() {
+fn directed_cases_agree_with_each_other_and_the_format() {
     let mut comparison = Comparison::default();
     for directed in directed() {
         let case = &directed.case;

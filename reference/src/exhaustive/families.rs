@@ -4,7 +4,7 @@
 use super::SmallList;
 use crate::generate::{small_draft, Dice};
 
-/// The primes of all families but root's, which no p below 17 allows.
+/// The primes of all families but root's, which no p below 17 allows (FORMAT 6.4).
 const PRIMES: [i64; 5] = [3, 5, 7, 11, 13];
 
 /// Lists of one shape.
@@ -13,7 +13,7 @@ pub struct Family {
     /// Where a family has many lists, only those with few tables are taken: the bound on the
     /// tables of a list is divided by this.
     share: u64,
-    /// In the paper's way of writing; not all of them are read.
+    /// As `text` takes them; not all of them are read.
     lists: Vec<String>,
     /// There are more than so many lists with at most 6,000,000 tables.
     pub least: usize,

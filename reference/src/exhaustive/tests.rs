@@ -1,4 +1,4 @@
-//! The reference's own checker on every table of the small lists.
+//! The reference's own checker on every table of the small lists (FORMAT 8.11).
 
 use super::{families, mixes, SmallList};
 

@@ -18,7 +18,7 @@ pub enum Call {
     Program,
 }
 
-/// A case and the reply that the paper gives for one call on it; 0, 0 where nothing is refused.
+/// A case and the reply that the format gives for one call on it; 0, 0 where nothing is refused.
 #[derive(Clone, Debug)]
 pub struct Directed {
     /// The way in which the case comes to its reply, in a few words.
@@ -26,11 +26,13 @@ pub struct Directed {
     pub call: Call,
     pub case: Case,
     pub reply: (u64, u64),
+    /// What reading the list gives, where a page has these figures.
+    pub counts: Option<Counts>,
 }
 
 impl Directed {
     pub fn new(way: &str, call: Call, case: Case, reply: (u64, u64)) -> Directed {
-        Directed { way: way.to_string(), call, case, reply }
+        Directed { way: way.to_string(), call, case, reply, counts: None }
     }
 
     /// About reading a list.
@@ -108,7 +110,7 @@ pub fn directed() -> Vec<Directed> {
     .concat()
 }
 
-/// A readable list of exactly 65,536 bytes: spans of 32 bytes each and five inputs.
+/// A readable list of exactly 65,536 bytes (FORMAT 4.8): spans of 32 bytes each and five inputs.
 pub fn longest() -> Vec<u8> {
     let mut list = text("field 2147483647;in;in;in;in;in");
     while list.len() < MOST_BYTES {
@@ -117,7 +119,7 @@ pub fn longest() -> Vec<u8> {
     list
 }
 
-/// Refusals 1 and 2.
+/// Refusals 1 and 2 (FORMAT 10.1, 10.2).
 fn whole_texts() -> Vec<Directed> {
     let longer = [longest(), b"\n".to_vec()].concat();
     let mut open = longest();
@@ -155,7 +157,7 @@ fn whole_texts() -> Vec<Directed> {
     ]
 }
 
-/// Refusals 19 and 20, and what comes after them.
+/// Refusals 19 and 20 (FORMAT 10.19, 10.20), and what comes after them (FORMAT 10.28).
 fn desks() -> Vec<Directed> {
     let last = u64::MAX;
     let desks = [

@@ -1,4 +1,5 @@
-//! Directed cases about a list's limits and rules: refusals 8, 9, 10, 11 and 12.
+//! Directed cases about a list's limits and rules, chapters 4, 5 and 6 of the format: refusals 8, 9,
+//! 10, 11 and 12.
 
 use super::directed::Directed;
 use super::text;
@@ -28,7 +29,7 @@ const CELLS_ORDER: [(&str, u64); 10] = [
     ("span 0 2 1", 3),
 ];
 
-/// Refusal 8: 256 values are read; value 257 is not, by whatever line.
+/// Refusal 8 (FORMAT 10.8): 256 values are read; value 257 is not, by whatever line.
 pub fn values() -> Vec<Directed> {
     // Two inputs from 0 to 7 and 254 sums: lines 0 to 258.
     let start = format!("field 31;in;in;span 0 2 3 0;span 1 2 3 0{}", ";sum 1".repeat(254));
@@ -50,7 +51,8 @@ pub fn values() -> Vec<Directed> {
     all
 }
 
-/// Refusal 9: each line once with its last cell as cell 4,095, once with one cell more.
+/// Refusal 9 (FORMAT 10.9): each line once with its last cell as cell 4,095, once with one cell
+/// more.
 pub fn cells() -> Vec<Directed> {
     let lines = [
         ("in", 1),
@@ -76,7 +78,7 @@ pub fn cells() -> Vec<Directed> {
         let list = text(&format!("{full};{line}"));
         all.push(Directed::list(&format!("order with 9: {line}"), list, (number, place)));
     }
-    // With 4,096 cells and 256 values, 8 comes before 9.
+    // With 4,096 cells and 256 values, 8 comes before 9 (FORMAT 10.25).
     let both = format!("{};{}", filled(4_096 - 254).0, vec!["sum 0"; 254].join(";"));
     let after = text(&format!("{both};in"));
     let place = after.iter().filter(|&&byte| byte == b'\n').count() as u64 - 1;
@@ -99,9 +101,9 @@ fn filled(cells: usize) -> (String, u64) {
     (list, place)
 }
 
-/// Refusal 10: each condition of the digit rule for each line, broken by one and just kept; and
-/// the two conditions of root. Three cannot be broken and are left out: span's second, as F ≤ M
-/// and -M ≤ L; relu's third, as c ≤ p keeps b^(k-1) ≤ M; max's second, as y-u is at most 2M.
+/// Refusal 10: each condition of the digit rule for each line, broken by one and just kept; and the
+/// two conditions of root (FORMAT 6.1, 6.2, 6.4). Three cannot be broken and are left out: span's
+/// second, relu's third and max's second (FORMAT 6.5).
 pub fn digit_rule() -> Vec<Directed> {
     let cases = SPAN_AND_RELU.iter().chain(&WHICH_AND_MAX).chain(&ROOT);
     cases.map(|(way, start, line, number)| last_line(way, start, line, *number)).collect()
@@ -172,7 +174,7 @@ const ROOT: [LastLine; 9] = [
 /// The greatest p, an input, and as value 2 one that is 0 or 1.
 const GREAT: &str = "field 2147483647;in;sum 0;which 0 1 2 30";
 
-/// Refusals 11 and 12.
+/// Refusals 11 and 12 (FORMAT 5.5, 5.10).
 pub fn sums_and_spans() -> Vec<Directed> {
     let ins = "field 31;in;in;sum 15;sum -15;sum 0";
     let cases = [
@@ -235,7 +237,7 @@ const KNOWN_ENDS: [(&str, i64, i64, i64); 24] = [
     ("in;root 0 2 2", 1, 0, 3),
     ("in;root 0 7 1", 1, 0, 6),
     ("sum 2;root 0 2 2", 1, 0, 3),
-    // Only span narrows a value; the other lines leave the ends of what they name.
+    // Only span narrows a value; the other lines leave the ends of what they name (FORMAT 5.11).
     ("in;span 0 5 2 -12;relu 0 2 3", 0, -12, 12),
     ("in;span 0 5 2 -12;sum 0;max 0 1 2 1;which 0 1 2 3", 0, -12, 12),
     ("in;span 0 5 2 -12;root 0 2 2", 0, -12, 12),

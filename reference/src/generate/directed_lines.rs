@@ -1,4 +1,4 @@
-//! Directed cases about single lines: refusals 3, 4, 5, 6 and 7.
+//! Directed cases about single lines, chapters 2, 3 and 4 of the format: refusals 3, 4, 5, 6 and 7.
 
 use super::directed::Directed;
 use super::text;
@@ -24,14 +24,14 @@ fn after(way: &str, line: &[u8], reply: (u64, u64)) -> Directed {
     Directed::list(&format!("{way}: {}", String::from_utf8_lossy(line)), list, reply)
 }
 
-/// The line in the paper's way of writing, as bytes without byte 10.
+/// The line as `text` takes it, as bytes without byte 10.
 fn bytes(line: &str) -> Vec<u8> {
     let mut bytes = text(line);
     bytes.pop();
     bytes
 }
 
-/// Refusal 3 by the word and by the count of fields.
+/// Refusal 3 by the word and by the count of fields (FORMAT 10.3).
 pub fn wrong_words() -> Vec<Directed> {
     let mut all = Vec::new();
     for line in LINES {
@@ -66,7 +66,7 @@ pub fn wrong_words() -> Vec<Directed> {
     all
 }
 
-/// Texts that are no numbers.
+/// Texts that are no numbers (FORMAT 2.5, 2.6).
 const NO_NUMBERS: [&[u8]; 32] = [
     b"",
     b"-",
@@ -181,7 +181,7 @@ const ODD_PRIMES: [i64; 16] = [
     2_147_483_647,
 ];
 
-/// Refusals 4 and 5.
+/// Refusals 4 and 5 (FORMAT 10.4, 10.5, 10.24).
 pub fn field_lines() -> Vec<Directed> {
     let mut all = Vec::new();
     for line in LINES {
@@ -203,7 +203,7 @@ pub fn field_lines() -> Vec<Directed> {
     all
 }
 
-/// Refusal 6: b, k, L, c0 and each coefficient, off both sides and just within.
+/// Refusal 6 (FORMAT 10.6): b, k, L, c0 and each coefficient, off both sides and just within.
 pub fn ranges() -> Vec<Directed> {
     let mut all = Vec::new();
     let groups = ["span 0 B K 0", "relu 0 B K", "which 0 1 B K", "max 0 1 B K", "root 0 B K"];
@@ -246,7 +246,7 @@ fn off_digits() -> Vec<(i64, i64)> {
     off_b.into_iter().chain(off_k).chain([(0, 0), (1, 1), (2_147_483_647, 32)]).collect()
 }
 
-/// Refusal 7 at each name of each line.
+/// Refusal 7 at each name of each line (FORMAT 10.7).
 pub fn names() -> Vec<Directed> {
     let mut all = Vec::new();
     let lines = [

@@ -42,8 +42,8 @@ fn power_modulo(base: i64, exponent: i64, modulus: i64) -> i64 {
     power
 }
 
-/// Refusal 5: all small numbers, the square of each small prime and of some great ones, products
-/// of neighbours, and the primes next to these.
+/// Refusal 5 (FORMAT 10.5): all small numbers, the square of each small prime and of some great
+/// ones, products of neighbours, and the primes next to these.
 pub fn primes() -> Vec<Directed> {
     let mut numbers: Vec<i64> = (-4..=300).collect();
     let near = |from: i64| (from..from + 40).filter(|&number| is_prime(number));
@@ -67,8 +67,8 @@ pub fn primes() -> Vec<Directed> {
     numbers.into_iter().map(field).collect()
 }
 
-/// The greatest base of each digit count, and one more: c at most p, or refusal 10. Where it is
-/// read the digits are made of the least and of the greatest number that it allows.
+/// The greatest base of each digit count, and one more: c at most p (FORMAT 6.1), or refusal 10.
+/// Where it is read the digits are made of the least and of the greatest number that it allows.
 pub fn greatest_bases() -> Vec<Directed> {
     let mut all = Vec::new();
     for p in [31, 101, 65_537, GREATEST] {
@@ -108,8 +108,8 @@ fn greatest(limit: i64, test: impl Fn(i64) -> bool) -> i64 {
     low
 }
 
-/// Every t of small primes, and many of the greatest: with b = p and one digit t is the constant
-/// itself. For which, t is the difference.
+/// Every t (FORMAT 7.11) of small primes, and many of the greatest: with b = p and one digit t is
+/// the constant itself. For which, t is the difference.
 pub fn inverses() -> Vec<Directed> {
     let mut all = Vec::new();
     let mut dice = Dice::new(17, 0);
@@ -130,8 +130,8 @@ pub fn inverses() -> Vec<Directed> {
     all
 }
 
-/// The root rule for every small prime: the greatest c, the next ones below and above. And for
-/// great primes of which c² is M+1, and such of which it is one more.
+/// The root rule (FORMAT 6.4) for every small prime: the greatest c, the next ones below and above.
+/// And for great primes of which c² is M+1, and such of which it is one more.
 pub fn root_rule() -> Vec<Directed> {
     let mut pairs = Vec::new();
     for p in (3..=300).filter(|&number| is_prime(number)) {
@@ -149,7 +149,8 @@ pub fn root_rule() -> Vec<Directed> {
     pairs.into_iter().filter(|&(_, c)| c >= 2).map(root).collect()
 }
 
-/// Roots of every square below the greatest c and of the numbers next to it; and just outside.
+/// Roots (FORMAT 3.12) of every square below the greatest c and of the numbers next to it; and just
+/// outside.
 pub fn roots() -> Vec<Directed> {
     let mut all = Vec::new();
     // The last number is the first root: with the greatest c in other bases, the great ones alone.
@@ -167,7 +168,8 @@ pub fn roots() -> Vec<Directed> {
     all
 }
 
-/// Inputs at M and beyond, and cells at p and beyond, for the least and the greatest p.
+/// Inputs at M and beyond (FORMAT 10.17), and cells at p and beyond (FORMAT 10.14), for the least
+/// and the greatest p.
 pub fn ends_of_inputs() -> Vec<Directed> {
     let mut all = Vec::new();
     for p in [3, 5, 31, GREATEST] {

@@ -1,5 +1,5 @@
-//! Directed cases about the program: its own refusals and their order, its limits, and the worked
-//! tables P1 to P11 as standard inputs.
+//! Directed cases about the program, chapter 11 of the format: its own refusals and their order
+//! (FORMAT 11.11), its limits, and the worked tables of chapter 12, P1 to P11, as standard inputs.
 
 use super::directed::{longest, Call, Directed};
 use super::{program_text, text, Case};
@@ -30,7 +30,7 @@ const INPUT_LINES: [(&str, (u64, u64)); 22] = [
     ("8", (18, 2)),
 ];
 
-/// The program's own refusals and their order.
+/// The program's own refusals and their order (FORMAT 11.2, 11.3, 11.6, 11.11).
 pub fn programs() -> Vec<Directed> {
     let start = "field 31;in;relu 0 2 4;end";
     let line = |&(input, reply): &(&str, (u64, u64))| {
@@ -112,36 +112,37 @@ fn program(way: &str, stdin: Vec<u8>, reply: (u64, u64)) -> Directed {
     Directed::new(&format!("program: {way}"), Call::Program, case, reply)
 }
 
-/// A worked table of the paper: its name, list, inputs and reply.
+/// A worked table of the format: its label, list, inputs and reply.
 type Worked = (&'static str, &'static str, &'static [i64], (u64, u64));
 
-/// P1 to P11, but for P5 and P6, which are about checking.
+/// P1 to P11, but for P5 and P6, which are about checking; the field line alone (FORMAT 8.15); and
+/// the mistake of FORMAT 12.13.
 const WORKED: [Worked; 22] = [
-    ("P1", "field 31;in;relu 0 2 4", &[-3], (0, 0)),
-    ("P2", "field 31;in;relu 0 2 4", &[5], (0, 0)),
-    ("P3", "field 31;in;relu 0 2 4", &[-8], (0, 0)),
-    ("P4", "field 31;in;relu 0 2 4", &[8], (18, 2)),
-    ("P4", "field 31;in;relu 0 2 4", &[-9], (18, 2)),
-    ("P7", "field 31;in;root 0 2 2", &[3], (0, 0)),
-    ("P7", "field 31;in;root 0 2 2", &[4], (18, 2)),
-    ("P7", "field 31;in;root 0 2 1", &[3], (10, 2)),
-    ("P8", "field 101;in;span 0 5 2 -27", &[-18], (0, 0)),
-    ("P8", "field 101;in;span 0 5 2 -27", &[-27], (0, 0)),
-    ("P8", "field 101;in;span 0 5 2 -27", &[-3], (0, 0)),
-    ("P8", "field 101;in;span 0 5 2 -27", &[22], (18, 2)),
-    ("P9", "field 31;in;span 0 2 4 0", &[0], (0, 0)),
-    ("P9", "field 31;in;span 0 2 4 1", &[1], (10, 2)),
-    ("P9", "field 31;in;span 0 31 1 -15", &[15], (0, 0)),
-    ("P9", "field 31;in;span 0 2 5 -15", &[0], (10, 2)),
-    ("P10", "field 31;in;in;max 0 1 2 3", &[3, 6], (10, 3)),
-    ("P10", "field 31;in;in;span 0 2 3 0;span 1 2 3 0;max 0 1 2 3", &[3, 6], (0, 0)),
-    ("P10", "field 31;in;in;span 0 2 3 0;span 1 2 3 0;which 0 1 2 4", &[2, 2], (0, 0)),
-    ("P11", "field 101;in;span 0 2 5 0;sum 0 2 0", &[1], (11, 3)),
+    ("FORMAT 12.1", "field 31;in;relu 0 2 4", &[-3], (0, 0)),
+    ("FORMAT 12.2", "field 31;in;relu 0 2 4", &[5], (0, 0)),
+    ("FORMAT 12.3", "field 31;in;relu 0 2 4", &[-8], (0, 0)),
+    ("FORMAT 12.4", "field 31;in;relu 0 2 4", &[8], (18, 2)),
+    ("FORMAT 12.4", "field 31;in;relu 0 2 4", &[-9], (18, 2)),
+    ("FORMAT 12.7", "field 31;in;root 0 2 2", &[3], (0, 0)),
+    ("FORMAT 12.7", "field 31;in;root 0 2 2", &[4], (18, 2)),
+    ("FORMAT 12.7", "field 31;in;root 0 2 1", &[3], (10, 2)),
+    ("FORMAT 12.8", "field 101;in;span 0 5 2 -27", &[-18], (0, 0)),
+    ("FORMAT 12.8", "field 101;in;span 0 5 2 -27", &[-27], (0, 0)),
+    ("FORMAT 12.8", "field 101;in;span 0 5 2 -27", &[-3], (0, 0)),
+    ("FORMAT 12.8", "field 101;in;span 0 5 2 -27", &[22], (18, 2)),
+    ("FORMAT 12.9", "field 31;in;span 0 2 4 0", &[0], (0, 0)),
+    ("FORMAT 12.9", "field 31;in;span 0 2 4 1", &[1], (10, 2)),
+    ("FORMAT 12.9", "field 31;in;span 0 31 1 -15", &[15], (0, 0)),
+    ("FORMAT 12.9", "field 31;in;span 0 2 5 -15", &[0], (10, 2)),
+    ("FORMAT 12.10", "field 31;in;in;max 0 1 2 3", &[3, 6], (10, 3)),
+    ("FORMAT 12.10", "field 31;in;in;span 0 2 3 0;span 1 2 3 0;max 0 1 2 3", &[3, 6], (0, 0)),
+    ("FORMAT 12.10", "field 31;in;in;span 0 2 3 0;span 1 2 3 0;which 0 1 2 4", &[2, 2], (0, 0)),
+    ("FORMAT 12.11", "field 101;in;span 0 2 5 0;sum 0 2 0", &[1], (11, 3)),
     ("a field line alone", "field 31", &[], (0, 0)),
     ("max over unspanned values", "field 31;in;in;max 0 1 2 1", &[15, -15], (10, 3)),
 ];
 
-/// P1 to P11: making, the program, and checking for P5 and P6.
+/// P1 to P11, each with its clause as label: making, the program, and checking for P5 and P6.
 pub fn worked() -> Vec<Directed> {
     let mut all = Vec::new();
     for (name, list, inputs, reply) in WORKED {
@@ -149,8 +150,8 @@ pub fn worked() -> Vec<Directed> {
         all.push(Directed { call: Call::Program, ..made.clone() });
         all.push(made);
     }
-    for (name, cell, remainder, row) in [("P5", 1, 28, 8), ("P6", 7, 1, 7)] {
-        let input = if name == "P5" { -3 } else { 5 };
+    for (name, cell, remainder, row) in [("FORMAT 12.5", 1, 28, 8), ("FORMAT 12.6", 7, 1, 7)] {
+        let input = if name == "FORMAT 12.5" { -3 } else { 5 };
         let mut case = Case::about(text("field 31;in;relu 0 2 4"));
         crate::make(&case.list, &[input], &mut case.table);
         case.table.iter_mut().skip(cell).take(1).for_each(|kept| *kept = remainder);

@@ -1,4 +1,5 @@
-//! Directed cases about tables and columns: refusals 13, 14, 15, 16, 17 and 18.
+//! Directed cases about tables and columns, chapters 7 and 8 of the format: refusals 13, 14, 15, 16,
+//! 17 and 18.
 
 use super::directed::{Call, Directed};
 use super::{tables, text, Case};
@@ -38,7 +39,7 @@ fn starts() -> Vec<(Case, Plan)> {
     COLUMNS.iter().filter_map(|inputs| made(WHOLE, inputs)).chain(great).collect()
 }
 
-/// Refusals 13 and 14.
+/// Refusals 13 and 14 (FORMAT 10.13, 10.14).
 pub fn lengths_and_cells() -> Vec<Directed> {
     let mut all = Vec::new();
     for (case, plan) in starts() {
@@ -73,7 +74,7 @@ pub fn lengths_and_cells() -> Vec<Directed> {
     all
 }
 
-/// Refusal 15 at each row of each line.
+/// Refusal 15 at each row of each line (FORMAT 10.15).
 pub fn rows() -> Vec<Directed> {
     let mut all = Vec::new();
     for (case, plan) in starts() {
@@ -155,7 +156,7 @@ fn sign_breaks(first: usize, digits: Digits, table: &[u32], p: i64) -> Vec<Break
     all
 }
 
-/// Refusals 16 and 17.
+/// Refusals 16 and 17 (FORMAT 10.16, 10.17).
 pub fn columns() -> Vec<Directed> {
     let three = "field 31;in;in;span 0 2 3 0;in";
     let mut all = Vec::new();
@@ -182,7 +183,7 @@ pub fn columns() -> Vec<Directed> {
 /// Some columns of inputs.
 type Columns = &'static [&'static [i64]];
 
-/// Refusal 18: each line's statement false by one and just true, on both sides.
+/// Refusal 18 (FORMAT 10.18): each line's statement false by one and just true, on both sides.
 pub fn statements() -> Vec<Directed> {
     let two = "field 101;in;in;span 0 5 2 -12;span 1 5 2 -12";
     let cases: [(&str, &str, Columns, Columns); 8] = [

@@ -1,17 +1,17 @@
-//! The worked examples of the source documents 000 to 004 and of the paper itself, as cases with
-//! the figures that stand on their pages.
+//! The worked examples of the source documents 000 to 004, which the mathematics is from, and of
+//! the format itself (chapter 12), as cases with the figures that stand on their pages.
 //!
 //! Every figure is copied from a page or, where a list stores more than a source does (w, the
-//! zeros above a number's highest digit, the digits of a span), worked by hand from the paper's
-//! rules; none was taken from a program. Where a source differs from the paper, the paper's reply
+//! zeros above a number's highest digit, the digits of a span), worked by hand from the format's
+//! rules; none was taken from a program. Where a source differs from the format, the format's reply
 //! is given, and the example says how they differ.
 //!
 //! What no list can state, and why:
-//! - 000 and 004, the prime of BN254: 254 bits, while p is at most 2,147,483,647.
+//! - 000 and 004, the prime of BN254: 254 bits, while p is at most 2,147,483,647 (FORMAT 1.1).
 //! - 000, section 3 by the upper bound (digits of B-a): `relu` has its group over v+B only.
 //! - 000, 001 and 002, the columns q and RHS: the whole number left over by the digits and their
 //!   sum stand in no cell.
-//! - 003, example 1.1: bits in -99..100: a cell holds a remainder from 0 to p-1.
+//! - 003, example 1.1: bits in -99..100: a cell holds a remainder from 0 to p-1 (FORMAT 1.5).
 //! - 003, example 1.7 and proposition 3.6: no line divides, and none multiplies two values.
 //! - 003, propositions 3.1 and 3.2: no line says that a value is a constant or another value.
 //! - 003, proposition 3.3: no line says that a value is in a set that is not a stretch.
@@ -21,9 +21,10 @@
 
 use super::directed::{Call, Directed};
 use super::{
-    program_text, sources_paper, sources_range, sources_relu, sources_root, sources_whole, text,
+    program_text, sources_format, sources_range, sources_relu, sources_root, sources_whole, text,
     Case,
 };
+use crate::Counts;
 
 /// The kind of these cases.
 pub const SOURCE: &str = "source";
@@ -38,12 +39,12 @@ pub fn sources() -> Vec<Directed> {
         sources_relu::cases(),
         sources_whole::cases(),
         sources_root::cases(),
-        sources_paper::cases(),
+        sources_format::cases(),
     ]
     .concat()
 }
 
-/// An example: its place in the sources, and the list that states it.
+/// An example: its place in a source, or its clause of the format, and the list that states it.
 #[derive(Clone, Copy)]
 pub struct Example {
     pub place: &'static str,
@@ -54,6 +55,12 @@ impl Example {
     /// What reading the list replies.
     pub fn reads(self, reply: (u64, u64)) -> Vec<Directed> {
         vec![Directed::list(&self.way("read"), text(self.list), reply)]
+    }
+
+    /// A list that is read: p, and how many values, cells and rows it has.
+    pub fn counts(self, [p, values, cells, rows]: [u64; 4]) -> Vec<Directed> {
+        let counts = Some(Counts { p, values, cells, rows });
+        self.reads((0, 0)).into_iter().map(|read| Directed { counts, ..read }).collect()
     }
 
     /// What making from this column replies. No cell of the lent table is a remainder, so that

@@ -1,16 +1,16 @@
 //! Source 000, examples 6.1 and 6.2: a range check from above and one from below, p = 101.
 //!
 //! The source writes h = (p+1)/2 = 50 in both, and h-p..h-1 = -50..50; that interval is the one of
-//! the paper's h, M+1 = 51. With it the source's 77 in example 6.1 is 78. The b^κ = 9 of example 6.2
-//! is 10. No row of its tables depends on these slips.
+//! h = M+1 = 51, and the format's signed range (FORMAT 1.4). With it the source's 77 in example 6.1
+//! is 78. The b^κ = 9 of example 6.2 is 10. No row of its tables depends on these slips.
 
 use super::directed::Directed;
 use super::sources::Example;
 
-/// Example 6.1 as the paper's P8: -27 ≤ a ≤ -3. The paper's digits are those of a+27, the source's
-/// those of R-a with R = -3; as a+27 = 24-(R-a), each is 4 less the source's. S = 27 is over
-/// (b-1)·b^(k-1) = 20, so the source itself could not check it from below; the paper drops that
-/// condition.
+/// Example 6.1 as the format's P8 (FORMAT 12.8): -27 ≤ a ≤ -3. The format's digits are those of
+/// a+27, the source's those of R-a with R = -3; as a+27 = 24-(R-a), each is 4 less the source's.
+/// S = 27 is over (b-1)·b^(k-1) = 20, so the source itself could not check it from below; the format
+/// asks nothing of B (FORMAT 6.1).
 const SPAN: Example = Example { place: "000, example 6.1", list: "field 101;in;span 0 5 2 -27" };
 
 /// The same, and then R-a as a value with its own digits: all that the source writes in a row but q.
@@ -22,7 +22,7 @@ const DIFFERENCE: Example = Example {
 /// R-a as the input, by its remainder: the source's row (6.1) alone.
 const INPUT: Example = Example { place: "000, example 6.1", list: "field 101;in;span 0 5 2 0" };
 
-/// R-a of a fresh input: the source takes it modulo p, the paper asks that the sum stays in -M..M.
+/// R-a of a fresh input: the source takes it modulo p; by FORMAT 5.5 the sum has to stay in -M..M.
 const FRESH_DIFFERENCE: Example =
     Example { place: "000, example 6.1", list: "field 101;in;sum -3 -1 0" };
 
@@ -34,7 +34,7 @@ const LOWER_SPAN: Example =
 const LOWER_SUM: Example =
     Example { place: "000, example 6.2", list: "field 101;in;span 0 10 1 -9;sum 9 1 0" };
 
-/// "Combining this with Example 6.1 would verify that -9 ≤ a ≤ -3."
+/// Examples 6.1 and 6.2 together, which say that -9 ≤ a ≤ -3.
 const BOTH: Example =
     Example { place: "000, example 6.2", list: "field 101;in;span 0 5 2 -27;span 0 10 1 -9" };
 

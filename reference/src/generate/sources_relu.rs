@@ -3,7 +3,8 @@
 //!
 //! The sources print digits highest first, the list holds them lowest first. Their sign, the
 //! highest bit in base 2, is the list's f; the list's w is in no source: it is 0 where f is 1, else
-//! the inverse of t = d(k-1)-(b-1). Their product of sign and remainder is the list's value y.
+//! the inverse of t = d(k-1)-(b-1) (FORMAT 7.11). Their product of sign and remainder is the list's
+//! value y.
 
 use super::directed::Directed;
 use super::sources::Example;
@@ -89,8 +90,9 @@ fn misprints() -> Vec<Directed> {
 }
 
 /// Table 6 of 000 and the second tables of 001 and 002, then table 8: a outside of -M..M. The
-/// sources reduce it modulo p without a word; making refuses it. Checking sees the remainder alone,
-/// so that it accepts the source's table where it is the true table of the a in -M..M.
+/// sources reduce it modulo p without a word; making refuses it (FORMAT 10.17). Checking sees the
+/// remainder alone, so that it accepts the source's table where it is the true table of the a in
+/// -M..M.
 fn outside() -> Vec<Directed> {
     let one = [1, 1, 1, 0, 0, 1, 1, 0];
     let sixteen = [16, 16, 0, 0, 0, 1, 1, 0];

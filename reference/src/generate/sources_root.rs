@@ -1,4 +1,5 @@
-//! Source 004: the square root. Its x is the list's v; the list also stores q, which is y².
+//! Source 004: the square root. Its x is the list's v; the list also stores q, which is y²
+//! (FORMAT 7.16).
 
 use super::directed::Directed;
 use super::sources::Example;
@@ -69,7 +70,7 @@ fn condition() -> Vec<Directed> {
 }
 
 /// The source allows b^κ = 1 and 2. With 2, the right root of 1 is turned away, as y² + 2y - x is
-/// then 2; the paper asks for c ≥ 3, and for k ≥ 1.
+/// then 2; the format asks for c ≥ 3 (FORMAT 6.4), and for k ≥ 1 (FORMAT 4.2).
 fn smallest_powers() -> Vec<Directed> {
     let place = "004, step 2";
     let two = Example { place, list: "field 31;in;root 0 2 1" };
@@ -81,8 +82,8 @@ fn smallest_powers() -> Vec<Directed> {
     .concat()
 }
 
-/// Step 11 and comment 11: (y+1)² ≤ b^κ suffices. It is not necessary: 32² is over 1000, 2² is
-/// over 3 and 3² is over 8, and all these roots are accepted.
+/// Step 11 and comment 11: (y+1)² ≤ b^κ suffices. It is not necessary (FORMAT 12.16): 32² is over
+/// 1000, 2² is over 3 and 3² is over 8, and all these roots are accepted.
 fn not_necessary() -> Vec<Directed> {
     let place = "004, step 11";
     let thousand = Example { place, list: ROOT.list };

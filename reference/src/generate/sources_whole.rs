@@ -55,7 +55,7 @@ fn four_bits() -> Vec<Directed> {
     .concat()
 }
 
-/// Example 1.1: "under the weaker assumption that -85 ≤ x ≤ 100" the bits still say 0 ≤ x ≤ 15.
+/// Example 1.1: the bits still say 0 ≤ x ≤ 15 where no more is known than -85 ≤ x ≤ 100.
 /// Here x is y-u, whose lowest known end is v-50 for a fresh u: -85 is read, and -86 is not.
 fn weakest_assumption() -> Vec<Directed> {
     let place = "003, example 1.1";
@@ -72,8 +72,8 @@ fn weakest_assumption() -> Vec<Directed> {
     .concat()
 }
 
-/// Section 1.3: an input -p is taken for 0, and 99 + 2 ≡ 0 modulo 101. The paper refuses the input,
-/// the constant and the sum, and reads the cell 100 as -1, which is less than 0.
+/// Section 1.3: an input -p is taken for 0, and 99 + 2 ≡ 0 modulo 101. The format refuses the input,
+/// the constant and the sum, and reads the cell 100 as -1 (FORMAT 1.7), which is less than 0.
 fn classes() -> Vec<Directed> {
     let place = "003, section 1.3";
     let two = Example { place, list: "field 101;in;in" };
@@ -137,7 +137,7 @@ fn maximum() -> Vec<Directed> {
 
 /// Example 1.5 as written has no row on a and b themselves, and asks for 2^κ ≤ p-1 only. It then
 /// accepts the lesser one: 15 and -15 with -15, as -30 ≡ 1; and 7 and -8 with -8 modulo 29, even
-/// with (1.8), as -15 ≡ 14. The paper refuses to read such lists.
+/// with (1.8), as -15 ≡ 14. By FORMAT 6.2 such lists are refused.
 fn maximum_unsound() -> Vec<Directed> {
     let place = "003, example 1.5";
     let fresh = Example { place, list: "field 31;in;in;max 0 1 2 4" };

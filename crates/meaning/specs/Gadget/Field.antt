@@ -1,9 +1,10 @@
--- `field p`: no value, no cell, no row.
+-- `field p`: it sets p and has no value, no cell and no row.
 use mathlib.Core.Bool.{true}
 use mathlib.Core.List.{[]}
 use Rattle.meaning.specs.Known.{Known}
 use Rattle.meaning.specs.Gadget.Interface.{Gadget}
 
+-- nothing is asked of values, and nothing is made. FORMAT 3.5, 7.7, 8.1, 8.15
 unfoldable pub fieldLine : Known → Gadget
 fieldLine s = record {
   unambiguous = true;

@@ -1,10 +1,11 @@
--- `in`: an input. "the cell; no row"; its known ends are those of the signed range.
+-- `in`: a value that is an input. Nothing is known of it but the signed range.
 use mathlib.Core.Bool.{true}
 use mathlib.Core.List.{[], _∷_}
 use Rattle.meaning.specs.Number.{lowest, highest, remainder}
 use Rattle.meaning.specs.Known.{Known, ends}
 use Rattle.meaning.specs.Gadget.Interface.{Gadget}
 
+-- one cell, no row. FORMAT 3.6, 5.2, 7.7
 unfoldable pub inputLine : Known → Gadget
 inputLine s = record {
   unambiguous = true;

@@ -1,5 +1,4 @@
--- `max u v b k`: "u and v are less than c apart; the value is the greater". Its cells are y and the groups over y-u and y-v with
--- shift 0; its rows are (y-u)·(y-v) ≡ 0, then the groups.
+-- `max u v b k`: the greater of two values. It is one of them, and digits show that it is below neither.
 use Prim.Native.Nat.{ℕ, suc, _+_, _*_, _^_}
 use mathlib.Core.Bool.{true, _&&_}
 use mathlib.Core.List.{[], _∷_, _++_}
@@ -11,6 +10,8 @@ use Rattle.meaning.specs.Row.{Form, cell, constant, _⊖_, _⊗_, _≅_,
 use Rattle.meaning.specs.Gadget.Interface.{Gadget}
 use Rattle.meaning.specs.Gadget.Digits.{valueAt, groupCells}
 
+-- y, then the groups over y-u and y-v with shift 0; the rows are (y-u)·(y-v) ≡ 0, then the groups. Both groups have to keep the digit rule, by
+-- which values that no span has narrowed are turned down. FORMAT 3.11, 5.8, 6.2, 7.15, 12.13
 unfoldable pub maxLine : Known → (u v b k : ℕ) → Gadget
 maxLine s u v b k =
     let eu : Ends = endsOf s u in

@@ -1,5 +1,4 @@
--- `relu v b k`: "the statement is -B ≤ v ≤ b^(k-1)-1, and the value is the greater of 0 and v". Its cells are y, the group over
--- v with shift -B, f and w; its last row is f·v ≡ y.
+-- `relu v b k`: the greater of 0 and v. The sign of v is shown by digits, f and w (Sign.antt).
 use Prim.Native.Nat.{ℕ, suc, _+_}
 use mathlib.Core.Bool.{true}
 use mathlib.Core.List.{[], _∷_}
@@ -11,6 +10,7 @@ use Rattle.meaning.specs.Gadget.Interface.{Gadget}
 use Rattle.meaning.specs.Gadget.Digits.{valueAt}
 use Rattle.meaning.specs.Gadget.Sign.{signShift, signStatement, signRows, signCells}
 
+-- y, then the cells of the sign of v; the last row is f·v ≡ y. FORMAT 3.9, 5.6, 6.2, 7.13
 unfoldable pub reluLine : Known → (v b k : ℕ) → Gadget
 reluLine s v b k =
     let old : Ends = endsOf s v in

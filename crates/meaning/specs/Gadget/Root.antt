@@ -1,5 +1,4 @@
--- `root v b k`: "0 ≤ v < c; the value y is the floor of the square root". Its cells are y, q, "which is y times y", and the groups
--- over v, y, v-q and q+2y-v with shift 0; its rows are y·y ≡ q, then the groups.
+-- `root v b k`: the square root of v, rounded down. Digits show that v and y are small, and that y·y is at most v and (y+1)·(y+1) above it.
 -- `squareRoot n`, of algebra, is the greatest y with y·y at most n.
 use Prim.Native.Nat.{ℕ, suc, _+_, _*_, _-_, _^_}
 use mathlib.Core.Bool.{true, _&&_}
@@ -13,9 +12,11 @@ use Rattle.meaning.specs.Gadget.Interface.{Gadget}
 use Rattle.meaning.specs.Gadget.Digits.{valueAt, groupCells}
 unfoldable pub use Rattle.algebra.specs.Root.{squareRoot}
 
+-- the greatest y with y·y at most v. FORMAT 3.12
 unfoldable pub rootValue : ℤ → ℤ
 rootValue v = pos (squareRoot (natAbs v))
 
+-- y, q, then the groups over v, y, v-q and q+2·y-v with shift 0; the rows are y·y ≡ q, then the groups. FORMAT 3.12, 5.9, 7.16
 unfoldable pub rootLine : Known → (v b k : ℕ) → Gadget
 rootLine s v b k =
     let v′ : Form = cell (placeOf s v) in
@@ -23,7 +24,7 @@ rootLine s v b k =
     let q : Form = cell (suc (s .cells)) in
     let at : ℕ = s .cells + 2 in
     record {
-      -- "Allowed exactly when c ≥ 3 and c² ≤ M+1"
+      -- the root rule. FORMAT 6.4, 12.16
       unambiguous = leb 3 (b ^ k) && leb (b ^ k * b ^ k) (half (s .p) + 1);
       fits = true;
       overlaps = true;

@@ -1,4 +1,4 @@
--- `which u v b k`: "-B ≤ u-v ≤ b^(k-1)-1; the value is 0 where u ≥ v, else 1". "As relu over u-v", last row y ≡ 1-f.
+-- `which u v b k`: 0 where u is at least v, else 1. The sign of u - v is shown as that of a relu's v (Sign.antt).
 use Prim.Native.Nat.{ℕ, suc, _+_}
 use mathlib.Core.Bool.{true, cond}
 use mathlib.Core.List.{List, [], _∷_}
@@ -11,9 +11,11 @@ use Rattle.meaning.specs.Gadget.Interface.{Gadget}
 use Rattle.meaning.specs.Gadget.Digits.{valueAt}
 use Rattle.meaning.specs.Gadget.Sign.{signShift, signStatement, signRows, signCells}
 
+-- compared as whole numbers, never as remainders. FORMAT 3.10, 12.15
 unfoldable pub whichValue : (u v : ℤ) → ℤ
 whichValue u v = cond (leZ v u) (pos 0) (pos 1)
 
+-- y, then the cells of the sign of u - v; the last row is y ≡ 1-f. FORMAT 3.10, 5.7, 6.2, 7.14
 unfoldable pub whichLine : Known → (u v b k : ℕ) → Gadget
 whichLine s u v b k =
     let y : List ℤ → ℤ = λ vs. whichValue (valueAt vs u) (valueAt vs v) in

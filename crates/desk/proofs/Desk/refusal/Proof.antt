@@ -1,4 +1,4 @@
--- `desk::Desk::refusal`: what is given is what is seen.
+-- `desk::Desk::refusal`: what is given has the meaning that is promised.
 use mathlib.Core.Path.{refl}
 use Rattle.service.specs.Reply.{replyMeaning}
 use Rattle.desk.specs.Desk.{calledMeaning}

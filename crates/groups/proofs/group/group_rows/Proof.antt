@@ -71,7 +71,7 @@ high-read c =
     let s = read .before .before .before .before .before .before .before .before .before .before .args in
     digit-read (s .table .now) (s .at .0) (s .b) _ (read .before .cell-after2 .ensures) (read .residue-at2 .ensures) (c .before .is-digit2 .ensures) (c .if2 .left)
 
--- the value of the two digits of a turn, and what is seen after them where both pass
+-- the value of the two digits of a turn, and the sum so far after them where both pass
 abbrev pair : tie.Else2 Inv-loop μ-loop → ℕ
 pair c =
     let at-low = c .before .before .before .before in

@@ -36,7 +36,7 @@ ranged : (c : tie.Else1)
 ranged c = sym (c .before .coefficients-ranged .ensures) ∙ not-false (c .before .coefficients-ranged .result) (c .if1 .left)
 
 names-made-requires : tie.Need-names-made-requires
-names-made-requires c κs = let start = c .before .before in (start .pre .1, start .pre .2, start .pre .0 .values-most)
+names-made-requires c κs = let start = c .before .before in (start .pre .1, start .pre .2)
 
 early-broken-requires : tie.Need-early-broken-requires
 early-broken-requires c κs = let start = c .before .before .before in

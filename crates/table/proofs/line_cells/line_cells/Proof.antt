@@ -11,7 +11,7 @@ use borrow.Author.Needs.{needs}
 use Rattle.table.proofs.line_cells.line_cells.Statement.{statement}
 use Rattle.table.proofs.line_cells.line_cells.Tie as tie
 
--- what is asked at the kind, and what is told by the word
+-- what is given at the kind, and what the word yields
 module _ (s : tie.Start) {v : Coded} (is : s .args .word ≡ v) where
   given : CellsGiven (s .args .p) (wordOf v) (s .args .numbers .now) (countOf v (s .args .count)) (s .args .values .now) (s .args .known) (s .args .part .now)
   given =

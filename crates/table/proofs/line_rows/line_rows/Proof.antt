@@ -13,7 +13,7 @@ use borrow.Author.Needs.{needs}
 use Rattle.table.proofs.line_rows.line_rows.Statement.{statement}
 use Rattle.table.proofs.line_rows.line_rows.Tie as tie
 
--- what is asked at the kind, and what is told by the word
+-- what is given at the kind, and what the word yields
 module _ (s : tie.Start) {v : Coded} (is : s .args .word ≡ v) where
   given : RowsGiven (s .args .p) (wordOf v) (s .args .numbers .now) (countOf v (s .args .count)) (s .args .table .now) (s .args .at .0) (s .args .places .now)
   given =

@@ -10,7 +10,7 @@ use borrow.Author.Needs.{needs}
 use Rattle.table.proofs.line_works.line_works.Statement.{statement}
 use Rattle.table.proofs.line_works.line_works.Tie as tie
 
--- what is asked at the kind, and what is told by the word
+-- what is given at the kind, and what the word yields
 module _ (s : tie.Start) {v : Coded} (is : s .args .word ≡ v) where
   given : ValuesGiven (wordOf v) (s .args .numbers .now) (countOf v (s .args .count)) (s .args .values .now)
   given = at-kind (λ u m. ValuesGiven u (s .args .numbers .now) m (s .args .values .now)) (s .args .count) is (s .pre .kept) (s .pre)

@@ -1,4 +1,5 @@
-//! The worked tables P1 to P11 of the paper, and its one example of the program's output.
+//! The format's worked tables P1 to P11 and mistakes that tempt (chapter 12), and its example of the
+//! program's output (FORMAT 11.12).
 
 use reference::generate::text;
 use reference::{check, make, read, respond, show, Counts};
@@ -31,6 +32,7 @@ fn refusal(list: &str) -> (u64, u64) {
     read(&text(list)).map_or_else(|refusal| (refusal.number, refusal.place), |_| (0, 0))
 }
 
+/// FORMAT 12.1, 12.2, 12.3.
 #[test]
 fn p1_p2_p3_relu() {
     assert_eq!(table(RELU, &[-3]), [28, 0, 1, 0, 1, 0, 0, 30]);
@@ -40,12 +42,14 @@ fn p1_p2_p3_relu() {
     assert_eq!(read(&text(RELU)), Ok(counts));
 }
 
+/// FORMAT 12.4.
 #[test]
 fn p4_relu_false() {
     assert_eq!(made(RELU, &[8]).0, (18, 2));
     assert_eq!(made(RELU, &[-9]).0, (18, 2));
 }
 
+/// FORMAT 12.5, 12.6.
 #[test]
 fn p5_p6_rows_that_fail() {
     let mut p1 = table(RELU, &[-3]);
@@ -56,6 +60,7 @@ fn p5_p6_rows_that_fail() {
     assert_eq!(check(&text(RELU), &p2), (15, 7));
 }
 
+/// FORMAT 12.7.
 #[test]
 fn p7_root() {
     let root = "field 31;in;root 0 2 2";
@@ -64,6 +69,7 @@ fn p7_root() {
     assert_eq!(refusal("field 31;in;root 0 2 1"), (10, 2));
 }
 
+/// FORMAT 12.8.
 #[test]
 fn p8_span() {
     let span = "field 101;in;span 0 5 2 -27";
@@ -73,6 +79,7 @@ fn p8_span() {
     assert_eq!(made(span, &[22]).0, (18, 2));
 }
 
+/// FORMAT 12.9.
 #[test]
 fn p9_spans_read_or_not() {
     assert_eq!(refusal("field 31;in;span 0 2 4 0"), (0, 0));
@@ -81,6 +88,7 @@ fn p9_spans_read_or_not() {
     assert_eq!(refusal("field 31;in;span 0 2 5 -15"), (10, 2));
 }
 
+/// FORMAT 12.10.
 #[test]
 fn p10_max_and_which() {
     assert_eq!(refusal("field 31;in;in;max 0 1 2 3"), (10, 3));
@@ -91,22 +99,25 @@ fn p10_max_and_which() {
     assert_eq!(which, [2, 2, 0, 1, 0, 0, 1, 0, 0, 0, 0, 0, 1, 1, 0]);
 }
 
+/// FORMAT 12.11.
 #[test]
 fn p11_sum_leaves() {
     assert_eq!(refusal("field 101;in;span 0 2 5 0;sum 0 2 0"), (11, 3));
 }
 
-/// 15 and -15 pass with -15 if max is over unspanned values: such a list is not read.
+/// 15 and -15 would pass with -15 if max were over unspanned values: such a list is not read
+/// (FORMAT 12.13).
 #[test]
 fn mistakes_that_tempt() {
     assert_eq!(refusal("field 31;in;in;max 0 1 2 1"), (10, 3));
-    // Cell 31 is not taken for 0.
+    // Cell 31 is not taken for 0 (FORMAT 12.14).
     assert_eq!(check(&text("field 31;in"), &[31]), (14, 0));
-    // u ≥ v is tested on whole numbers: -1 is less than 0 though 30 is more than 0.
+    // u ≥ v is tested on whole numbers (FORMAT 12.15): -1 is less than 0 though 30 is more than 0.
     let which = table("field 31;in;sum 0;which 0 1 2 4", &[-1]);
     assert_eq!(which[2], 1);
 }
 
+/// FORMAT 8.15.
 #[test]
 fn field_line_alone() {
     let list = text("field 31");
@@ -116,6 +127,7 @@ fn field_line_alone() {
     assert_eq!(respond(&text("field 31;end")), b"table\t0\n");
 }
 
+/// FORMAT 11.12.
 #[test]
 fn program_example() {
     let output = respond(&text("field 31;in;relu 0 2 4;end;-3"));
@@ -125,6 +137,7 @@ fn program_example() {
     assert_eq!(refused, b"refused\t18\t2\n");
 }
 
+/// FORMAT 9.9, 9.10.
 #[test]
 fn shown_lines() {
     let list = text(RELU);
