@@ -4,7 +4,7 @@ ghost use mathlib.Core.Path.{_≡_};
 ghost use Prim.Native.Nat.{_+_, _<_};
 ghost use Rattle.meaning.specs.Machine.{pastU64};
 
-pub struct Cell(pub usize);
+pub struct Cell(pub(crate) usize);
 
 pub fn nth_cell(n: usize) -> Cell
     ensures { λ r. ⌜ r .0 ≡ n ⌝ }

@@ -12,7 +12,7 @@ ghost use Rattle.meaning.specs.Machine.{pastU32};
 ghost use Rattle.meaning.specs.Number.{remainder, signed};
 
 // A remainder modulo p, below p.
-pub struct Residue(pub u32);
+pub struct Residue(pub(crate) u32);
 
 // ---- cells of a lent table
 

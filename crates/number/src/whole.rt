@@ -13,7 +13,7 @@ ghost use Rattle.meaning.specs.Machine.{pastI64};
 ghost use Rattle.meaning.specs.Number.{between, inRange, lowest, highest};
 
 // A whole number.
-pub struct Whole(pub i64);
+pub struct Whole(pub(crate) i64);
 
 // ---- numbers of a lent slice
 

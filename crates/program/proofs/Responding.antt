@@ -55,7 +55,7 @@ module _ {input : List ℕ} {end lines : ℕ} (given : ListGiven input end lines
       let answer : refusalText (reply n i) ≡ answerParts parts = rw here in
       answer ∙ whole
 
-  pub list-read : {p : ℕ} {c : Counts} → CountsGiven (take (end - 0) input) p c → InputsGiven input end lines (c .cells)
+  pub list-read : {p : ℕ} {c : Counts} → CountsGiven (take (end - 0) input) p c → InputsGiven input end lines (c .cells .0)
   list-read {p} {c} l =
       let m : CountsGiven (take end input) p c = subst (λ (t : List ℕ). CountsGiven t p c) upto l in
       record { given = given; listed = m .listed; cells-are = m .counts-are .cells-are }

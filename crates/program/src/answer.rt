@@ -5,6 +5,7 @@ use super::answer_text::write_refusal;
 use super::answer_text::write_table;
 use super::input::Inputs;
 use super::input::read_inputs;
+use number::cell::cell_number;
 use reader::Surveyed;
 use reader::survey;
 use service::Reply;
@@ -101,6 +102,8 @@ pub fn answer_list(output: &mut [u8], input: &[u8], end: usize, lines: usize) ->
     let found = survey(&input[0..end]);
     match found {
         Surveyed::NotRead(number, place) => answer_refusal(output, number, place),
-        Surveyed::Counted(_, counts) => answer_inputs(output, input, end, lines, counts.cells),
+        Surveyed::Counted(_, counts) => {
+            answer_inputs(output, input, end, lines, cell_number(counts.cells))
+        }
     }
 }

@@ -8,11 +8,11 @@ use Rattle.program.proofs.answer.answer_list.Tie as tie
 
 answer-inputs-requires : tie.Need-answer-inputs-requires
 answer-inputs-requires c κs =
-    let at-found = c .before .before in
+    let at-found = c .before .before .before in
     let at-survey = at-found .before .before in
     let s = at-survey .before .before .before .before in
     let yields = at-survey .survey .ensures in
-    list-read (s .pre) (survey-counted _ _ (yields .0) (yields .1) _ _ (at-found .found2 .given .1))
+    rw (c .cell-number .ensures) (list-read (s .pre) (survey-counted _ _ (yields .0) (yields .1) _ _ (at-found .found2 .given .1)))
 
 returns : tie.Need-returns
 returns c =
@@ -34,6 +34,7 @@ answer-list-spec =
     (λ c. search needs)
     (λ c κs. search needs)
     (λ c. search needs)
+    (λ c κs. search needs)
     answer-inputs-requires
     (λ c. search needs)
     returns
