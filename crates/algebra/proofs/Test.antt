@@ -10,8 +10,8 @@ use native.Mathlib.Omega.{arith}
 use native.Mathlib.Decide.{ℕ-discrete}
 use lib.ListN.{length, getD}
 use lib.IntN.{ℤ, pos, negsuc}
-use lib.Signed.{_≤ℤ_, _<ℤ_, leZ, ltZ, clashℤ}
-use lib.Dec.{T, T-not, eqb, leb, ltb, eqb→eq, eqb-refl, leb→le, le→leb, nleb→lt, ltb→lt, lt→ltb, nltb→le}
+use lib.Signed.{_≤ℤ_, _<ℤ_, leZ, ltZ}
+use lib.Dec.{T, eqb, leb, ltb, eqb→eq, eqb-refl, leb→le, le→leb, nleb→lt, ltb→lt, lt→ltb, nltb→le}
 
 -- ---- any test
 
@@ -43,9 +43,6 @@ not-false false h = refl
 
 pub false-test : (b : Bool) → b ≡ false → T (not b)
 false-test b e = rw e tt
-
-pub test-false : (b : Bool) → T (not b) → b ≡ false
-test-false b t = not-false b (T-not b t)
 
 pub decide : (b : Bool) → (T b) ⊎ (b ≡ false)
 decide true = inl tt
@@ -110,9 +107,6 @@ leZ-not a b t = record { lt = not-leZ a b t }
 
 pub leZ-false : (a b : ℤ) → leZ a b ≡ false → b <ℤ a
 leZ-false a b f = leZ-not a b (false-test (leZ a b) f)
-
-pub false-leZ : (a b : ℤ) → b <ℤ a → leZ a b ≡ false
-false-leZ a b h = not-false (leZ a b) (λ t. clashℤ h (leZ-iff a b .0 t))
 
 pub order : (a b : ℤ) → (a ≤ℤ b) ⊎ (b <ℤ a)
 order a b = elim (decide (leZ a b)) [ inl t ↦ inl (leZ-iff a b .0 t) | inr f ↦ inr (leZ-false a b f) ]

@@ -10,8 +10,8 @@ use number::cell::cell_after;
 use number::cell::nth_cell;
 use number::power::Power;
 use number::power::capped_power;
-use number::residue::is_digit;
 use number::residue::is_same;
+use number::residue::is_under;
 use number::residue::own_residue;
 use number::residue::residue_at;
 use number::residue::set_residue;
@@ -112,11 +112,11 @@ pub fn group_rows(table: &[u32], number: Residue, first: usize, at: Cell, b: u32
     let mut i: usize = 0;
     while i + 1 < k {
         let low = residue_at(table, cell_after(at, i));
-        if !is_digit(low, b) {
+        if !is_under(low, b) {
             return Rows::Fails(first + i);
         }
         let high = residue_at(table, cell_after(at, i + 1));
-        if !is_digit(high, b) {
+        if !is_under(high, b) {
             return Rows::Fails(first + i + 1);
         }
         value = with_digit(value, with_digit(low, high, b), part);
@@ -125,7 +125,7 @@ pub fn group_rows(table: &[u32], number: Residue, first: usize, at: Cell, b: u32
     }
     if i < k {
         let digit = residue_at(table, cell_after(at, i));
-        if !is_digit(digit, b) {
+        if !is_under(digit, b) {
             return Rows::Fails(first + i);
         }
         value = with_digit(value, digit, part);

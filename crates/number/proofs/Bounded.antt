@@ -10,10 +10,9 @@ use lib.IntN.{ℤ, pos, negsuc, negℤ, _+ℤ_, _-ℤ_, _*ℤ_}
 use lib.Signed.{_≤ℤ_, leZ}
 use mir.Syntax.{w64}
 use mir.Val.{SFits}
-use Rattle.meaning.specs.Machine.{pastI32, pastU32, pastI64}
+use Rattle.meaning.specs.Machine.{pastI64}
 use Rattle.meaning.specs.Known.{larger, smaller}
-use Rattle.meaning.specs.Number.{half, highest, signed}
-use Rattle.algebra.proofs.Test.{cond-cases, leZ-iff, leZ-false}
+use Rattle.algebra.proofs.Test.{cond-cases}
 use Rattle.algebra.proofs.Integer.Order.{positivePart, negativePart, natAbs-parts, plus, minus}
 use Rattle.algebra.proofs.Integer.Order.{positivePart-negation, negativePart-negation}
 use Rattle.algebra.proofs.Integer.Linear.{linear}
@@ -31,9 +30,6 @@ by-parts z h k = record { size = ⊎-elim (λ e. omega (arith, natAbs-parts z)) 
 
 pub bounded-range : {bound : ℕ} (z : ℤ) → negℤ (pos bound) ≤ℤ z → z ≤ℤ pos bound → Bounded bound z
 bounded-range z h k = by-parts z (omega linear) (omega linear)
-
-pub range-bounded : {bound : ℕ} {z : ℤ} → Bounded bound z → (negℤ (pos bound) ≤ℤ z) × (z ≤ℤ pos bound)
-range-bounded {bound} {z} s = let e = natAbs-parts z in let l = s .size in (omega linear, omega linear)
 
 pub bounded-more : {less more : ℕ} {z : ℤ} → Bounded less z → less ≤ more → Bounded more z
 bounded-more s h = record { size = omega (arith, s .size) }
@@ -84,12 +80,3 @@ module _ {A B : ℕ} (a b : ℤ) where
 
   pub product-fits : Bounded A a → Bounded B b → T (ltb (A * B) pastI64) → SFits w64 (a *ℤ b)
   product-fits s t l = bounded-fits (A * B) (bounded-product s t) l
-
--- ---- the signed reading of a remainder, for every p that a u32 holds
-
-pub signed-bounded : (p cell : ℕ) → cell < p → p < pastU32 → Bounded pastI32 (signed p cell)
-unfolding signed highest half
-signed-bounded p cell h l = cond-cases (Bounded pastI32) (leZ (pos cell) (highest p)) (pos cell) (pos cell -ℤ pos p)
-    (λ t. let k = leZ-iff (pos cell) (highest p) .0 t in by-parts (pos cell) (omega linear) (omega linear))
-    (λ f. let k = leZ-false (pos cell) (highest p) f in
-    by-parts (pos cell -ℤ pos p) (omega (linear, minus (pos cell) (pos p))) (omega (linear, minus (pos cell) (pos p))))

@@ -5,7 +5,7 @@ use mathlib.Core.Bool.{Bool, true, false, not}
 use Prim.Native.Nat.{ℕ, suc, _+_, _-_, _*_, _%_, _≤_, _<_}
 use native.Mathlib.Omega.{arith}
 use native.Mathlib.Nat.{mul-le-mul, mod-lt}
-use lib.Dec.{T, ltb, ltb→lt}
+use lib.Dec.{T}
 use lib.IntN.{ℤ, pos, negsuc, negℤ, natAbs, _-ℤ_}
 use lib.Signed.{mag, ltZ, leZ, nonNeg, _≤ℤ_, _<ℤ_, ltZ-no}
 use borrow.Author.Tests.{le-ltb}
@@ -36,10 +36,6 @@ fits-parts (negsuc n) h = (omega arith, omega (arith, h .sfits))
 pub parts-fit : (z : ℤ) → positivePart z < negativePart z + pastI64 → negativePart z ≤ positivePart z + pastI64 → SFits w64 z
 parts-fit (pos n) h k = record { sfits = omega arith }
 parts-fit (negsuc n) h k = record { sfits = omega arith }
-
--- a number written out: `literal (pos 0) tt`
-pub literal : (z : ℤ) → T (ltb (mag z) pastI64) → SFits w64 z
-literal z t = record { sfits = ltb→lt (mag z) pastI64 t }
 
 -- ---- the test z < 0: what is known by it, of an i64 too, whose test reads bits; and the cast to a u64
 

@@ -48,11 +48,11 @@ pub fn is_same(a: Residue, b: Residue) -> bool
     a.0 == b.0
 }
 
-// Whether r is a digit in base b.
-pub fn is_digit(r: Residue, b: u32) -> bool
-    ensures { λ t. ⌜ t ≡ ltb (r .0) b ⌝ }
+// Whether r is below n: a digit in base n, or what a cell modulo n may hold.
+pub fn is_under(r: Residue, n: u32) -> bool
+    ensures { λ t. ⌜ t ≡ ltb (r .0) n ⌝ }
 {
-    r.0 < b
+    r.0 < n
 }
 
 // ---- the two readings

@@ -2,7 +2,7 @@
 use libc::STDOUT_FILENO;
 use number::Whole;
 use number::cell::nth_cell;
-use number::residue::is_digit;
+use number::residue::is_under;
 use number::residue::residue_at;
 use number::residue::signed_value;
 use number::whole::is_negative;
@@ -41,7 +41,7 @@ pub fn print_inputs(inputs: &[i64]) {
 pub fn print_value(cells: &[u32], p: u32) {
     if 0 < cells.len() {
         let cell = residue_at(cells, nth_cell(0));
-        if is_digit(cell, p) {
+        if is_under(cell, p) {
             print_whole(signed_value(cell, p));
         }
     }

@@ -36,7 +36,7 @@ returns c p f L h e =
     let at-test = read .before .before in
     let now = at-test .before .loop in
     let s = at-test .before .before .before .before .args in
-    let great = digit-great (s .table .now) (s .at .0) (s .b) (now .i) (read .before .cell-after .ensures) (read .residue-at .ensures) (c .before .is-digit .ensures) (c .if1 .taken) in
+    let great = digit-great (s .table .now) (s .at .0) (s .b) (now .i) (read .before .cell-after .ensures) (read .residue-at .ensures) (c .before .is-under .ensures) (c .if1 .taken) in
     group-fails p (s .table .now) f L (s .first) (s .at .0) (s .b) (s .k)
     (sym (now .inv .2 p ∙ digit-fails p (s .table .now) (s .first) (s .at .0) (s .b) (s .k) (now .i) (omega arith) great))
 
@@ -47,7 +47,7 @@ low-read : (c : tie.Else1 Inv-loop μ-loop) → let read = c .before .before in
 low-read c =
     let read = c .before .before in
     let s = read .before .before .before .before .before .before .args in
-    digit-read (s .table .now) (s .at .0) (s .b) _ (read .before .cell-after .ensures) (read .residue-at .ensures) (c .before .is-digit .ensures) (c .if1 .left)
+    digit-read (s .table .now) (s .at .0) (s .b) _ (read .before .cell-after .ensures) (read .residue-at .ensures) (c .before .is-under .ensures) (c .if1 .left)
 
 returns-2 : tie.Need-returns-2 Inv-loop μ-loop
 unfolding rowsMeaning
@@ -57,7 +57,7 @@ returns-2 c p f L h e =
     let at-test = at-low .before .before .before .before in
     let now = at-test .before .loop in
     let s = at-test .before .before .before .before .args in
-    let great = digit-great (s .table .now) (s .at .0) (s .b) (now .i + 1) (read .before .cell-after2 .ensures) (read .residue-at2 .ensures) (c .before .is-digit2 .ensures) (c .if2 .taken) in
+    let great = digit-great (s .table .now) (s .at .0) (s .b) (now .i + 1) (read .before .cell-after2 .ensures) (read .residue-at2 .ensures) (c .before .is-under2 .ensures) (c .if2 .taken) in
     let fails = second-fails p (s .table .now) (s .first) (s .at .0) (s .b) (s .k) (now .i) (at-test .loop-test .taken) (low-read at-low) great in
     group-fails p (s .table .now) f L (s .first) (s .at .0) (s .b) (s .k) (sym (now .inv .2 p ∙ fails))
 
@@ -69,7 +69,7 @@ high-read : (c : tie.Else2 Inv-loop μ-loop) → let read = c .before .before in
 high-read c =
     let read = c .before .before in
     let s = read .before .before .before .before .before .before .before .before .before .before .args in
-    digit-read (s .table .now) (s .at .0) (s .b) _ (read .before .cell-after2 .ensures) (read .residue-at2 .ensures) (c .before .is-digit2 .ensures) (c .if2 .left)
+    digit-read (s .table .now) (s .at .0) (s .b) _ (read .before .cell-after2 .ensures) (read .residue-at2 .ensures) (c .before .is-under2 .ensures) (c .if2 .left)
 
 -- the value of the two digits of a turn, and the sum so far after them where both pass
 abbrev pair : tie.Else2 Inv-loop μ-loop → ℕ
@@ -140,7 +140,7 @@ returns-3 c p f L h e =
     let at-odd = read .before .before in
     let now = at-odd .before .before .loop in
     let s = at-odd .before .before .before .before .before .args in
-    let great = digit-great (s .table .now) (s .at .0) (s .b) (now .i) (read .before .cell-after3 .ensures) (read .residue-at3 .ensures) (c .before .is-digit3 .ensures) (c .if4 .taken) in
+    let great = digit-great (s .table .now) (s .at .0) (s .b) (now .i) (read .before .cell-after3 .ensures) (read .residue-at3 .ensures) (c .before .is-under3 .ensures) (c .if4 .taken) in
     group-fails p (s .table .now) f L (s .first) (s .at .0) (s .b) (s .k)
     (sym (now .inv .2 p ∙ digit-fails p (s .table .now) (s .first) (s .at .0) (s .b) (s .k) (now .i) (at-odd .if3 .taken) great))
 
@@ -152,7 +152,7 @@ with-digit-requires-3 c κs =
     let start = at-odd .before .before .before .before .before in
     let s = start .args in
     let g = start .pre .0 in
-    let digit = digit-read (s .table .now) (s .at .0) (s .b) _ (read .before .cell-after3 .ensures) (read .residue-at3 .ensures) (c .before .is-digit3 .ensures) (c .if4 .left) in
+    let digit = digit-read (s .table .now) (s .at .0) (s .b) _ (read .before .cell-after3 .ensures) (read .residue-at3 .ensures) (c .before .is-under3 .ensures) (c .if4 .left) in
     let last = meaning-next (s .table .now) (s .at .0) (s .b) (s .k) (at-odd .before .before .loop .inv .1) (start .pre .1) (at-odd .if3 .taken) digit in
     omega (arith, last .below, meaning-most (s .table .now) (s .at .0) (s .b) (s .k) last (omega (arith, g .base)) (omega arith), g .small)
 
