@@ -103,7 +103,16 @@ pub fn run_make(row: &[u8], list: &[u8], inputs: &[i64]) {
     print(b"\n");
 }
 
-// The cells of a line in the table that is made.
+// p, and 0 where the list is not read.
+fn prime_of(list: &[u8]) -> u32 {
+    let answer = read(list);
+    let Answer::Read(p, _, _, _) = answer else {
+        return 0;
+    };
+    p
+}
+
+// The cells of a line that makes a value, in the table that is made, and the value: what the first of them stands for.
 pub fn run_show(row: &[u8], list: &[u8], inputs: &[i64], line: usize) {
     print_call(row, b" show", list);
     print_inputs(inputs);
@@ -114,31 +123,10 @@ pub fn run_show(row: &[u8], list: &[u8], inputs: &[i64], line: usize) {
     let cells = cell_count(list, &room);
     let table = &mut room[..cells];
     make(list, inputs, table);
-    print_cells(show(list, table, line));
-    print(b"\n");
-}
-
-// p, and 0 where the list is not read.
-fn prime_of(list: &[u8]) -> u32 {
-    let answer = read(list);
-    let Answer::Read(p, _, _, _) = answer else {
-        return 0;
-    };
-    p
-}
-
-// The value that a line makes in the table that is made: the whole number that its cell, the line's first, stands for.
-pub fn run_value(row: &[u8], list: &[u8], inputs: &[i64], line: usize) {
-    print_call(row, b" value", list);
-    print_inputs(inputs);
-    print(b" line");
-    print_count(line as u64);
-    print(b":");
-    let mut room: [u32; ROOM] = [BLANK; ROOM];
-    let cells = cell_count(list, &room);
-    let table = &mut room[..cells];
-    make(list, inputs, table);
-    print_value(show(list, table, line), prime_of(list));
+    let shown = show(list, table, line);
+    print_cells(shown);
+    print(b", value");
+    print_value(shown, prime_of(list));
     print(b"\n");
 }
 

@@ -7,14 +7,12 @@ use call::run_check;
 use call::run_make;
 use call::run_read;
 use call::run_show;
-use call::run_value;
 
 fn relu_rows() {
     let list = b"field\t31\nin\nrelu\t0\t2\t4\n";
     run_make(b"P1", list, &[-3]);
+    run_show(b"P1", list, &[-3], 1);
     run_show(b"P1", list, &[-3], 2);
-    run_value(b"P1", list, &[-3], 1);
-    run_value(b"P1", list, &[-3], 2);
     run_make(b"P2", list, &[5]);
     run_make(b"P3", list, &[-8]);
     run_make(b"P4", list, &[8]);
@@ -33,7 +31,7 @@ fn root_rows() {
 fn span_rows() {
     let list = b"field\t101\nin\nspan\t0\t5\t2\t-27\n";
     run_make(b"P8", list, &[-18]);
-    run_value(b"P8", list, &[-18], 1);
+    run_show(b"P8", list, &[-18], 1);
     run_make(b"P8", list, &[-27]);
     run_make(b"P8", list, &[-3]);
     run_make(b"P8", list, &[22]);
@@ -43,17 +41,15 @@ fn span_rows() {
     run_read(b"P9", b"field\t31\nin\nspan\t0\t2\t5\t-15\n");
 }
 
-// The value that max or which makes is the first cell of its line, line 5.
+// The line that makes the third value, max or which, is line 5.
 fn pair_rows() {
     run_read(b"P10", b"field\t31\nin\nin\nmax\t0\t1\t2\t3\n");
     let max = b"field\t31\nin\nin\nspan\t0\t2\t3\t0\nspan\t1\t2\t3\t0\nmax\t0\t1\t2\t3\n";
     run_make(b"P10", max, &[3, 6]);
     run_show(b"P10", max, &[3, 6], 5);
-    run_value(b"P10", max, &[3, 6], 5);
     let which = b"field\t31\nin\nin\nspan\t0\t2\t3\t0\nspan\t1\t2\t3\t0\nwhich\t0\t1\t2\t4\n";
     run_make(b"P10", which, &[2, 2]);
     run_show(b"P10", which, &[2, 2], 5);
-    run_value(b"P10", which, &[2, 2], 5);
 }
 
 fn main() {
