@@ -1,5 +1,5 @@
 -- A check is accepted, and a table made, exactly where the number of the reply is 0: no refusal has that number, so the number that the desk
--- counts by and the reply 0, 0 of demand 3 are one.
+-- counts by and the reply 0, 0 are one (FORMAT 9.3).
 use Prim.Native.Nat.{ℕ, zero, suc, _<_}
 use native.Mathlib.Omega.{arith}
 use mathlib.Core.Path.{_≡_, refl}

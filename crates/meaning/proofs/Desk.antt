@@ -1,4 +1,4 @@
--- The desk counts its calls (demand 2): up to the full count each call raises heard and one of accepted and refused by one,
+-- The desk counts its calls (FORMAT 9.14): up to the full count each call raises heard and one of accepted and refused by one,
 -- and is answered by its check; at the full count nothing moves.
 use Prim.Native.Nat.{ℕ, suc, _+_, _<_}
 use native.Mathlib.Omega.{arith}

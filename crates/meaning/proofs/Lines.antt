@@ -53,7 +53,7 @@ digits-given p i w ns e t =
     (left (all isDigits (kindOf w .digits ns)) (all (inRange p) (kindOf w .shifts ns))
     (left (all isDigits (kindOf w .digits ns) && all (inRange p) (kindOf w .shifts ns)) (all (inRange p) (kindOf w .coefficients ns)) t))
 
--- "2 ≤ b; 1 ≤ k", where the base and the digit count are the numbers from place i on
+-- b is at least 2 and k at least 1, where they are the numbers from place i on
 pub digits-ranged : (p i : ℕ) (w : Word) (ns : List ℤ) → kindOf w .digits ns ≡ digitsAt ns i → T (isRanged p w ns)
     → (2 ≤ sizeAt ns i) × (1 ≤ sizeAt ns (suc i))
 unfolding isDigits digitsAt sizeAt all

@@ -117,7 +117,7 @@ empty : (t : List ℕ) → length t ≡ 0 → t ≡ []
 empty [] h = refl
 empty (x ∷ t) h = absurd (omega arith)
 
--- "A list of the field line alone has an empty table, which is accepted", and it accepts no other
+-- a list of the field line alone accepts the empty table and no other (FORMAT 8.15)
 pub field-alone : (text : List ℕ) (l : Line) (s : Known) → reading text ≡ read (l ∷ []) s
     → (t : List ℕ) → checkReply text t ≡ reply 0 0 ↔ (t ≡ [])
 unfolding rowsOf rowsFrom after fresh

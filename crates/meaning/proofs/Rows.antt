@@ -1,4 +1,4 @@
--- Checking is exact (demand 2): a table is accepted exactly when it is well formed and every row holds, and else the first row
+-- Checking is exact (FORMAT 8.12): a table is accepted exactly when it is well formed and every row holds, and else the first row
 -- that fails is named. `accepted-iff` is acceptance as later proofs cite it; `rows-count` ties the count of rows to the rows.
 use Prim.Native.Nat.{ℕ, suc, _+_, _<_}
 use native.Mathlib.Omega.{arith}

@@ -76,7 +76,7 @@ module _ (text : List ℕ) (ls : List Line) (s : Known) (is-read : reading text 
   values-are t ws w c =
       values-read (s .p) t (s .known) (s .places) ws (prime-end ls s kept) (sound-end ls 0 fresh s kept sound-fresh .ranged) w c
 
-  -- demand 3, whoever wrote the table
+  -- what is accepted, whoever wrote the table (FORMAT 8.11)
   accepts : (t : List ℕ) → checkReply text t ≡ reply 0 0 ↔ (WellFormed s t × (work ls (inputsOf s ls t) ≡ true-table (valuesOf s t) t))
   unfolding work inputsOf rowsOf fresh
   accepts t = (
