@@ -1,6 +1,6 @@
 // The digit group over a whole number x with a shift L: k cells, the lowest base-b digits of how far x is from L, lowest first. In a true
 // table x is not below L, so that this is x - L. Its rows are that each cell is a digit below b, and then that the digits' value is x - L
-// modulo p.
+// modulo p. FORMAT 7.4, 7.5
 use super::rows::Rows;
 use super::rows::row_before;
 use number::Cell;

@@ -1,6 +1,7 @@
 // What relu and which share: the sign of a whole number x. The statement is -B ≤ x ≤ b^(k-1) - 1 with B = (b-1)·b^(k-1). The cells are the
 // digits of x + B, whose top digit is b - 1 just where x is not negative, then f, which says so, and w, which shows it where f is 0. The
 // rows are those of the group over x with shift -B, three that tie f to the top digit by w, and last the line's own.
+// FORMAT 7.10, 7.11, 7.12
 use super::group::divided;
 use super::group::group_cells;
 use super::group::group_rows;

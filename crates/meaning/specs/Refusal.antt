@@ -54,12 +54,12 @@ unfoldable pub orRefused : {A : Type 0} → (number : ℕ) → Option A → Resu
 orRefused r none = refusedBy r
 orRefused r (some x) = value x
 
--- the field line is line 0, and no other line is one. FORMAT 3.5
+-- the field line is line 0, and no other line is one. FORMAT 3.5, 10.4
 unfoldable pub isPlaced : (line : ℕ) → Word → Bool
 isPlaced zero w = kindOf w .isField
 isPlaced (suc n) w = not (kindOf w .isField)
 
--- p is an odd prime. FORMAT 1.1
+-- p is an odd prime. FORMAT 1.1, 10.5
 unfoldable pub isOverPrime : Word → List ℤ → Bool
 isOverPrime w ns = cond (kindOf w .isField) (nonNeg (numberAt ns 0) && oddPrime (natAbs (numberAt ns 0))) true
 
@@ -67,11 +67,11 @@ isOverPrime w ns = cond (kindOf w .isField) (nonNeg (numberAt ns 0) && oddPrime 
 unfoldable pub isDigits : Digits → Bool
 isDigits d = leZ (pos 2) (d .b) && leZ (pos 1) (d .k) && leZ (d .k) (pos mostDigits)
 
--- so are they, L, c0 and the coefficients of a line. FORMAT 4.1, 4.2, 4.3, 4.4
+-- so are they, L, c0 and the coefficients of a line. FORMAT 4.1, 4.2, 4.3, 4.4, 10.6
 unfoldable pub isRanged : ℕ → Word → List ℤ → Bool
 isRanged p w ns = all isDigits (kindOf w .digits ns) && all (inRange p) (kindOf w .shifts ns) && all (inRange p) (kindOf w .coefficients ns)
 
--- does v name one of the n values that are made? FORMAT 3.3
+-- does v name one of the n values that are made? FORMAT 3.3, 10.7
 unfoldable pub isMade : (n : ℕ) (v : ℤ) → Bool
 isMade n v = nonNeg v && ltb (natAbs v) n
 

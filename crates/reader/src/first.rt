@@ -21,6 +21,7 @@ pub enum First {
 }
 
 // Line 0 with this word and the first `count` of these numbers. Where the line comes from, text or not, is for the caller.
+// FORMAT 10.4, 10.5
 pub fn first_parsed(word: Word, numbers: &[i64], count: usize) -> First
     requires { ⌜ ParsedLine word count (now numbers) ⌝ }
     ensures yields { λ r. ⌜ firstMeaning r ≡ stepOf 0 fresh (lineWith (wordOf word) (take count (now (numbers .entry)))) ⌝ }

@@ -49,6 +49,7 @@ pub fn read_max(
 }
 
 // The ends of y, the greater of u and v, where the digit rule is kept over y - u and over y - v with shift 0: both have the same c = b^k.
+// FORMAT 5.8, 6.2, 10.10
 fn max_ends(p: u32, b: u64, k: u32, u: Ends, v: Ends) -> Made
     requires { ⌜ Field p × (1 ≤ b) × BoundedEnds greatest u × BoundedEnds greatest v ⌝ }
     ensures { λ r. ⌜ madeMeaning r

@@ -42,7 +42,7 @@ pub fn read_relu(
     }
 }
 
-// The ends of the greater of 0 and the value, where the digit rule is kept.
+// The ends of the greater of 0 and the value, where the digit rule is kept. FORMAT 5.6, 6.2, 10.10
 fn relu_ends(p: u32, b: u64, k: u32, old: Ends) -> Made
     requires { ⌜ Field p × (1 ≤ b) × (1 ≤ k) × BoundedEnds greatest old ⌝ }
     ensures { λ r. ⌜ madeMeaning r ≡ ruleYield (digitRule p b k (endsMeaning old) (signShift b k)) (greaterEnds (ends (pos 0) (pos 0)) (endsMeaning old)) ⌝ }

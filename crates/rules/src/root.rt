@@ -37,7 +37,7 @@ pub fn read_root(
     }
 }
 
-// The ends 0..c-1, where c >= 3 and c² <= M+1, M = (p-1)/2.
+// The ends 0..c-1, where c >= 3 and c² <= M+1, M = (p-1)/2. FORMAT 5.9, 6.4, 10.10
 fn root_ends(p: u32, b: u64, k: u32) -> Made
     requires { ⌜ Field p × (1 ≤ b) ⌝ }
     ensures { λ r. ⌜ madeMeaning r ≡ rootYield p (b ^ k) ⌝ }

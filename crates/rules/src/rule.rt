@@ -57,7 +57,7 @@ pub fn digits_at(numbers: &[i64], at: usize) -> DigitsFound
     digits_of(whole_at(numbers, at), whole_at(numbers, at + 1))
 }
 
-// b and k, where 2 <= b and 1 <= k <= 31.
+// b and k, where 2 <= b and 1 <= k <= 31. FORMAT 4.1, 4.2, 10.6
 fn digits_of(b: Whole, k: Whole) -> DigitsFound
     ensures { λ r. ⌜ digitsMeaning r ≡ digitsAllowed (b .0) (k .0) ⌝ }
 {
@@ -70,7 +70,7 @@ fn digits_of(b: Whole, k: Whole) -> DigitsFound
     DigitsFound::Of(size_of(b) as u64, size_of(k) as u32)
 }
 
-// Whether the number at a place lies in -M..M.
+// Whether the number at a place lies in -M..M. FORMAT 4.3, 4.4, 10.6
 pub fn is_ranged(numbers: &[i64], at: usize, p: u32) -> bool
     requires { ⌜ (at < length (now numbers)) × (3 ≤ p) ⌝ }
     ensures { λ r. ⌜ r ≡ inRange p (getD (now (numbers .entry)) at (pos 0)) ⌝ }
@@ -80,7 +80,7 @@ pub fn is_ranged(numbers: &[i64], at: usize, p: u32) -> bool
 
 // ---- rules 7 to 9
 
-// Whether the number at a place names one of the values that are made.
+// Whether the number at a place names one of the values that are made. FORMAT 3.3, 10.7
 pub fn is_made(numbers: &[i64], at: usize, values: usize) -> bool
     requires { ⌜ at < length (now numbers) ⌝ }
     ensures { λ r. ⌜ r ≡ isMade values (getD (now (numbers .entry)) at (pos 0)) ⌝ }
@@ -100,6 +100,7 @@ pub fn are_made(numbers: &[i64], values: usize) -> bool
 }
 
 // The first that is broken of the rules 7 (the names are made), 8 (room for the new values) and 9 (room for the cells), or 0.
+// FORMAT 10.7, 10.8, 10.9
 pub fn early_broken(named: bool, values: usize, new: usize, cells: usize, width: usize) -> u32
     requires { ⌜ (values ≤ valueLimit) × (new ≤ 1) × (cells ≤ cellLimit) × (width ≤ cellLimit) ⌝ }
     ensures { λ r. ⌜ r ≡ earlyBroken named values new cells width ⌝ }
@@ -167,7 +168,7 @@ pub fn ends_named(numbers: &[i64], at: usize, values: usize, lows: &[i64], highs
     }
 }
 
-// The ends of the difference of two values.
+// The ends of the difference of two values. FORMAT 5.12
 pub fn apart(u: Ends, v: Ends) -> Ends
     requires { ⌜ BoundedEnds greatest u × BoundedEnds greatest v ⌝ }
     ensures { λ r. ⌜ BoundedEnds greatestApart r × (endsMeaning r ≡ apart (endsMeaning u) (endsMeaning v)) ⌝ }
@@ -192,6 +193,7 @@ pub fn greater(u: Ends, v: Ends) -> Ends
 
 // The digit rule with the shift -B, of relu and which. With part = b^(k-1) the power is c = part·b and B = (b-1)·part = c - part, so that
 // nothing is divided. The product fits: part is 1, or b is at most part, which is at most p.
+// FORMAT 6.2, 10.10
 pub fn sign_rule(p: u32, b: u64, k: u32, e: Ends) -> bool
     requires { ⌜ Field p × (1 ≤ b) × (1 ≤ k) × BoundedEnds greatestApart e ⌝ }
     ensures { λ r. ⌜ r ≡ digitRule p b k (endsMeaning e) (signShift b k) ⌝ }
@@ -208,7 +210,7 @@ pub fn sign_rule(p: u32, b: u64, k: u32, e: Ends) -> bool
     is_narrow(p, c, e, negated(wide_whole(top)))
 }
 
-// The digit rule where c = b^k is at most p: F - L and L + c - 1 - E are at most p - 1.
+// The digit rule where c = b^k is at most p: F - L and L + c - 1 - E are at most p - 1. FORMAT 6.1, 10.10
 pub fn is_narrow(p: u32, c: u64, e: Ends, shift: Whole) -> bool
     requires { ⌜ Field p × (1 ≤ c) × (c ≤ p) × BoundedEnds greatestApart e × Bounded greatest (shift .0) ⌝ }
     ensures { λ r. ⌜ r ≡ narrow p c (endsMeaning e) (shift .0) ⌝ }

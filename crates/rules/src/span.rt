@@ -70,7 +70,7 @@ fn span_ends(p: u32, b: u64, k: u32, old: Ends, shift: Whole) -> Made
     shared_ends(old, shift, last)
 }
 
-// What the old ends and L..L+c-1 share, where they share a number.
+// What the old ends and L..L+c-1 share, where they share a number. FORMAT 5.10, 10.12
 fn shared_ends(old: Ends, shift: Whole, last: u64) -> Made
     requires { ⌜ (last ≤ greatest) × Bounded greatest (shift .0) ⌝ }
     ensures { λ r. ⌜ madeMeaning r ≡ sharedYield (ends (larger (old .low .0) (shift .0)) (smaller (old .high .0) (shift .0 +ℤ pos last))) ⌝ }

@@ -55,7 +55,7 @@ pub fn read_sum(
     sum_ends(numbers, count, p, values, cells, lows, highs)
 }
 
-// c0, c1, c2, ..: the numbers at 0, 1, 3, 5, ..
+// c0, c1, c2, ..: the numbers at 0, 1, 3, 5, .. FORMAT 4.4, 10.6
 fn coefficients_ranged(numbers: &[i64], count: usize, p: u32) -> bool
     requires { ⌜ (count ≤ length (now numbers)) × (count ≤ mostNumbers) × (0 < count) × (3 ≤ p) ⌝ }
     ensures { λ r. ⌜ r
@@ -89,7 +89,7 @@ fn names_made(numbers: &[i64], count: usize, values: usize) -> bool
     true
 }
 
-// The ends after the constant and after each term, until they leave the range.
+// The ends after the constant and after each term, until they leave the range. FORMAT 5.4, 5.5, 10.11
 fn sum_ends(
     numbers: &[i64],
     count: usize,

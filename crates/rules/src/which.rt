@@ -43,7 +43,7 @@ pub fn read_which(
     }
 }
 
-// The ends 0..1, where the digit rule is kept over u - v.
+// The ends 0..1, where the digit rule is kept over u - v. FORMAT 5.7, 6.2, 10.10
 fn which_ends(p: u32, b: u64, k: u32, u: Ends, v: Ends) -> Made
     requires { ⌜ Field p × (1 ≤ b) × (1 ≤ k) × BoundedEnds greatest u × BoundedEnds greatest v ⌝ }
     ensures { λ r. ⌜ madeMeaning r ≡ ruleYield (digitRule p b k (apart (endsMeaning u) (endsMeaning v)) (signShift b k)) (ends (pos 0) (pos 1)) ⌝ }

@@ -38,7 +38,7 @@ pub fn check(list: &[u8], table: &[u32]) -> Reply
     }
 }
 
-// A table for a list that is read, which has these counts.
+// A table for a list that is read, which has these counts. FORMAT 10.13, 10.26
 fn check_table(list: &[u8], table: &[u32], p: u32, counts: Counts) -> Reply
     requires { ⌜ CountsGiven (now list) p counts ⌝ }
     ensures { λ r. ⌜ ((l : ListRead (now (list .entry))) → replyMeaning r ≡ checked (l .last) (l .lines) (now (table .entry))) ⌝ }
@@ -59,7 +59,7 @@ fn check_table(list: &[u8], table: &[u32], p: u32, counts: Counts) -> Reply
     }
 }
 
-// Whether each cell is below p. No cell ends the loop, so that it is compiled to tests of several cells at once.
+// Whether each cell is below p (FORMAT 8.8). No cell ends the loop, so that it is compiled to tests of several cells at once.
 fn all_below(table: &[u32], p: u32) -> bool
     ensures { λ r. ⌜ r ≡ all (isCell p) (now (table .entry)) ⌝ }
 {
@@ -73,6 +73,7 @@ fn all_below(table: &[u32], p: u32) -> bool
 }
 
 // The place is looked for in a table that is refused, and in no other. A cell of p or more stands in it, so that the loop needs no other end.
+// FORMAT 10.14
 fn first_large(table: &[u32], p: u32) -> Cells
     ensures { λ r. ⌜ cellsMeaning r ≡ refusalAt 14 (firstFail (isCell p) 0 (now (table .entry))) ⌝ }
 {
@@ -86,7 +87,7 @@ fn first_large(table: &[u32], p: u32) -> Cells
     Cells::Large(nth_cell(i))
 }
 
-// The rows, counted over the whole list.
+// The rows, counted over the whole list. FORMAT 10.15
 fn check_rows(list: &[u8], table: &[u32], p: u32) -> Reply
     requires { ⌜ TableGiven (now list) (now table) p ⌝ }
     ensures { λ r. ⌜ ((l : ListRead (now (list .entry))) → replyMeaning r ≡ rowsReply (l .last) (l .lines) (now (table .entry))) ⌝ }

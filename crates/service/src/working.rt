@@ -49,7 +49,7 @@ fn take_value(values: &mut [i64], at: usize, worked: Worked) -> bool
     }
 }
 
-// Every line is worked on the values of the lines before it, until a statement is false.
+// Every line is worked on the values of the lines before it, until a statement is false. FORMAT 8.3, 8.4, 10.18
 pub fn work_lines(list: &[u8], inputs: &[i64], values: &mut [i64]) -> Working
     requires { ⌜ WorkGiven (now list) (now inputs) × (length (now values) ≡ valueLimit) ⌝ }
     ensures yields { λ r. ⌜ ((l : ListRead (now (list .entry))) → WorkingYield (l .lines) (l .last) (now (inputs .entry)) (now (values .exit)) r) ⌝ }

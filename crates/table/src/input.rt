@@ -1,4 +1,4 @@
-// A line `in`: its value is the next input. Its one cell is that of the value, and it has no row.
+// A line `in`: its value is the next input. Its one cell is that of the value, and it has no row. FORMAT 3.6, 7.7
 use groups::value::Worked;
 use number::Whole;
 ghost use mathlib.Core.List.{List};

@@ -1,5 +1,6 @@
 // A line `max u v b k`: u and v are less than c = b^k apart, and the value y is the greater of them. Its cells are those of y, of the
 // group over y - u and of the group over y - v, both with shift 0; its rows are (y-u)·(y-v) ≡ 0 and those of the two groups.
+// FORMAT 3.11, 7.15
 use groups::group::group_rows;
 use groups::group::power_of;
 use groups::group::two_groups;

@@ -1,5 +1,5 @@
 // A line `relu v b k`: the statement is that of the sign over v, and the value y is the greater of 0 and v. Its cells are those of y and
-// of the sign; its rows are those of the sign, the last of which is f·v ≡ y.
+// of the sign; its rows are those of the sign, the last of which is f·v ≡ y. FORMAT 3.9, 7.13
 use groups::group::power_of;
 use groups::named::one_place;
 use groups::named::one_value;

@@ -1,5 +1,5 @@
 // A line `root v b k`: 0 ≤ v < c = b^k, and the value r is the floor of the square root of v. Its cells are those of r and of its square
-// q, then the groups over v, r, v - q and q + 2r - v with shift 0; its rows are r·r ≡ q and those of the four groups.
+// q, then the groups over v, r, v - q and q + 2r - v with shift 0; its rows are r·r ≡ q and those of the four groups. FORMAT 3.12, 7.16
 use groups::group::group_rows;
 use groups::group::power_of;
 use groups::group::two_groups;

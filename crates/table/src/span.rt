@@ -1,5 +1,5 @@
 // A line `span v b k L`: L ≤ v ≤ L + c - 1 with c = b^k. It makes no value. Its cells and its rows are those of the group over v with
-// shift L.
+// shift L. FORMAT 3.7, 7.9
 use groups::group::form_cells;
 use groups::group::group_rows;
 use groups::group::power_of;

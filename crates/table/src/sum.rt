@@ -1,5 +1,5 @@
 // A line `sum c0 c1 v1 c2 v2 ..`: the value y is c0 + c1·v1 + c2·v2 + .., its one cell is that of y, and its one row is that y is this sum
-// modulo p.
+// modulo p. FORMAT 3.8, 7.8
 use groups::numbers::place_at;
 use groups::rows::Rows;
 use groups::rows::row_before;

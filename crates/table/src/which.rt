@@ -1,5 +1,5 @@
 // A line `which u v b k`: the statement is that of the sign over u - v, and the value y is 0 where u is at least v, else 1. Its cells are
-// those of y and of the sign; its rows are those of the sign, the last of which is y ≡ 1-f.
+// those of y and of the sign; its rows are those of the sign, the last of which is y ≡ 1-f. FORMAT 3.10, 7.14
 use groups::group::power_of;
 use groups::named::two_places;
 use groups::named::two_values;

@@ -118,7 +118,7 @@ fn size_from(text: &[u8], at: usize) -> Size
 
 // The number that the field at `at` spells. A zero is one where its field ends just after it. Otherwise `from` is where the digits
 // start, and so tells the sign. One call reads them with either sign: with two this function is too large for the compiler to put it
-// into the loop over the numbers, and each number pays for a call.
+// into the loop over the numbers, and each number pays for a call. FORMAT 2.5, 2.6
 fn number_at(text: &[u8], at: usize) -> Number
     requires { ⌜ (isEnded (now text) ≡ true) × (at < length (now text)) ⌝ }
     ensures { λ r. ⌜ NumberYield (upTo (now (text .entry)) at) at r ⌝ }
@@ -208,7 +208,7 @@ fn is_word(text: &[u8], at: usize, word: Word, spelled: &[u8]) -> Spelled
     Spelled::NoWord
 }
 
-// The word that the field at `at` spells.
+// The word that the field at `at` spells. FORMAT 3.1
 fn word_at(text: &[u8], at: usize) -> Spelled
     requires { ⌜ (isEnded (now text) ≡ true) × (at < length (now text)) ⌝ }
     ensures { λ r. ⌜ WordYield (upTo (now (text .entry)) at) at r ⌝ }
@@ -296,7 +296,7 @@ pub fn line_end(text: &[u8], at: usize) -> usize
     find_far(text, LINE_END, at)
 }
 
-// Whether the last line of the text is ended, as each before it is. A text without bytes has no line, and is not ended.
+// Whether the last line of the text is ended, as each before it is. A text without bytes has no line, and is not ended. FORMAT 2.1
 pub fn is_ended(text: &[u8]) -> bool
     ensures { λ r. ⌜ r ≡ isEnded (now (text .entry)) ⌝ }
 {
@@ -387,7 +387,7 @@ fn fields_of(text: &[u8], at: usize, numbers: &mut [i64]) -> Fields
     }
 }
 
-// The line at `at`: its numbers are then the first in `numbers`.
+// The line at `at`: its numbers are then the first in `numbers`. FORMAT 2.7, 10.3
 pub fn line_of(text: &[u8], at: usize, numbers: &mut [i64]) -> Parsed
     requires { ⌜ (isEnded (now text) ≡ true) × (at < length (now text)) × (length (now numbers) ≡ mostNumbers) ⌝ }
     ensures read { λ r. ⌜ LineRead (lineAt (now (text .entry)) at) (now (numbers .entry)) (now (numbers .exit)) r ⌝ }
