@@ -67,11 +67,12 @@ deskCall d list table = deskAnswer d (checkOf (callOf list table))
 
 -- ---- a list of calls, by what their checks reply
 
--- the desk after them, and what they were answered. FORMAT 9.14
+-- the desk after them. FORMAT 9.14
 unfoldable pub deskOver : Desk → (checked : List Reply) → Desk
 deskOver d [] = d
 deskOver d (r ∷ rs) = deskOver (deskAnswer d r .desk) rs
 
+-- what it answers to them. FORMAT 9.12
 unfoldable pub answersOver : Desk → (checked : List Reply) → List Reply
 answersOver d [] = []
 answersOver d (r ∷ rs) = deskAnswer d r .answer ∷ answersOver (deskAnswer d r .desk) rs
@@ -80,5 +81,6 @@ answersOver d (r ∷ rs) = deskAnswer d r .answer ∷ answersOver (deskAnswer d 
 abbrev pub deskAfter : Desk → List Call → Desk
 deskAfter d calls = deskOver d (map checkOf calls)
 
+-- the replies to calls, in order. FORMAT 9.14
 abbrev pub deskReplies : Desk → List Call → List Reply
 deskReplies d calls = answersOver d (map checkOf calls)

@@ -159,6 +159,6 @@ examples =
     (one 101 (line span (pos 0 ∷ pos 2 ∷ pos 5 ∷ pos 0 ∷ []) ∷ line sum (pos 0 ∷ pos 2 ∷ pos 0 ∷ []) ∷ [])) (refusal (reply 11 3))
     ∷ []
 
--- the rows are right: proved in proofs/WorkedTables.antt
+-- the rows are right: proved in proofs/WorkedTables.antt. FORMAT 12.1
 abbrev pub WorkedTables : Type 0
 WorkedTables = T (allRight examples)

@@ -30,6 +30,7 @@ abbrev pub KeptBy : {S : Type 0} → Way S → (n : ℕ) (s : S) (ls : List Line
 KeptBy w n s [] s′ = s ≡ s′
 KeptBy w n s (l ∷ ls) s′ = (firstBroken (w .rules) n s l ≡ none) × KeptBy w (suc n) (w .next s l) ls s′
 
+-- by the rules of Refusal.antt. FORMAT 10.23
 abbrev pub Kept : (n : ℕ) (s : Known) (ls : List Line) (s′ : Known) → Type 0
 Kept n s ls s′ = KeptBy plain n s ls s′
 

@@ -14,10 +14,11 @@ unfoldable pub use Rattle.algebra.specs.Congruence.{remainder}
 unfoldable pub half : ℕ → ℕ
 half p = (p - 1) / 2
 
--- the ends of the signed range, -M..M. FORMAT 1.4
+-- the lowest of the signed range, -M. FORMAT 1.4
 unfoldable pub lowest : ℕ → ℤ
 lowest p = negℤ (pos (half p))
 
+-- and the highest, M. FORMAT 1.4
 unfoldable pub highest : ℕ → ℤ
 highest p = pos (half p)
 

@@ -52,6 +52,7 @@ unfoldable pub rowsFrom : Known → List Line → List Row
 rowsFrom s [] = []
 rowsFrom s (l ∷ ls) = gadget s l .rows ++ rowsFrom (after s l) ls
 
+-- the rows of a list. FORMAT 7.6
 unfoldable pub rowsOf : List Line → List Row
 rowsOf ls = rowsFrom fresh ls
 
@@ -116,5 +117,6 @@ startFrom s [] n = 0
 startFrom s (l ∷ ls) zero = s .cells
 startFrom s (l ∷ ls) (suc n) = startFrom (after s l) ls n
 
+-- the cell that the part starts at. FORMAT 9.10
 unfoldable pub shownFrom : (list table : List ℕ) (line : ℕ) → ℕ
 shownFrom text t n = onReading (reading text) (λ _ _. 0) (λ ls s. cond (eqb (length t) (s .cells)) (startFrom fresh ls n) 0)

@@ -63,6 +63,7 @@ largest = 2147483647
 unfoldable pub isDigit : ℕ → Bool
 isDigit x = leb 48 x && leb x 57
 
+-- are all bytes digits? FORMAT 2.5
 unfoldable pub allDigits : List ℕ → Bool
 allDigits [] = true
 allDigits (x ∷ xs) = isDigit x && allDigits xs
@@ -99,6 +100,7 @@ decimalBefore (suc bound) n written =
 unfoldable pub decimalOf : ℕ → List ℕ
 decimalOf n = decimalBefore (suc n) n []
 
+-- and of a whole number. FORMAT 2.5, 2.9
 unfoldable pub numberText : ℤ → List ℕ
 numberText (pos n) = decimalOf n
 numberText (negsuc n) = 45 ∷ decimalOf (suc n)

@@ -22,6 +22,7 @@ use Rattle.meaning.specs.Gadget.Root.{rootLine}
 pub data Word : Type 0 where
   field input span sum relu which max root : Word
 
+-- all of them. FORMAT 3.1
 unfoldable pub words : List Word
 words = field ∷ input ∷ span ∷ sum ∷ relu ∷ which ∷ max ∷ root ∷ []
 
