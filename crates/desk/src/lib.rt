@@ -37,7 +37,7 @@ impl Desk {
         }
     }
 
-    // The public call, for every desk, also one whose counts were damaged: 19 and 20 come first and leave it as it is. FORMAT 10.19, 10.20, 10.28
+    // The public call, for every desk, also one whose counts were damaged: 19 and 20 come first and leave it as it is. FORMAT 10.19, 10.20, 13.8
     pub fn call(self, list: &[u8], table: &[u32]) -> Called
         ensures { λ r. ⌜ Answers self (callOf (now (list .entry)) (now (table .entry))) r
             × (Agrees self → self .heard < fullCount → CountsOne self r) ⌝ }

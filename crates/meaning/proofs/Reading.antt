@@ -1,4 +1,4 @@
--- Reading is exact (FORMAT 10.23), by any rules that are in the order of the tests: a text is read exactly when no refusal fits it, a refusal
+-- Reading is exact (FORMAT 13.3), by any rules that are in the order of the tests: a text is read exactly when no refusal fits it, a refusal
 -- that is replied is the first that fits, and the lines of a read text are those that its bytes spell and keep every rule.
 use Prim.Native.Nat.{ℕ, zero, suc, _+_, _<_, _≤_}
 use native.Mathlib.Nat.{zero-add}

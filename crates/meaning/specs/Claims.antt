@@ -34,7 +34,7 @@ unfoldable pub afterBytes : {S : Type 0} → (S → Line → S) → S → Option
 afterBytes next s none = s
 afterBytes next s (some l) = next s l
 
--- what is known before line n, if the lines before it are read. FORMAT 10.22
+-- what is known before line n, if the lines before it are read. FORMAT 13.2
 unfoldable pub knownBefore : {S : Type 0} → (S → Line → S) → S → List (List ℕ) → (n : ℕ) → S
 knownBefore next s bs ℕ.zero = s
 knownBefore next s [] (ℕ.suc n) = s
@@ -47,24 +47,24 @@ noRule = rule 0 (λ n s l. true)
 abbrev pub ruleAt : {S : Type 0} → List (RuleOf S) → ℕ → RuleOf S
 ruleAt rs k = getD rs k noRule
 
--- a refusal from 3 on fits line n, in state s, that has these bytes. FORMAT 10.22
+-- a refusal from 3 on fits line n, in state s, that has these bytes. FORMAT 13.2
 pub data FitsLine {S : Type 0} (rs : List (RuleOf S)) (n : ℕ) (s : S) (bytes : List ℕ) (number : ℕ) : Type 0 where
   no-line : number ≡ 3 → lineOf bytes ≡ none → FitsLine rs n s bytes number
   breaks : (k : ℕ) (l : Line) → k < length rs → number ≡ ruleAt rs k .refusal → lineOf bytes ≡ some l
       → ¬ T (ruleAt rs k .keeps n s l) → FitsLine rs n s bytes number
 
--- a refusal fits the text at a place, where it is read in this way. FORMAT 10.1, 10.2, 10.22
+-- a refusal fits the text at a place, where it is read in this way. FORMAT 10.1, 10.2, 13.2
 pub data FitsBy {S : Type 0} (w : Way S) (text : List ℕ) (number place : ℕ) : Type 0 where
   too-long : number ≡ 1 → place ≡ 0 → textLimit < length text → FitsBy w text number place
   not-ended : number ≡ 2 → place ≡ 0 → ¬ T (isEnded text) → FitsBy w text number place
   in-line : place < length (linesOf text)
       → FitsLine (w .rules) place (knownBefore (w .next) (w .start) (linesOf text) place) (lineAt text place) number → FitsBy w text number place
 
--- 1 to 12. FORMAT 10.22
+-- 1 to 12. FORMAT 13.2
 abbrev pub Fits : (text : List ℕ) (number place : ℕ) → Type 0
 Fits text number place = FitsBy plain text number place
 
--- by place, then in the order of the tests: 1 and 2 have place 0. FORMAT 10.22
+-- by place, then in the order of the tests: 1 and 2 have place 0. FORMAT 13.2
 abbrev pub Before : (number place number′ place′ : ℕ) → Type 0
 Before n i n′ i′ = (i < i′) ⊎ ((i ≡ i′) × (rank n < rank n′))
 
@@ -78,7 +78,7 @@ knownAfter next s [] = s
 knownAfter next s (l ∷ ls) = knownAfter next (next s l) ls
 
 -- a list is read exactly when no refusal fits it, a refusal that is replied is the first that fits, and what is read are the lines that the text
--- spells. FORMAT 10.23
+-- spells. FORMAT 13.3
 abbrev pub ReadsExactlyBy : {S : Type 0} → Way S → Type 0
 ReadsExactlyBy {S} w =
     (text : List ℕ) →
@@ -87,7 +87,7 @@ ReadsExactlyBy {S} w =
     (FitsBy w text number place × ((n i : ℕ) → Before n i number place → ¬ FitsBy w text n i)))
     × ((ls : List Line) (s : S) → readingBy w text ≡ read ls s → Spells text ls × (s ≡ knownAfter (w .next) (w .start) ls))
 
--- by the rules of Refusal.antt. FORMAT 10.23
+-- by the rules of Refusal.antt. FORMAT 13.3
 abbrev pub ReadsExactly : Type 0
 ReadsExactly = ReadsExactlyBy plain
 

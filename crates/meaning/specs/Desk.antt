@@ -40,7 +40,7 @@ pub record Called : Type 0 where
 abbrev pub called : Desk → Reply → Called
 called d r = record { desk = d; answer = r }
 
--- 19 and 20 come before all and leave the desk as it is; else what the check replies is counted. FORMAT 9.12, 9.13, 10.19, 10.20, 10.28
+-- 19 and 20 come before all and leave the desk as it is; else what the check replies is counted. FORMAT 9.12, 9.13, 10.19, 10.20, 13.8
 unfoldable pub deskAnswer : Desk → (checked : Reply) → Called
 deskAnswer d checked =
     cond (eqb (d .heard) (d .accepted + d .refused))

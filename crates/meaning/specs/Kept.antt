@@ -25,12 +25,12 @@ pub record Keeps (n : ℕ) (s : Known) (l : Line) : Type 0 where
   pub fits : T (gadget s l .fits)
   pub overlaps : T (gadget s l .overlaps)
 
--- all lines keep the rules of this way of reading, from line n in state s to state s′. FORMAT 10.23
+-- all lines keep the rules of this way of reading, from line n in state s to state s′. FORMAT 13.3
 abbrev pub KeptBy : {S : Type 0} → Way S → (n : ℕ) (s : S) (ls : List Line) (s′ : S) → Type 0
 KeptBy w n s [] s′ = s ≡ s′
 KeptBy w n s (l ∷ ls) s′ = (firstBroken (w .rules) n s l ≡ none) × KeptBy w (suc n) (w .next s l) ls s′
 
--- by the rules of Refusal.antt. FORMAT 10.23
+-- by the rules of Refusal.antt. FORMAT 13.3
 abbrev pub Kept : (n : ℕ) (s : Known) (ls : List Line) (s′ : Known) → Type 0
 Kept n s ls s′ = KeptBy plain n s ls s′
 

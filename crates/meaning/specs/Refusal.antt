@@ -1,5 +1,5 @@
 -- Reading: a list is read where none of refusals 1 to 12 fits it. Limits, what the rules ask, the rules as a table, and their order;
--- clauses 4.1 to 4.8, 10.1 to 10.12 and 10.21 of docs/FORMAT.md.
+-- clauses 4.1 to 4.8, 10.1 to 10.12 and 13.1 of docs/FORMAT.md.
 use Prim.Native.Nat.{ℕ, zero, suc, _+_}
 use mathlib.Core.Bool.{Bool, true, cond, _&&_, not}
 use mathlib.Core.List.{List, [], _∷_, _++_}
@@ -77,7 +77,7 @@ isMade n v = nonNeg v && ltb (natAbs v) n
 
 -- ---- the rules
 
--- a rule that each line has to keep, by what is known before it, and the refusal of one that does not. FORMAT 10.22
+-- a rule that each line has to keep, by what is known before it, and the refusal of one that does not. FORMAT 13.2
 pub record RuleOf (S : Type 0) : Type 0 where
   pub refusal : ℕ
   pub keeps : (line : ℕ) → S → Line → Bool
@@ -89,7 +89,7 @@ abbrev pub rule : {S : Type 0} → ℕ → (ℕ → S → Line → Bool) → Rul
 rule r f = record { refusal = r; keeps = f }
 
 -- the table of rules in the order of their tests, after refusal 3 (a line that spells nothing), for a list that may have so many cells; `before9`
--- are rules that are tested just before 9. FORMAT 10.21, 10.25
+-- are rules that are tested just before 9. FORMAT 13.1, 13.5
 unfoldable pub rulesWith : (before9 : List Rule) (cells : ℕ) → List Rule
 rulesWith before9 cells =
     -- FORMAT 10.4
@@ -117,18 +117,18 @@ rulesWith before9 cells =
 unfoldable pub rulesWithin : (cells : ℕ) → List Rule
 rulesWithin cells = rulesWith [] cells
 
--- the rules of a list. FORMAT 4.7, 10.21
+-- the rules of a list. FORMAT 4.7, 13.1
 unfoldable pub rules : List Rule
 rules = rulesWithin cellLimit
 
--- the refusal of the first rule that a line breaks. FORMAT 10.21
+-- the refusal of the first rule that a line breaks. FORMAT 13.1
 unfoldable pub firstBroken : {S : Type 0} → List (RuleOf S) → ℕ → S → Line → Option ℕ
 firstBroken [] n s l = none
 firstBroken (r ∷ rs) n s l = cond (r .keeps n s l) (firstBroken rs n s l) (some (r .refusal))
 
 -- ---- the order of the tests
 
--- the refusals of a list in the order in which they are tested. FORMAT 10.21
+-- the refusals of a list in the order in which they are tested. FORMAT 13.1
 unfoldable pub testOrder : List ℕ
 testOrder = 1 ∷ 2 ∷ 3 ∷ 4 ∷ 5 ∷ 6 ∷ 7 ∷ 8 ∷ 9 ∷ 10 ∷ 11 ∷ 12 ∷ []
 
@@ -137,7 +137,7 @@ unfoldable pub placeAmong : List ℕ → ℕ → ℕ
 placeAmong [] n = 0
 placeAmong (m ∷ ms) n = cond (eqb n m) 0 (suc (placeAmong ms n))
 
--- when a refusal is tested, among the others. FORMAT 10.22
+-- when a refusal is tested, among the others. FORMAT 13.2
 unfoldable pub rank : (number : ℕ) → ℕ
 rank n = placeAmong testOrder n
 
@@ -156,7 +156,7 @@ wayBy rs = record { start = fresh; next = after; rules = rs }
 abbrev pub plain : Way Known
 plain = wayBy rules
 
--- a list that is read, its lines and what is known at its end; or its refusal and place. FORMAT 10.23
+-- a list that is read, its lines and what is known at its end; or its refusal and place. FORMAT 13.3
 pub data ReadingOf (S : Type 0) : Type 0 where
   refused : (number place : ℕ) → ReadingOf S
   read : List Line → S → ReadingOf S
@@ -175,21 +175,21 @@ consLine l (refused r n) = refused r n
 consLine l (read ls s) = read (l ∷ ls) s
 
 -- line n in state s, before the rest; the rest waits, so that a refused line is the last one looked at. Bytes that spell no line are refused
--- before any rule is asked. FORMAT 10.3, 10.21, 10.24
+-- before any rule is asked. FORMAT 10.3, 13.1, 13.4
 unfoldable pub readLine : {S : Type 0} → Way S → ℕ → S → Option Line → (S → ReadingOf S) → ReadingOf S
 readLine w n s none rest = refused 3 n
 readLine w n s (some l) rest = onSome (firstBroken (w .rules) n s l) (λ r. refused r n) (consLine l (rest (w .next s l)))
 
--- the lines in order, counted from 0. FORMAT 2.8, 10.21
+-- the lines in order, counted from 0. FORMAT 2.8, 13.1
 unfoldable pub readFrom : {S : Type 0} → Way S → ℕ → S → List (List ℕ) → ReadingOf S
 readFrom w n s [] = read [] s
 readFrom w n s (b ∷ bs) = readLine w n s (lineOf b) (λ s′. readFrom w (suc n) s′ bs)
 
--- the length and the last byte are tested before any line. FORMAT 10.1, 10.2, 10.21
+-- the length and the last byte are tested before any line. FORMAT 10.1, 10.2, 13.1
 unfoldable pub readingBy : {S : Type 0} → Way S → List ℕ → ReadingOf S
 readingBy w text =
     cond (leb (length text) textLimit) (cond (isEnded text) (readFrom w 0 (w .start) (linesOf text)) (refused 2 0)) (refused 1 0)
 
--- by the rules above. FORMAT 10.21
+-- by the rules above. FORMAT 13.1
 abbrev pub reading : List ℕ → Reading
 reading text = readingBy plain text

@@ -60,14 +60,14 @@ rowsOf ls = rowsFrom fresh ls
 unfoldable pub isCell : (p cell : ℕ) → Bool
 isCell p cell = ltb cell p
 
--- the length, then all cells, then rows in order. FORMAT 10.13, 10.14, 10.15, 10.26
+-- the length, then all cells, then rows in order. FORMAT 10.13, 10.14, 10.15, 13.6
 unfoldable pub checked : Known → List Line → List ℕ → Reply
 checked s ls t =
     cond (eqb (length t) (s .cells))
     (onSome (firstFail (isCell (s .p)) 0 t) (reply 14) (onSome (firstFail (holds (s .p) t) 0 (rowsOf ls)) (reply 15) (reply 0 0)))
     (reply 13 0)
 
--- what checking replies: the refusal of the list comes first. FORMAT 9.6, 10.26
+-- what checking replies: the refusal of the list comes first. FORMAT 9.6, 13.6
 unfoldable pub checkReply : (list table : List ℕ) → Reply
 checkReply text t = onReading (reading text) reply (λ ls s. checked s ls t)
 
@@ -86,7 +86,7 @@ unfoldable pub filled : Worked → List ℕ → Making
 filled (false-at n) t = making (reply 18 n) t
 filled (true-table vs cs) t = making (reply 0 0) cs
 
--- the length, then the count of inputs, then all inputs, then the lines; a refusal leaves the table as it was. FORMAT 10.13, 10.16, 10.17, 10.27
+-- the length, then the count of inputs, then all inputs, then the lines; a refusal leaves the table as it was. FORMAT 10.13, 10.16, 10.17, 13.7
 unfoldable pub made : Known → List Line → List ℤ → List ℕ → Making
 made s ls xs t =
     cond (eqb (length t) (s .cells))
@@ -95,7 +95,7 @@ made s ls xs t =
     (making (reply 16 0) t))
     (making (reply 13 0) t)
 
--- what making replies and leaves: the refusal of the list comes first. FORMAT 9.7, 9.8, 10.27
+-- what making replies and leaves: the refusal of the list comes first. FORMAT 9.7, 9.8, 13.7
 unfoldable pub makeReply : (list : List ℕ) → List ℤ → (table : List ℕ) → Making
 makeReply text xs t = onReading (reading text) (λ n at. making (reply n at) t) (λ ls s. made s ls xs t)
 

@@ -58,7 +58,7 @@ unfoldable pub answerMeaning : Answer → Meant
 answerMeaning (Read p values cells rows) = counts p values cells rows
 answerMeaning (Refused number place) = refusal (reply number place)
 
--- it is a read list's reply exactly when no refusal fits the text, and a refusal's exactly when that is the first that fits. FORMAT 10.23
+-- it is a read list's reply exactly when no refusal fits the text, and a refusal's exactly when that is the first that fits. FORMAT 13.3
 abbrev pub Exact : List ℕ → Meant → Type 0
 Exact text a =
     (((p : ℕ) × (values : ℕ) × (cells : ℕ) × (rows : ℕ) × (a ≡ counts p values cells rows)) ↔ ((number place : ℕ) → ¬ Fits text number place))

@@ -48,7 +48,7 @@ pub fn read(list: &[u8]) -> Answer
     }
 }
 
-// The same with the count of inputs, which making asks for. FORMAT 10.1, 10.2, 10.3, 10.21
+// The same with the count of inputs, which making asks for. FORMAT 10.1, 10.2, 10.3, 13.1
 pub fn survey(list: &[u8]) -> Surveyed
     ensures yields { λ r. ⌜ surveyMeaning r ≡ surveyOf (reading (now (list .entry))) ⌝ }
     ensures prime { λ r. ⌜ PrimeFound r ⌝ }

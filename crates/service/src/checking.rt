@@ -38,7 +38,7 @@ pub fn check(list: &[u8], table: &[u32]) -> Reply
     }
 }
 
-// A table for a list that is read, which has these counts. FORMAT 10.13, 10.26
+// A table for a list that is read, which has these counts. FORMAT 10.13, 13.6
 fn check_table(list: &[u8], table: &[u32], p: u32, counts: Counts) -> Reply
     requires { ⌜ CountsGiven (now list) p counts ⌝ }
     ensures { λ r. ⌜ ((l : ListRead (now (list .entry))) → replyMeaning r ≡ checked (l .last) (l .lines) (now (table .entry))) ⌝ }

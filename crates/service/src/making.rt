@@ -40,7 +40,7 @@ pub fn make(list: &[u8], inputs: &[i64], table: &mut [u32]) -> Reply
     }
 }
 
-// A table for a list that is read, which has these counts. FORMAT 10.13, 10.16, 10.27
+// A table for a list that is read, which has these counts. FORMAT 10.13, 10.16, 13.7
 fn make_table(list: &[u8], p: u32, counts: Counts, inputs: &[i64], table: &mut [u32]) -> Reply
     requires { ⌜ CountsGiven (now list) p counts ⌝ }
     ensures { λ r. ⌜ ((l : ListRead (now (list .entry)))
