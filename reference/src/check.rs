@@ -1,4 +1,4 @@
-//! Checking an offered table: its length, its cells, then every row in order (FORMAT 9.6, 10.26).
+//! Checking an offered table: its length, its cells, then every row in order (FORMAT 9.6, 13.6).
 //! The rows are those of the format's chapter 7.
 
 use crate::line::{Digits, Line, Term};

@@ -15,7 +15,7 @@ impl Desk {
     }
 
     /// Checks, counts, and returns the check's reply (FORMAT 9.12); 19 and 20 come first and count
-    /// nothing (FORMAT 10.19, 10.20, 10.28).
+    /// nothing (FORMAT 10.19, 10.20, 13.8).
     pub fn call(&mut self, list: &[u8], table: &[u32]) -> (u64, u64) {
         // A sum past 2^64-1 is no count that heard could hold (FORMAT 9.13).
         if self.accepted.checked_add(self.refused) != Some(self.heard) {

@@ -43,7 +43,7 @@ impl Refusal {
     }
 }
 
-/// Reads a list: its counts, or the first refusal of 1 to 12 (FORMAT 9.4, 10.23).
+/// Reads a list: its counts, or the first refusal of 1 to 12 (FORMAT 9.4, 13.3).
 pub fn read(list: &[u8]) -> Result<Counts, Refusal> {
     let plan = Plan::read(list)?;
     Ok(Counts {

@@ -1,5 +1,5 @@
 //! Reading a list: line by line, each judged by the refusals in the order of their numbers, by
-//! chapters 4 and 10 of the format (FORMAT 10.21).
+//! chapters 4, 10 and 13 of the format (FORMAT 13.1).
 
 use crate::ends::{after, After, Ends};
 use crate::line::{read_line, Line};
@@ -48,7 +48,7 @@ impl Plan {
         }
     }
 
-    /// Reads a whole text (FORMAT 2.1): refusals 1 and 2, then the lines (FORMAT 10.1, 10.2, 10.21).
+    /// Reads a whole text (FORMAT 2.1): refusals 1 and 2, then the lines (FORMAT 10.1, 10.2, 13.1).
     pub fn read(list: &[u8]) -> Result<Plan, Refusal> {
         if list.len() > MOST_BYTES {
             return Err(Refusal::new(1, 0));
@@ -65,7 +65,7 @@ impl Plan {
 
     /// Reads the next line; refused by a number of 3 to 12, it leaves the plan as it was.
     ///
-    /// The tests stand in the order of FORMAT 10.21: 3 by FORMAT 10.3, 4 and 5 in `prime_with`, 6
+    /// The tests stand in the order of FORMAT 13.1: 3 by FORMAT 10.3, 4 and 5 in `prime_with`, 6
     /// to 9 by FORMAT 10.6, 10.7, 10.8, 10.9, and 10 to 12 in `after`.
     pub fn take(&mut self, text: &[u8]) -> Result<(), u64> {
         let line = read_line(text).ok_or(3u64)?;

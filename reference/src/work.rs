@@ -7,7 +7,7 @@ use crate::prime::inverse;
 use crate::Refusal;
 
 /// Fills the table with the true table of the inputs (FORMAT 9.7, 9.8). A refusal leaves it as it
-/// was; the order of refusals is that of FORMAT 10.27.
+/// was; the order of refusals is that of FORMAT 13.7.
 pub fn make(plan: &Plan, inputs: &[i64], table: &mut [u32]) -> Result<(), Refusal> {
     let m = (plan.p - 1) / 2;
     if table.len() != plan.cells {

@@ -101,7 +101,8 @@ impl Ended {
     }
 }
 
-/// Writes the input and closes the pipe. A program that stops reading early is not wrong by that.
+/// Writes the input and closes the pipe. A program may stop reading after 65,537 bytes, and not before (FORMAT 11.1), so a broken pipe is
+/// no fault by itself. How much it reads is not compared: one that stops sooner is found only by its answer.
 fn feed(mut pipe: ChildStdin, input: &[u8], feeding: Feeding) -> Result<()> {
     let (first, rest) = match feeding {
         Feeding::AtOnce => (input, &[][..]),

@@ -157,7 +157,7 @@ fn whole_texts() -> Vec<Directed> {
     ]
 }
 
-/// Refusals 19 and 20 (FORMAT 10.19, 10.20), and what comes after them (FORMAT 10.28).
+/// Refusals 19 and 20 (FORMAT 10.19, 10.20), and what comes after them (FORMAT 13.8).
 fn desks() -> Vec<Directed> {
     let last = u64::MAX;
     let desks = [

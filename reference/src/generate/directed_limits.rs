@@ -78,7 +78,7 @@ pub fn cells() -> Vec<Directed> {
         let list = text(&format!("{full};{line}"));
         all.push(Directed::list(&format!("order with 9: {line}"), list, (number, place)));
     }
-    // With 4,096 cells and 256 values, 8 comes before 9 (FORMAT 10.25).
+    // With 4,096 cells and 256 values, 8 comes before 9 (FORMAT 13.5).
     let both = format!("{};{}", filled(4_096 - 254).0, vec!["sum 0"; 254].join(";"));
     let after = text(&format!("{both};in"));
     let place = after.iter().filter(|&&byte| byte == b'\n').count() as u64 - 1;

@@ -181,7 +181,7 @@ const ODD_PRIMES: [i64; 16] = [
     2_147_483_647,
 ];
 
-/// Refusals 4 and 5 (FORMAT 10.4, 10.5, 10.24).
+/// Refusals 4 and 5 (FORMAT 10.4, 10.5, 13.4).
 pub fn field_lines() -> Vec<Directed> {
     let mut all = Vec::new();
     for line in LINES {
