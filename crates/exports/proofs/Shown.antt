@@ -140,8 +140,8 @@ module _ (list t : List ℕ) (line : ℕ) where
   so-many-shown : length (shown list t line) ≡ w .count
   so-many-shown = ap (λ (r : List ℕ). length r) (w .is t refl) ∙ length-stretch (w .first) (w .count) t (w .inside)
 
-  pub too-long-yield : cellLimit < length t → ShownPart list t line 0 0
-  too-long-yield long = record {
+  pub too-long-shown : cellLimit < length t → ShownPart list t line 0 0
+  too-long-shown long = record {
     part = sym (shown-too-long list t line long);
     counted = sym (ap (λ (r : List ℕ). length r) (shown-too-long list t line long));
     starts = sym (w .empty (sym so-many-shown ∙ ap (λ (r : List ℕ). length r) (shown-too-long list t line long))) ∙ w .starts;
@@ -170,8 +170,8 @@ module _ (list t : List ℕ) (line : ℕ) where
         ap (λ (r : List ℕ). getD r 0 0) is-part ∙ getD-take (w .count) (drop (w .first) numbered) 0 0 h ∙ getD-drop (w .first) numbered 0 0
         ∙ here ∙ omega arith
 
-    numbered-yield : ShownPart list t line (getD part 0 0) (length part)
-    numbered-yield =
+    numbered-shown : ShownPart list t line (getD part 0 0) (length part)
+    numbered-shown =
         let first : getD part 0 0 ≡ w .first = starts-with (w .count) refl in
         record {
           part = rw (so-many, first) (sym (w .is t refl));
@@ -181,9 +181,9 @@ module _ (list t : List ℕ) (line : ℕ) where
         }
 
   -- the part is that of a longer numbered table's first cells, and its first cell was read
-  pub first-yield : (numbered part : List ℕ) (n first : ℕ) → numbered ≡ upFrom 0 n → length t ≤ n
+  pub first-shown : (numbered part : List ℕ) (n first : ℕ) → numbered ≡ upFrom 0 n → length t ≤ n
       → part ≡ shown list (take (length t - 0) numbered) line → first ≡ getD part 0 0 → ShownPart list t line first (length part)
-  first-yield numbered part n first is most shows reads = rw reads (numbered-yield part (shows ∙ ap (λ (r : List ℕ). shown list r line) taken))
+  first-shown numbered part n first is most shows reads = rw reads (numbered-shown part (shows ∙ ap (λ (r : List ℕ). shown list r line) taken))
     where
       taken : take (length t - 0) numbered ≡ upFrom 0 (length t)
       taken = rw (sub-zero (length t), is) (take-up 0 n (length t) most)

@@ -218,10 +218,10 @@ module _ (s′ : Known) (t : List ℕ) (long : length t ≡ s′ .cells) (below 
         )
 
     -- the first line by its law, and the later lines by the induction
-    first-yield : ((vs′ : List ℤ) → Within (after s l .known) vs′ → InCells (s′ .p) t (after s l .places) vs′ → ExactFrom (suc n) (after s l) vs′ ls)
+    first-exact : ((vs′ : List ℤ) → Within (after s l .known) vs′ → InCells (s′ .p) t (after s l .places) vs′ → ExactFrom (suc n) (after s l) vs′ ls)
         → ExactFrom n s vs (l ∷ ls)
     unfolding rowsFrom
-    first-yield later = (
+    first-exact later = (
       λ r. let a = split .0 r in let q = rows .0 (a .0) in
           let e = yields (q .0) (q .1) .0 (a .1) in (e .0, work-joined (e .0) (q .0) (q .1) (e .1), e .2, e .3),
       λ ws e. let q = work-parted ws e in split .1 (rows .1 (q .0, q .1), yields (q .0) (q .1) .1 ws (q .2)),
@@ -253,4 +253,4 @@ module _ (s′ : Known) (t : List ℕ) (long : length t ≡ s′ .cells) (below 
       nothing-left : drop (s .cells) t ≡ []
       nothing-left = rw (ap (λ (q : Known). q .cells) k, ← long) (drop-length t)
   rows-iff (l ∷ ls) n s vs k h w c =
-      first-yield l ls n s vs k h w c (λ vs′. rows-iff ls (suc n) (after s l) vs′ (k .1) (sound-after n s l h (keeps-all n s l (k .0))))
+      first-exact l ls n s vs k h w c (λ vs′. rows-iff ls (suc n) (after s l) vs′ (k .1) (sound-after n s l h (keeps-all n s l (k .0))))

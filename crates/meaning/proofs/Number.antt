@@ -100,11 +100,11 @@ module _ {p : ℕ} (P : OddPrime p) where
 
 -- H is about a cell below p. Where H holds, the cell is congruent to a whole number of the kind A; and at each such number, H says S,
 -- that the number is y, and C of it. Then H says S, that the cell is the remainder of y, and C of y.
-pub yield-by-number : {p : ℕ} (cell : ℕ) (H S : Type 0) (y : ℤ) (A C : ℤ → Type 0) → cell < p
+pub exact-by-number : {p : ℕ} (cell : ℕ) (H S : Type 0) (y : ℤ) (A C : ℤ → Type 0) → cell < p
     → (H → (x : ℤ) × A x × Congruent p (pos cell) x) → (S → A y)
     → ((x : ℤ) → A x → Congruent p (pos cell) x → H ↔ (S × (x ≡ y) × C x))
     → H ↔ (S × (cell ≡ remainder p y) × C y)
-yield-by-number {p} cell H S y A C below find kind tell =
+exact-by-number {p} cell H S y A C below find kind tell =
     let is = residue-iff p cell y below in (
       λ h. let f = find h in
           let r = tell (f .0) (f .1) (f .2) .0 h in

@@ -1,4 +1,5 @@
-// Whole numbers in a machine word: order, choice and range, and the operations where the result fits.
+// Whole numbers in a machine word: read out of a lent slice and written to it, made of counts and back, their order, the range -M..M, and the
+// operations where the result fits.
 ghost use mathlib.Core.Path.{_≡_};
 ghost use mathlib.Core.Bool.{_&&_};
 ghost use Prim.Native.Nat.{_<_};

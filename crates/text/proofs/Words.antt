@@ -53,22 +53,22 @@ spelling-comparable w = above-both _ _ (every-word (λ v. isComparable (kindOf v
 
 -- ---- the word that two bytes tell
 
-unfoldable pub yieldBy : (first second : ℕ) → Word
-yieldBy first second =
+unfoldable pub wordByBytes : (first second : ℕ) → Word
+wordByBytes first second =
     cond (eqb first 115) (cond (eqb second 117) sum span)
     (cond (eqb first 114) (cond (eqb second 101) relu root)
     (cond (eqb first 102) field (cond (eqb first 105) input (cond (eqb first 119) which max))))
 
-yield-spelling : (w : Word) → yieldBy (getD (kindOf w .spelling) 0 0) (getD (kindOf w .spelling) 1 0) ≡ w
-unfolding yieldBy kindOf bytes
-yield-spelling field = refl
-yield-spelling input = refl
-yield-spelling span = refl
-yield-spelling sum = refl
-yield-spelling relu = refl
-yield-spelling which = refl
-yield-spelling max = refl
-yield-spelling root = refl
+word-by-spelling : (w : Word) → wordByBytes (getD (kindOf w .spelling) 0 0) (getD (kindOf w .spelling) 1 0) ≡ w
+unfolding wordByBytes kindOf bytes
+word-by-spelling field = refl
+word-by-spelling input = refl
+word-by-spelling span = refl
+word-by-spelling sum = refl
+word-by-spelling relu = refl
+word-by-spelling which = refl
+word-by-spelling max = refl
+word-by-spelling root = refl
 
 -- a byte of the field at a place is a byte of the text
 field-at : {text : List ℕ} {at end : ℕ} → InLine text at end → (k : ℕ) → k < length (fieldAt (take end text) at)
@@ -81,15 +81,15 @@ field-at {text} {at} {end} l k h =
     getD-take n (drop at line) k 0 (omega (arith, long)) ∙ getD-drop at line k 0
     ∙ getD-take end text (at + k) 0 (omega (arith, long, length-drop at line, cut-length l))
 
-pub yield-only : {text : List ℕ} {at end : ℕ} → InLine text at end → (w : Word) → fieldAt (take end text) at ≡ kindOf w .spelling → w ≡ yieldBy (getD text at 0) (getD text (at + 1) 0)
-yield-only {text} {at} {end} l w q =
+pub word-by-bytes : {text : List ℕ} {at end : ℕ} → InLine text at end → (w : Word) → fieldAt (take end text) at ≡ kindOf w .spelling → w ≡ wordByBytes (getD text at 0) (getD text (at + 1) 0)
+word-by-bytes {text} {at} {end} l w q =
     let long : 1 < length (kindOf w .spelling) = ltb-true 1 (length (kindOf w .spelling)) (spelling-comparable w .0) in
     let e : at + 0 ≡ at = omega arith in
     let same = ap length q in
     let first : getD (kindOf w .spelling) 0 0 ≡ getD text at 0 =
     ap (λ (xs : List ℕ). getD xs 0 0) (sym q) ∙ (rw e at (field-at l 0 (omega (arith, same)))) in
     let second : getD (kindOf w .spelling) 1 0 ≡ getD text (at + 1) 0 = ap (λ (xs : List ℕ). getD xs 1 0) (sym q) ∙ field-at l 1 (omega (arith, same)) in
-    sym (yield-spelling w) ∙ rw (first, second)
+    sym (word-by-spelling w) ∙ rw (first, second)
 
 -- ---- a field beside a spelling
 

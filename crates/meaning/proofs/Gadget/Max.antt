@@ -25,7 +25,7 @@ use Rattle.meaning.specs.Known.{Known, Ends, ends, endsOf, placeOf, larg
 use Rattle.meaning.specs.Row.{Form, cell, constant, _⊖_, _⊗_, eval, Row, _≅_, holds, group}
 use Rattle.meaning.specs.Gadget.Digits.{valueAt, groupCells}
 use Rattle.meaning.specs.Gadget.Max.{maxLine}
-use Rattle.meaning.proofs.Number.{positive, yield-by-number}
+use Rattle.meaning.proofs.Number.{positive, exact-by-number}
 use Rattle.meaning.proofs.Order.{
   larger-left,
   larger-right,
@@ -229,7 +229,7 @@ module _ (s : Known) (P : OddPrime (s .p)) (r : Ranged (s .p) (s .known)) (u v b
         high = λ vs w h. larger-keeps (high-end s vs u u-named w) (high-end s vs v v-named w);
         others-count = λ vs. others-count vs (value vs);
         others-below = λ vs w h. others-below rule-u vs (value vs);
-        hold = λ t vs room c. yield-by-number (getD t (s .cells) 0) (Hold (s .p) t (product ∷ groups)) (T (statement vs)) (value vs)
+        hold = λ t vs room c. exact-by-number (getD t (s .cells) 0) (Hold (s .p) t (product ∷ groups)) (T (statement vs)) (value vs)
             (λ y. Either y (valueAt vs u) (valueAt vs v)) (λ y. cellsAt t (suc (s .cells)) (2 * k) ≡ others vs y)
             (below-at (s .p) t (s .cells) (c .below) (omega arith)) (find t vs room (c .within) (c .in-cells))
             (λ _. larger-either (valueAt vs u) (valueAt vs v)) (rows-tell t vs room (c .within) (c .in-cells) rule-u rule-v);

@@ -26,7 +26,7 @@ use Rattle.meaning.specs.Row.{Form, cell, constant, _⊕_, _⊖_, _⊗_,
 use Rattle.meaning.specs.Gadget.Digits.{valueAt, groupCells}
 use Rattle.meaning.specs.Gadget.Root.{rootValue, rootLine}
 use Rattle.meaning.proofs.Number.{positive, range-test, range-low, range-high, signed-congruent, signed-range}
-use Rattle.meaning.proofs.Number.{yield-by-number}
+use Rattle.meaning.proofs.Number.{exact-by-number}
 use Rattle.meaning.proofs.Order.{between-iff}
 use Rattle.meaning.proofs.Cells.{cellsAt, cons-iff}
 use Rattle.meaning.proofs.Hold.{Hold, row-holds}
@@ -280,7 +280,7 @@ module _ (s : Known) (P : OddPrime (s .p)) (r : Ranged (s .p) (s .known)) (v b k
         others-below = λ vs w h. (remainder-below (s .p) (root vs *ℤ root vs) (positive P), digits-below A vs (root vs));
         hold = λ t vs room b′. let y : ℕ = getD t (s .cells) 0 in
             let y-below = below-at (s .p) t (s .cells) (b′ .below) (omega arith) in
-            yield-by-number y (Hold (s .p) t (square ∷ groups)) (T (statement vs)) (root vs)
+            exact-by-number y (Hold (s .p) t (square ∷ groups)) (T (statement vs)) (root vs)
             (λ y. T (inRange (s .p) y)) (λ y. cellsAt t (suc (s .cells)) (suc (4 * k)) ≡ others vs y) y-below
             (λ h. (signed (s .p) y, signed-range P y y-below, congruent-sym (signed-congruent P y)))
             (λ h. span-range P b k base A (root vs) (value-spans A vs h))
