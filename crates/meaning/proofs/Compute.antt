@@ -25,7 +25,7 @@ use Rattle.meaning.specs.Work.{withCells, workFrom, work}
 use Rattle.meaning.specs.Reply.{readReply, firstFail, rowsFrom, rowsOf, isCell, checked, checkReply, filled, made, makeReply, stretch, shown}
 use Rattle.meaning.specs.Program.{tabbed, refusalText, cellsText, tableText, makingText, consPart, partsOf, joined, isSome, orNone, answerParts, onParts, respond}
 use Rattle.meaning.specs.Claims.{valuesOf, signedAt}
-use Rattle.meaning.specs.Write.{numbersText, listText}
+use Rattle.meaning.specs.Write.{givenOf, wordText, fieldsText, givenText, textOf, listText}
 use Rattle.meaning.specs.Examples.{columnText, inputText, sameReply, sameAnswer, sameValues, making-of, values-of, isRight, allRight, examples}
 
 -- remainders, digits, roots and the signed range
@@ -55,7 +55,7 @@ computing-replies = tt
 
 -- the rows of the worked tables
 unfoldable pub computing-examples : Unit {0}
-unfolding valuesOf signedAt numbersText listText columnText inputText sameReply sameAnswer sameValues making-of values-of isRight allRight examples
+unfolding valuesOf signedAt givenOf wordText fieldsText givenText textOf listText columnText inputText sameReply sameAnswer sameValues making-of values-of isRight allRight examples
 computing-examples = tt
 
 unfoldable pub computing : Unit {0}

@@ -1,6 +1,6 @@
 -- What is claimed of the definitions, as types, over whole lists, tables and sequences of calls: reading is exact, checking is exact, digits are
--- exact, what is accepted is the true table of its own inputs and nothing else, the maker writes it, the desk counts. Their proofs are terms of
--- these types, in proofs/.
+-- exact, what is accepted is the true table of its own inputs and nothing else, the maker writes it, the desk counts, a list is written as it is
+-- read. Their proofs are terms of these types, in proofs/.
 use Prim.Native.Nat.{ℕ, _+_, _-_, _≤_, _<_, _^_}
 use mathlib.Core.Path.{_≡_}
 use mathlib.Core.Bool.{Bool, true, not}
@@ -14,13 +14,14 @@ use lib.Signed.{_≤ℤ_}
 use Rattle.meaning.specs.Number.{signed, inRange, remainder}
 use Rattle.meaning.specs.Text.{linesOf, isEnded}
 use Rattle.meaning.specs.Line.{Line, lineOf}
+use Rattle.meaning.specs.Write.{Given, givenOf}
 use Rattle.meaning.specs.Known.{Ends, Known, fresh, digitRule}
 use Rattle.meaning.specs.Row.{Form, eval, among, holds, group}
 use Rattle.meaning.specs.Gadget.Digits.{groupCells}
 use Rattle.meaning.specs.Meaning.{gadget, after}
 use Rattle.meaning.specs.Refusal.{textLimit, RuleOf, rule, rank, Way, plain, refused, read, readingBy, reading}
 use Rattle.meaning.specs.Work.{false-at, true-table, work}
-use Rattle.meaning.specs.Reply.{reply, rowsOf, checkReply, makeReply}
+use Rattle.meaning.specs.Reply.{reply, rowsOf, checkReply, makeReply, writing, writeReply}
 use Rattle.meaning.specs.Desk.{Desk, called, freshDesk, fullCount, isAccepted, Call, checkOf, deskCall, deskAfter, deskReplies}
 
 -- ---- reading is exact
@@ -202,3 +203,22 @@ abbrev pub StaysFull : Type 0
 StaysFull =
     (d : Desk) → d .heard ≡ d .accepted + d .refused → d .heard ≡ fullCount →
     (list table : List ℕ) → deskCall d list table ≡ called d (reply 20 0)
+
+-- ---- writing
+
+-- text that is read and written comes back byte for byte, in every buffer that has room. FORMAT 9.28
+abbrev pub WritesBack : Type 0
+WritesBack =
+    (text : List ℕ) (ls : List Line) (s : Known) (buffer : List ℕ) → reading text ≡ read ls s → length text ≤ length buffer →
+    writeReply (map givenOf ls) buffer ≡ writing (reply 0 (length text)) (text ++ drop (length text) buffer)
+
+-- what is written is read as the same lines. FORMAT 9.28
+abbrev pub IsReadBack : Type 0
+IsReadBack =
+    (gs : List Given) (buffer : List ℕ) → writeReply gs buffer .answer .number ≡ 0 →
+    let n : ℕ = writeReply gs buffer .answer .place in
+    (ls : List Line) × (s : Known) × (map givenOf ls ≡ gs) × (reading (take n (writeReply gs buffer .buffer)) ≡ read ls s)
+
+-- two texts that are read as the same lines are the same text. FORMAT 9.28
+abbrev pub OneSpelling : Type 0
+OneSpelling = (text text′ : List ℕ) (ls : List Line) (s s′ : Known) → reading text ≡ read ls s → reading text′ ≡ read ls s′ → text ≡ text′

@@ -1,14 +1,15 @@
--- What reading, checking, making and showing reply, and what they leave in the lent table; clauses 9.3 to 9.10, and refusals 13 to 18, of
--- docs/FORMAT.md.
+-- What reading, checking, making, showing and writing reply, and what they leave in the lent table or buffer; clauses 9.3 to 9.10, 9.26 and 9.27,
+-- and refusals 13 to 18 and 21, of docs/FORMAT.md.
 use Prim.Native.Nat.{ℕ, zero, suc}
 use mathlib.Core.Bool.{Bool, cond}
 use mathlib.Core.List.{List, [], _∷_, _++_}
 use mathlib.Core.Option.{Option, none, some}
-use lib.Dec.{ltb, eqb}
+use lib.Dec.{leb, ltb, eqb}
 use lib.ListN.{length, take, drop}
 use lib.IntN.{ℤ}
 use Rattle.meaning.specs.Number.{inRange}
 use Rattle.meaning.specs.Line.{Line}
+use Rattle.meaning.specs.Write.{Given, textOf}
 use Rattle.meaning.specs.Known.{Known, fresh}
 use Rattle.meaning.specs.Row.{Row, holds}
 use Rattle.meaning.specs.Meaning.{gadget, after}
@@ -120,3 +121,22 @@ startFrom s (l ∷ ls) (suc n) = startFrom (after s l) ls n
 -- the cell that the part starts at. FORMAT 9.10
 unfoldable pub shownFrom : (list table : List ℕ) (line : ℕ) → ℕ
 shownFrom text t n = onReading (reading text) (λ _ _. 0) (λ ls s. cond (eqb (length t) (s .cells)) (startFrom fresh ls n) 0)
+
+-- ---- writing: 21
+
+-- a writing's reply, and the buffer after it. FORMAT 9.27
+pub record Writing : Type 0 where
+  pub answer : Reply
+  pub buffer : List ℕ
+
+abbrev pub writing : Reply → List ℕ → Writing
+writing r b = record { answer = r; buffer = b }
+
+-- the text at the start of the buffer, where it has room. FORMAT 9.26, 9.27, 10.21
+unfoldable pub written : (text buffer : List ℕ) → Writing
+written text b =
+    cond (leb (length text) (length b)) (writing (reply 0 (length text)) (text ++ drop (length text) b)) (writing (reply 21 0) b)
+
+-- what writing replies and leaves: the refusal of the text comes first. FORMAT 9.26, 9.27, 13.9
+unfoldable pub writeReply : List Given → (buffer : List ℕ) → Writing
+writeReply gs b = onReading (reading (textOf gs)) (λ n at. writing (reply n at) b) (λ ls s. written (textOf gs) b)

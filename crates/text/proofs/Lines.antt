@@ -18,7 +18,7 @@ use Rattle.meaning.specs.Word.{Word as MeantWord}
 use Rattle.text.specs.Place.{indexOf, fieldAt}
 use Rattle.text.specs.Parsed.{ifSome, leadingNumbers, afterWord, leading, Stored}
 use Rattle.text.proofs.Numbers.{tab-number}
-use Rattle.text.proofs.Words.{same-spelled}
+use Rattle.meaning.proofs.Words.{word-spelled}
 use Rattle.text.proofs.Places.{fields-two, fields-one}
 
 -- the numbers that were read, before those that are left
@@ -39,7 +39,7 @@ before-all (some ns) = refl
 
 -- ---- no word has more numbers than the most
 
-count-over : (w : MeantWord) (ns : List ℤ) → mostNumbers < length ns → kindOf w .isCounted ns ≡ false
+pub count-over : (w : MeantWord) (ns : List ℤ) → mostNumbers < length ns → kindOf w .isCounted ns ≡ false
 unfolding kindOf
 count-over field ns h = ne-eqb (length ns) 1 (λ e. omega arith)
 count-over input ns h = ne-eqb (length ns) 0 (λ e. omega arith)
@@ -194,17 +194,6 @@ spelling-no-number max = refl
 spelling-no-number root = refl
 
 -- ---- a line at a place: what its fields yield
-
--- a word's field has its spelling
-spelled-at : (t : Bool) (v w : MeantWord) (f : List ℕ) (later : Option MeantWord) → sameBytes (kindOf v .spelling) f ≡ t → (later ≡ some w → f ≡ kindOf w .spelling)
-    → cond t (some v) later ≡ some w → f ≡ kindOf w .spelling
-spelled-at true v w f later s rest q = let e : v ≡ w = cc in rw (← e) (sym (same-spelled (kindOf v .spelling) f s))
-spelled-at false v w f later s rest q = rest q
-
-word-spelled : (ws : List MeantWord) (f : List ℕ) (w : MeantWord) → wordAmong ws f ≡ some w → f ≡ kindOf w .spelling
-unfolding wordAmong
-word-spelled [] f w q = absurd (Option·none-ne-some _ q)
-word-spelled (v ∷ ws) f w q = spelled-at (sameBytes (kindOf v .spelling) f) v w f (wordAmong ws f) refl (word-spelled ws f w) q
 
 pub word-no-number : (line : List ℕ) {f : List ℕ} {fs : List (List ℕ)} {w : MeantWord} → fieldsOf line ≡ f ∷ fs → wordAmong words f ≡ some w → number line ≡ none
 unfolding numbersOf consNumber onlyOne

@@ -14,7 +14,7 @@ use Rattle.meaning.specs.Text.{bytes, sameBytes}
 use Rattle.meaning.specs.Word.{Word, field, input, span, sum, relu, which, max, root, words, kindOf}
 use Rattle.meaning.specs.Line.{wordAmong}
 use Rattle.meaning.specs.Refusal.{all}
-use Rattle.meaning.proofs.Words.{every-word}
+use Rattle.meaning.proofs.Words.{every-word, allAbove, same-spelled, among-spelling}
 use Rattle.meaning.proofs.Results.{none-refused}
 use Rattle.text.specs.declared.Word.{Word as Read}
 use Rattle.text.specs.declared.Spelled.{Spelled}
@@ -26,11 +26,6 @@ use Rattle.text.proofs.Places.{Searched, search-past, search-stop, fiel
 use Rattle.text.proofs.Ends.{InLine, cut-length, cut-byte, before-end, place-next, field-ends}
 
 -- ---- what comparing asks of a spelling
-
--- no byte of a spelling ends a field or a line
-allAbove : List ℕ → Bool
-allAbove [] = true
-allAbove (x ∷ xs) = ltb 10 x && allAbove xs
 
 above-both : (t u : Bool) → t && u ≡ true → (t ≡ true) × (u ≡ true)
 above-both true true q = (refl, refl)
@@ -171,15 +166,6 @@ module _ {text : List ℕ} {at end : ℕ} (w : Word) {i : ℕ} (s : Spelling tex
 
 -- ---- the word among all words
 
-pub same-spelled : (xs ys : List ℕ) → sameBytes xs ys ≡ true → xs ≡ ys
-unfolding sameBytes
-same-spelled [] [] q = refl
-same-spelled [] (y ∷ ys) q = let z : _≡_ {A = ℕ} 0 1 = cc in absurd (omega arith)
-same-spelled (x ∷ xs) [] q = let z : _≡_ {A = ℕ} 0 1 = cc in absurd (omega arith)
-same-spelled (x ∷ xs) (y ∷ ys) q =
-    let both = above-both _ _ q in
-    rw (eqb-true x y (both .0), same-spelled xs ys (both .1))
-
 among-none : (ws : List Word) (f : List ℕ) → ((w : Word) → f ≢ kindOf w .spelling) → wordAmong ws f ≡ none
 unfolding wordAmong
 among-none [] f no-word = refl
@@ -188,17 +174,6 @@ among-none (w ∷ ws) f no-word = rw (differs (sameBytes (kindOf w .spelling) f)
     differs : (t : Bool) → sameBytes (kindOf w .spelling) f ≡ t → t ≡ false
     differs true q = absurd (no-word w (sym (same-spelled (kindOf w .spelling) f q)))
     differs false q = refl
-
-among-spelling : (w : Word) → wordAmong words (kindOf w .spelling) ≡ some w
-unfolding wordAmong words kindOf bytes sameBytes
-among-spelling field = refl
-among-spelling input = refl
-among-spelling span = refl
-among-spelling sum = refl
-among-spelling relu = refl
-among-spelling which = refl
-among-spelling max = refl
-among-spelling root = refl
 
 -- the only word that a field may be was compared with it
 pub word-read : (line : List ℕ) (at : ℕ) (w : Read) (r : Spelled) → OnlyWord line at w → Spells line at w r → WordYield line at r

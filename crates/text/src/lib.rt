@@ -27,7 +27,7 @@ const ZERO: u8 = 48;
 const NINE: u8 = 57;
 
 // The largest size of a number, and the most numbers that a line can have: those of a sum with 16 pairs.
-const LARGEST: u64 = 2147483647;
+pub const LARGEST: u64 = 2147483647;
 
 const MOST_NUMBERS: usize = 33;
 
@@ -227,7 +227,7 @@ fn word_at(text: &[u8], at: usize) -> Spelled
 }
 
 // Whether so many numbers may follow a word. A sum has a constant, and then pairs.
-fn is_count(word: Word, count: usize) -> bool
+pub fn is_count(word: Word, count: usize) -> bool
     ensures { λ r. ⌜ CountYield word count r ⌝ }
 {
     match word {
