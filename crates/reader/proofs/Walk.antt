@@ -1,7 +1,6 @@
 -- Walking the lines of a list: what holds before each line, that it holds again after a line that is not refused, and what is found
 -- where the walk ends.
 use mathlib.Core.Path.{_≡_, refl, sym, ap, _∙_, subst}
-use mathlib.Core.Bool.{true}
 use mathlib.Core.List.{List, [], _∷_, _++_}
 use mathlib.Core.Option.{none}
 use Prim.Native.Nat.{ℕ, zero, suc, _+_, _-_, _≤_, _<_}
@@ -14,7 +13,6 @@ use lib.IntN.{ℤ, pos, natAbs}
 use Rattle.number.proofs.Bounded.{bounded-range}
 use Rattle.algebra.proofs.Integer.Linear.{linear}
 use Rattle.meaning.specs.Number.{half, lowest, highest, OddPrime}
-use Rattle.meaning.specs.Text.{isEnded}
 use Rattle.meaning.specs.Line.{Line, lineOf}
 use Rattle.meaning.specs.Known.{Known, Ranged}
 use Rattle.meaning.specs.Meaning.{gadget, after}
@@ -22,9 +20,7 @@ use Rattle.meaning.specs.Refusal.{valueLimit, cellLimit, Reading, onReading, ru
 use Rattle.meaning.specs.Kept.{Keeps, Sound}
 use Rattle.meaning.proofs.Kept.{keeps-all}
 use Rattle.meaning.proofs.Lines.{sound-after}
-use Rattle.text.specs.Place.{endOf, lineAt, linesFrom}
-use Rattle.text.proofs.Places.{lines-none}
-use Rattle.text.proofs.Ends.{in-line, lines-at}
+use Rattle.text.specs.Place.{linesFrom}
 use Rattle.rules.specs.Ready.{greatest, endsFrom, Ready}
 use Rattle.reader.specs.State.{stateOf}
 use Rattle.reader.specs.Step.{stops, goes, stepOption, placedAt, WithinLimits}
@@ -37,17 +33,16 @@ use Rattle.reader.proofs.Steps.{few}
 use Rattle.reader.proofs.Stopping.{stopped-at, gone-at, step-later}
 use Rattle.meaning.specs.Word.{mostNumbers}
 
--- what holds before line n, which starts at `at`
-pub record Walked (list : List ℕ) (start p : ℕ) (numbers lows highs : List ℤ) (places : List ℕ) (c : Counts) (at n : ℕ) : Type 0 where
-  pub inside : at ≤ length list
+-- what holds before line n of a list, of which `lines` are the lines from 1 on and `left` those from n on. Whether the lines are parts of a text
+-- or are given as words and numbers makes no difference here
+pub record Walking (lines left : List (List ℕ)) (p : ℕ) (numbers lows highs : List ℤ) (places : List ℕ) (c : Counts) (n : ℕ) : Type 0 where
   pub later : 1 ≤ n
-  pub counted : n ≤ at
   pub numbers-long : length numbers ≡ mostNumbers
   pub sized : WithinLimits c (length lows) (length highs)
   pub places-long : length places ≡ valueLimit
   pub sound : Sound n (stateOf p c lows highs places)
   pub ordered : Ordered (stateOf p c lows highs places .known)
-  pub survey-left : surveyOf (readFrom plain 1 (only p) (linesFrom list start)) ≡ surveyOf (readFrom plain n (stateOf p c lows highs places) (linesFrom list at))
+  pub survey-left : surveyOf (readFrom plain 1 (only p) lines) ≡ surveyOf (readFrom plain n (stateOf p c lows highs places) left)
 
 -- ---- the ends fit the arrays
 
@@ -107,14 +102,12 @@ pub placed-long : (c : Counts) (places : List ℕ) → length (placedAt c places
 unfolding placedAt
 placed-long c places = length-set places (c .values) (c .cells .0)
 
-pub walk-start : (list : List ℕ) (start p : ℕ) (numbers lows highs : List ℤ) (places : List ℕ) → 1 ≤ start → start ≤ length list → OddPrime p
+pub walk-start : (lines : List (List ℕ)) (p : ℕ) (numbers lows highs : List ℤ) (places : List ℕ) → OddPrime p
     → length numbers ≡ mostNumbers → length lows ≡ valueLimit → length highs ≡ valueLimit → length places ≡ valueLimit
-    → Walked list start p numbers lows highs places (counts 0 0 0 0) start 1
+    → Walking lines lines p numbers lows highs places (counts 0 0 0 0) 1
 unfolding counts stateOf endsFrom only
-walk-start list start p numbers lows highs places h k odd n l m o = record {
-  inside = k;
+walk-start lines p numbers lows highs places odd n l m o = record {
   later = omega arith;
-  counted = h;
   numbers-long = n;
   sized = record {
     lows-long = l;
@@ -127,25 +120,21 @@ walk-start list start p numbers lows highs places h k odd n l m o = record {
   survey-left = refl;
 }
 
-module _ {list : List ℕ} {start p : ℕ} {numbers lows highs : List ℤ} {places : List ℕ} {c : Counts} {at n : ℕ}
-    (w : Walked list start p numbers lows highs places c at n) where
-  pub walk-end : length list ≤ at
-      → counted p (c .values) (c .inputs) (c .cells .0) (c .rows) ≡ surveyOf (readFrom plain 1 (only p) (linesFrom list start))
+module _ {lines left : List (List ℕ)} {p : ℕ} {numbers lows highs : List ℤ} {places : List ℕ} {c : Counts} {n : ℕ}
+    (w : Walking lines left p numbers lows highs places c n) where
+  pub walk-end : left ≡ [] → counted p (c .values) (c .inputs) (c .cells .0) (c .rows) ≡ surveyOf (readFrom plain 1 (only p) lines)
   unfolding surveyOf readFrom onReading stateOf
-  walk-end h = sym (w .survey-left ∙ rw (lines-none list at h) (ap (λ (v : ℕ). counted p v (c .inputs) (c .cells .0) (c .rows)) (known-count p c lows highs places (w .sized))))
+  walk-end none-left = sym (w .survey-left ∙ rw none-left (ap (λ (v : ℕ). counted p v (c .inputs) (c .cells .0) (c .rows)) (known-count p c lows highs places (w .sized))))
 
-  module _ (ended : isEnded list ≡ true) (h : at < length list) where
-    abbrev line : List ℕ
-    line = lineAt list at
-
+  module _ {line : List ℕ} {later : List (List ℕ)} (is : left ≡ line ∷ later) where
     abbrev rest : Known → Reading
-    rest z = readFrom plain (suc n) z (linesFrom list (endOf list at + 1))
+    rest z = readFrom plain (suc n) z later
 
-    survey-here : surveyOf (readFrom plain 1 (only p) (linesFrom list start)) ≡ surveyOf (readLine plain n (state p c lows highs places (w .sized)) (lineOf line) rest)
+    survey-here : surveyOf (readFrom plain 1 (only p) lines) ≡ surveyOf (readLine plain n (state p c lows highs places (w .sized)) (lineOf line) rest)
     unfolding readFrom
-    survey-here = w .survey-left ∙ rw (lines-at list at ended h) refl
+    survey-here = w .survey-left ∙ rw is refl
 
-    pub walk-stopped : (r : ℕ) → stops r ≡ stepOption 1 (stateOf p c lows highs places) (lineOf line) → refusedAt r n ≡ surveyOf (readFrom plain 1 (only p) (linesFrom list start))
+    pub walk-stopped : (r : ℕ) → stops r ≡ stepOption 1 (stateOf p c lows highs places) (lineOf line) → refusedAt r n ≡ surveyOf (readFrom plain 1 (only p) lines)
     walk-stopped r e =
         sym (survey-here ∙ stopped-at n (stateOf p c lows highs places) rest (lineOf line) r (e ∙ step-later n (w .later) (stateOf p c lows highs places) (lineOf line)))
 
@@ -187,15 +176,21 @@ module _ {list : List ℕ} {start p : ℕ} {numbers lows highs : List ℤ} {plac
             };
           }
 
-      pub walk-next : Walked list start p numbers′ ls hs ps next (endOf list at + 1) (n + 1)
+      pub walk-next : Walking lines later p numbers′ ls hs ps next (n + 1)
       walk-next = record {
-        inside = omega (arith, in-line list ended at h .inside);
         later = omega arith;
-        counted = omega (arith, w .counted);
         numbers-long = numbers-long;
         sized = room;
         places-long = places-long ∙ w .places-long;
         sound = rw (add-one n) (subst (λ (z : Known). Sound (suc n) z) (sym (gone .2)) (sound-after n s (gone .0) (w .sound) keeps));
         ordered = subst (λ (z : Known). Ordered (z .known)) (sym (gone .2)) (ordered-after n s (gone .0) keeps (w .ordered));
-        survey-left = survey-here ∙ gone .3 ∙ ap (λ (i : ℕ). surveyOf (readFrom plain i t (linesFrom list (endOf list at + 1)))) (sym (add-one n));
+        survey-left = survey-here ∙ gone .3 ∙ ap (λ (i : ℕ). surveyOf (readFrom plain i t later)) (sym (add-one n));
       }
+
+-- ---- the walk over a text
+
+-- the lines are those of a text from `start` on, and line n starts at `at`; no more lines than bytes stand before it
+pub record Walked (list : List ℕ) (start p : ℕ) (numbers lows highs : List ℤ) (places : List ℕ) (c : Counts) (at n : ℕ) : Type 0 where
+  pub inside : at ≤ length list
+  pub counted : n ≤ at
+  pub walking : Walking (linesFrom list start) (linesFrom list at) p numbers lows highs places c n

@@ -1,4 +1,4 @@
--- What is found of a whole list: refusals 1 and 2, then line 0, then the lines after it.
+-- What is found of a whole list: refusals 1 and 2, then line 0, then the lines after it. The lines are those of a text, wherever it comes from.
 use mathlib.Core.Path.{_≡_, refl, sym, ap, _∙_, subst}
 use mathlib.Core.Bool.{true, false}
 use mathlib.Core.List.{List, [], _∷_}
@@ -7,7 +7,7 @@ use Prim.Native.Nat.{ℕ, _+_, _-_, _≤_, _<_}
 use native.Mathlib.Omega.{arith}
 use borrow.Author.Tests.{le-leb, lt-leb}
 use lib.ListN.{length}
-use Rattle.meaning.specs.Text.{isEnded}
+use Rattle.meaning.specs.Text.{linesOf, isEnded}
 use Rattle.meaning.specs.Line.{Line, lineOf}
 use Rattle.meaning.specs.Known.{Known, fresh}
 use Rattle.meaning.specs.Meaning.{after}
@@ -21,10 +21,21 @@ use Rattle.reader.specs.Step.{stops, goes, stepOption}
 use Rattle.reader.specs.Read.{only, refusedAt, surveyOf}
 use Rattle.reader.proofs.Stopping.{stopped-at, gone-at}
 
+-- ---- the first line of a text that is ended
+
 pub ended-some : (text : List ℕ) → isEnded text ≡ true → 0 < length text
 unfolding isEnded
 ended-some [] e = let z : _≡_ {A = ℕ} 0 1 = cc in omega arith
 ended-some (x ∷ xs) e = omega arith
+
+module _ (text : List ℕ) (ended : isEnded text ≡ true) where
+  pub first-within : endOf text 0 < length text
+  first-within = in-line text ended 0 (ended-some text ended) .inside
+
+  pub lines-start : linesOf text ≡ lineAt text 0 ∷ linesFrom text (endOf text 0 + 1)
+  lines-start = lines-at text 0 ended (ended-some text ended)
+
+-- ---- the list
 
 module _ (text : List ℕ) where
   pub survey-too-long : textLimit < length text → refusedAt 1 0 ≡ surveyOf (reading text)
@@ -36,19 +47,13 @@ module _ (text : List ℕ) where
     unfolding surveyOf readingBy onReading
     survey-not-ended e = rw (le-leb (length text) textLimit short, e) refl
 
-    module _ (ended : isEnded text ≡ true) where
-      abbrev line : List ℕ
-      line = lineAt text 0
-
-      pub first-within : endOf text 0 < length text
-      first-within = in-line text ended 0 (ended-some text ended) .inside
-
+    module _ (ended : isEnded text ≡ true) {line : List ℕ} {later : List (List ℕ)} (is : linesOf text ≡ line ∷ later) where
       abbrev rest : Known → Reading
-      rest z = readFrom plain 1 z (linesFrom text (endOf text 0 + 1))
+      rest z = readFrom plain 1 z later
 
       survey-here : surveyOf (reading text) ≡ surveyOf (readLine plain 0 fresh (lineOf line) rest)
       unfolding readingBy readFrom
-      survey-here = rw (le-leb (length text) textLimit short, ended, lines-at text 0 ended (ended-some text ended)) refl
+      survey-here = rw (le-leb (length text) textLimit short, ended, is) refl
 
       pub first-stopped : (n : ℕ) → stops n ≡ stepOption 0 fresh (lineOf line) → refusedAt n 0 ≡ surveyOf (reading text)
       first-stopped n yields = sym (survey-here ∙ stopped-at 0 fresh rest (lineOf line) n yields)
@@ -64,5 +69,5 @@ module _ (text : List ℕ) where
             let sound = sound-after 0 fresh l sound-fresh (keeps-all 0 fresh l (gone .1)) in
             subst OddPrime (sym (ap (λ (z : Known). z .p) (gone .2))) (sound .prime (omega arith))
 
-        pub survey-after : surveyOf (readFrom plain 1 (only p) (linesFrom text (endOf text 0 + 1))) ≡ surveyOf (reading text)
+        pub survey-after : surveyOf (readFrom plain 1 (only p) later) ≡ surveyOf (reading text)
         survey-after = sym (survey-here ∙ gone .3)

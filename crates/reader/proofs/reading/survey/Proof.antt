@@ -14,7 +14,7 @@ use Rattle.reader.specs.Read.{surveyMeaning, PrimeFound, primeIn, firstM
 use Rattle.reader.specs.Step.{stepOption}
 use Rattle.reader.specs.declared.first.First.{First}
 use Rattle.reader.proofs.Steps.{no-line-step, line-step, line-parsed}
-use Rattle.reader.proofs.Whole.{ended-some, survey-too-long, survey-not-ended, first-within, first-stopped, first-is-prime, survey-after}
+use Rattle.reader.proofs.Whole.{ended-some, first-within, lines-start, survey-too-long, survey-not-ended, first-stopped, first-is-prime, survey-after}
 use borrow.Author.Needs.{needs}
 use Rattle.reader.proofs.reading.survey.Statement.{statement}
 use Rattle.reader.proofs.reading.survey.Tie as tie
@@ -44,7 +44,7 @@ returns-3 c =
     let at-line = c .before .before .before in
     let at-if2 = at-line .before .before in
     let text = now (at-if2 .before .before .before .before .args .list) in
-    (first-stopped text (at-if2 .before .before .if1 .left) (ended at-if2) 3 (no-line-step 0 fresh (no-line-meaning (at-line .line-of .ensures .0) (c .enum-told .given .1))), tt)
+    (first-stopped text (at-if2 .before .before .if1 .left) (ended at-if2) (lines-start text (ended at-if2)) 3 (no-line-step 0 fresh (no-line-meaning (at-line .line-of .ensures .0) (c .enum-told .given .1))), tt)
 
 first-parsed-requires : tie.Need-first-parsed-requires
 first-parsed-requires c κs =
@@ -73,11 +73,11 @@ survey-from-requires c κs =
     let text = now (at-if2′ .before .before .before .before .args .list) in
     let short = at-if2′ .before .before .if1 .left in
     let prime = c .before .before .first2 .given in
-    let within = first-within text short (ended at-if2′) in (
+    let within = first-within text (ended at-if2′) in (
       ended at-if2′,
       omega (arith, second at-first),
       omega (arith, within, second at-first),
-      first-is-prime text short (ended at-if2′) _ (first-read at-first (prime .1)),
+      first-is-prime text short (ended at-if2′) (lines-start text (ended at-if2′)) _ (first-read at-first (prime .1)),
       rw (prime .1) at (at-first .first-parsed .ensures .1),
       search needs,
     )
@@ -87,16 +87,18 @@ unfolding surveyMeaning PrimeFound firstMeaning
 returns-4 c =
     let at-first = c .before .before .before in
     let at-if2′ = at-if2 at-first in
-    (first-stopped (now (at-if2′ .before .before .before .before .args .list)) (at-if2′ .before .before .if1 .left) (ended at-if2′) _ (first-read at-first (c .before .first .given .1)), tt)
+    let text = now (at-if2′ .before .before .before .before .args .list) in
+    (first-stopped text (at-if2′ .before .before .if1 .left) (ended at-if2′) (lines-start text (ended at-if2′)) _ (first-read at-first (c .before .first .given .1)), tt)
 
 returns-5 : tie.Need-returns-5
 unfolding firstMeaning
 returns-5 c =
     let at-first = c .before .before .before .before .before .before in
     let at-if2′ = at-if2 at-first in
+    let text = now (at-if2′ .before .before .before .before .args .list) in
     let yields = c .before .survey-from .ensures in (
       rw (second at-first) at (yields .0)
-          ∙ survey-after (now (at-if2′ .before .before .before .before .args .list)) (at-if2′ .before .before .if1 .left) (ended at-if2′) _ (first-read at-first (c .before .before .before .before .first2 .given .1)),
+          ∙ survey-after text (at-if2′ .before .before .if1 .left) (ended at-if2′) (lines-start text (ended at-if2′)) _ (first-read at-first (c .before .before .before .before .first2 .given .1)),
       yields .1,
     )
 
