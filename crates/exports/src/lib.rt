@@ -9,11 +9,13 @@ use service::check;
 use service::make;
 use service::read;
 use service::show;
+use writer::write;
 ghost use mathlib.Core.Path.{_≡_};
 ghost use Prim.Native.Nat.{_+_, _≤_};
 ghost use lib.ListN.{length, getD, take, drop};
 ghost use Rattle.meaning.specs.Refusal.{cellLimit};
-ghost use Rattle.meaning.specs.Reply.{reply, making, readReply, checkReply, makeReply, shown, shownFrom};
+ghost use Rattle.meaning.specs.Reply.{reply, making, writing, readReply, checkReply, makeReply, writeReply, shown, shownFrom};
+ghost use Rattle.meaning.specs.Write.{linesGiven};
 ghost use Rattle.meaning.specs.Program.{respond as responseTo};
 ghost use Rattle.meaning.specs.Desk.{counted, called, deskCall};
 ghost use Rattle.program.specs.Answered.{Answered};
@@ -142,6 +144,24 @@ pub extern "C" fn digit_table_respond(input: &[u8], output: &mut [u8]) -> usize
     ensures { λ r. ⌜ Answered (responseTo (now (input .entry))) (now (output .entry)) (now (output .exit)) r ⌝ }
 {
     respond(input, output)
+}
+
+// Writes a list that is given as words and numbers. The place is written, which is the text's length where the number is 0, and the buffer begins with
+// the text where the number is 0. FORMAT 9.18, 9.23, 9.26, 9.27
+#[no_mangle]
+pub extern "C" fn digit_table_write(
+    words: &[u8],
+    counts: &[usize],
+    numbers: &[i64],
+    buffer: &mut [u8],
+    place: &mut usize,
+) -> u32
+    ensures { λ r. ⌜ writing (reply r (now (place .exit))) (now (buffer .exit))
+        ≡ writeReply (linesGiven (now (words .entry)) (now (counts .entry)) (now (numbers .entry))) (now (buffer .entry)) ⌝ }
+{
+    let replied = write(words, counts, numbers, buffer);
+    *place = replied.place;
+    replied.number
 }
 
 // The first cell of a part, and 0 where it is empty.

@@ -1,0 +1,8 @@
+-- The laws of writing a list.
+pub mod Texts
+pub mod Rows
+pub mod Lengths
+pub mod Begun
+pub mod Taking
+pub mod Surveying
+pub mod Replies
