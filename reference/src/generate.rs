@@ -25,6 +25,7 @@ mod sources_root;
 mod sources_whole;
 mod tables;
 mod writings;
+mod writings_lengths;
 
 pub use damage::random_bytes;
 pub use dice::Dice;

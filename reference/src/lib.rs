@@ -81,9 +81,9 @@ pub fn show<'a>(list: &[u8], table: &'a [u32], line: usize) -> &'a [u32] {
     }
 }
 
-/// Writes lines that come as words, counts and numbers (FORMAT 9.23): 0 and the length of their text,
-/// with which the buffer then begins, or the refusal of 1 to 12 or 21, with the buffer as it was
-/// (FORMAT 9.26, 9.27).
+/// Writes lines that come as words, counts and numbers (FORMAT 9.23): 0 and the length of their
+/// text, with which the buffer then begins, or the refusal of 1 to 12 or 21, with the buffer as it
+/// was (FORMAT 9.26, 9.27).
 pub fn write(words: &[u8], counts: &[usize], numbers: &[i64], buffer: &mut [u8]) -> (u64, u64) {
     match write::write(words, counts, numbers, buffer) {
         Ok(length) => (0, length as u64),

@@ -1,5 +1,6 @@
-//! Writing a list: lines that come as words and numbers become their text in a lent buffer. The text
-//! is built, read by the reader, held against the buffer, and copied, in this order (FORMAT 13.9).
+//! Writing a list: lines that come as words and numbers become their text in a lent buffer. The
+//! text is built, read by the reader, held against the buffer, and copied, in this order
+//! (FORMAT 13.9).
 
 use crate::plan::{Plan, MOST_BYTES};
 use crate::Refusal;
@@ -24,8 +25,8 @@ pub fn write(
     Ok(text.len())
 }
 
-/// The text of the lines, one for each word (FORMAT 2.9, 9.23). One that is over the greatest length
-/// is refused for it before any line is looked at, so it is not built to its end.
+/// The text of the lines, one for each word (FORMAT 2.9, 9.23). One that is over the greatest
+/// length is refused for it before any line is looked at, so it is not built to its end.
 fn text(words: &[u8], counts: &[usize], numbers: &[i64]) -> Vec<u8> {
     let mut text = Vec::new();
     let mut left = numbers;

@@ -1,5 +1,5 @@
-//! Writing (FORMAT 9.23 to 9.28): the replies and texts of the lines built on purpose, and what must
-//! hold for the lines of every generated list.
+//! Writing (FORMAT 9.23 to 9.28): the replies and texts of the lines built on purpose, and what
+//! must hold for the lines of every generated list.
 
 use reference::generate::{cases, cut, directed, large, sources, text, writings, Case, Dice, Rows};
 use reference::{read, write};
@@ -64,8 +64,8 @@ fn lines_built_on_purpose_get_their_replies_and_texts() {
     assert_eq!(reached, (0..=12).chain([21]).collect());
 }
 
-/// FORMAT 9.28: what is read is written byte for byte. FORMAT 9.26: what is refused gets the reader's
-/// refusal, also where the buffer is empty.
+/// FORMAT 9.28: what is read is written byte for byte. FORMAT 9.26: what is refused gets the
+/// reader's refusal, also where the buffer is empty.
 #[test]
 fn lists_come_back_byte_for_byte() {
     let (mut written, mut refused) = (0, 0);
@@ -94,7 +94,8 @@ fn lists_come_back_byte_for_byte() {
     assert!(written > 10_000 && refused > 3_000);
 }
 
-/// FORMAT 9.28: what is written is read, as the lines that were given; nothing else is (FORMAT 9.27).
+/// FORMAT 9.28: what is written is read, as the lines that were given; nothing else is
+/// (FORMAT 9.27).
 #[test]
 fn damaged_lines_are_written_as_they_are_or_refused() {
     let mut reached = BTreeSet::new();

@@ -105,8 +105,8 @@ pub struct Cut {
     pub whole: bool,
 }
 
-/// Cuts any text, without the reader. A word that is none gets a code of no word, and so does that of
-/// a line with a field that is no i64, which is left out.
+/// Cuts any text, without the reader. A word that is none gets a code of no word, and so does that
+/// of a line with a field that is no i64, which is left out.
 pub fn cut(text: &[u8]) -> Cut {
     let (body, mut whole) = match text {
         [] => return Cut { rows: Rows::default(), whole: true },
