@@ -83,21 +83,24 @@ fn lines_whose_text_is_refused_get_that_refusal_in_any_buffer() {
     assert_eq!(write(&long, &mut []), refused(1, 0));
 }
 
+/// Words, counts and numbers.
+type Rows = (&'static [u8], &'static [usize], &'static [i64]);
+
 #[test]
 fn any_rows_are_answered() {
     const MOST: usize = usize::MAX;
-    let cases: [(&[u8], &[usize], &[i64], Result<usize, Refusal>); 9] = [
-        (&[0, 1, 4], &[1, 0, 3], &[31, 0, 2, 4], Ok(23)),
-        (&[0, 1, 4], &[1, 0, 3, MOST], &[31, 0, 2, 4, i64::MIN], Ok(23)),
-        (&[0, 1], &[1], &[31], Ok(12)),
-        (&[], &[1], &[31], refused(2, 0)),
-        (&[0, 8], &[1, 0], &[31], refused(3, 1)),
-        (&[0, 255], &[1], &[31], refused(3, 1)),
-        (&[0, 1, 4], &[1, 0, 4], &[31, 0, 2, 4], refused(3, 2)),
-        (&[0, 1, 4], &[1, MOST, MOST], &[31, 0, 2, 4], refused(3, 1)),
-        (&[0], &[1], &[i64::MIN], refused(3, 0)),
+    let cases: [(Rows, Result<usize, Refusal>); 9] = [
+        ((&[0, 1, 4], &[1, 0, 3], &[31, 0, 2, 4]), Ok(23)),
+        ((&[0, 1, 4], &[1, 0, 3, MOST], &[31, 0, 2, 4, i64::MIN]), Ok(23)),
+        ((&[0, 1], &[1], &[31]), Ok(12)),
+        ((&[], &[1], &[31]), refused(2, 0)),
+        ((&[0, 8], &[1, 0], &[31]), refused(3, 1)),
+        ((&[0, 255], &[1], &[31]), refused(3, 1)),
+        ((&[0, 1, 4], &[1, 0, 4], &[31, 0, 2, 4]), refused(3, 2)),
+        ((&[0, 1, 4], &[1, MOST, MOST], &[31, 0, 2, 4]), refused(3, 1)),
+        ((&[0], &[1], &[i64::MIN]), refused(3, 0)),
     ];
-    for (words, counts, numbers, reply) in cases {
+    for ((words, counts, numbers), reply) in cases {
         assert_eq!(write_rows(words, counts, numbers, &mut [7; 23]), reply);
     }
 }
