@@ -54,7 +54,8 @@ impl Comparison {
     pub fn write_list(&mut self, from: &str, case: &Case, read: Reply) {
         let Case { list, .. } = case;
         let (cut, rooms, mut dice) = (cut(list), rooms(list.len()), dice(list));
-        if cut.whole {
+        // A list that is read has words and numbers alone.
+        if cut.whole || read.0 == 0 {
             let right = |&room: &usize| right(list, read, room);
             self.hold::<Proved>("proved", from, &cut.rows, &rooms, right);
             self.hold::<Reference>("reference", from, &cut.rows, &[dice.pick(&rooms)], right);
