@@ -4,11 +4,12 @@
  *  - a pointer that comes with a length leads to so many elements, aligned, and is not NULL, even where the length is 0;
  *  - a pointer that comes without one leads to one number;
  *  - what a call writes (all that is not const) overlaps nothing else that is lent to the same call.
- * Nothing is kept after a call and nothing is allocated: calls may run at the same time. A call takes less than 64 KiB of stack.
+ * Nothing is kept after a call and nothing is allocated: calls may run at the same time. A call takes less than 64 KiB of stack,
+ * digit_table_write less than 16 KiB.
  *
- * A reply is a number and a place (FORMAT 9.3 and 9.18 in docs/FORMAT.md): number 0 for a list that was read, a table that was accepted
- * and a table that was made, 1 to 20 for a refusal, whose clause has its number (FORMAT 10.1 to 10.20). The place is a line, a cell, a row
- * or an input, by the number. Lines, cells, rows, values and inputs count from 0. */
+ * A reply is a number and a place (FORMAT 9.3 and 9.18 in docs/FORMAT.md): number 0 for a list that was read or written, a table that was
+ * accepted and a table that was made, 1 to 21 for a refusal, whose clause has its number (FORMAT 10.1 to 10.21). The place is a line, a
+ * cell, a row or an input, by the number; of a list that was written it is the length. Lines, cells, rows, values and inputs count from 0. */
 #ifndef DIGIT_TABLE_H
 #define DIGIT_TABLE_H
 
@@ -72,6 +73,33 @@ size_t digit_table_respond(const uint8_t *input, size_t input_length,
                            uint8_t *output, size_t output_length);
 
 #define DIGIT_TABLE_LONGEST_ANSWER 65547
+
+/* The codes of the words (FORMAT 3.1, 9.24). */
+enum digit_table_word {
+    DIGIT_TABLE_WORD_FIELD = 0,
+    DIGIT_TABLE_WORD_IN = 1,
+    DIGIT_TABLE_WORD_SPAN = 2,
+    DIGIT_TABLE_WORD_SUM = 3,
+    DIGIT_TABLE_WORD_RELU = 4,
+    DIGIT_TABLE_WORD_WHICH = 5,
+    DIGIT_TABLE_WORD_MAX = 6,
+    DIGIT_TABLE_WORD_ROOT = 7
+};
+
+/* Writes a list (FORMAT 9.23 to 9.28) whose lines come as words and numbers: the code of each line's word, how many numbers each line has,
+ * and the numbers of all lines one after another. There are as many lines as words.
+ * Reads: the words, the counts and the numbers. A line with a code of no word, or with more numbers than are left, is refused 3.
+ * Writes: the place, which is the text's length where 0 is returned; and the text, at the start of the buffer, where 0 is returned. The rest of
+ *   the buffer, or all of it where not, is left as it is.
+ * Returns: 0, or the number of the refusal: 1 to 12 where digit_table_read refuses the text, with its place; 21 where the buffer is shorter
+ *   than the text. In DIGIT_TABLE_LONGEST_LIST bytes every list has room. */
+uint32_t digit_table_write(const uint8_t *words, size_t words_length,
+                           const size_t *counts, size_t counts_length,
+                           const int64_t *numbers, size_t numbers_length,
+                           uint8_t *buffer, size_t buffer_length,
+                           size_t *place);
+
+#define DIGIT_TABLE_LONGEST_LIST 65536
 
 #ifdef __cplusplus
 }

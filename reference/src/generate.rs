@@ -3,7 +3,8 @@
 //! `case` draws one case by chance; `directed` lists cases built on purpose, each with the reply
 //! that the format gives, so that every refusal of its chapter 10 is reached in every way it can
 //! be; `sources` lists the worked examples of the source documents and of the format, with their
-//! own figures.
+//! own figures; `writings` lists lines to be written, with the reply and the text that the format
+//! gives.
 
 mod columns;
 mod damage;
@@ -15,6 +16,7 @@ mod directed_numbers;
 mod directed_program;
 mod directed_tables;
 mod lists;
+mod rows;
 mod sources;
 mod sources_format;
 mod sources_range;
@@ -22,11 +24,15 @@ mod sources_relu;
 mod sources_root;
 mod sources_whole;
 mod tables;
+mod writings;
+mod writings_lengths;
 
 pub use damage::random_bytes;
 pub use dice::Dice;
 pub use directed::{directed, Call, Directed};
+pub use rows::{cut, Cut, Rows, NO_WORD};
 pub use sources::{sources, SOURCE};
+pub use writings::{writings, Writing};
 
 use crate::plan::Plan;
 use crate::Desk;

@@ -3,7 +3,7 @@
 //! What the format, `docs/FORMAT.md`, says, as directly as its clauses allow. It was written apart
 //! from the program that it is run against. The calls are those of the format's chapter 9, for
 //! anything that FORMAT 9.1 lets them be given. A reply is a pair (number, place); 0, 0 says that
-//! a table was accepted or made (FORMAT 9.3).
+//! a table was accepted or made, and 0 with a length that a text was written (FORMAT 9.3).
 
 mod check;
 mod desk;
@@ -15,6 +15,7 @@ mod plan;
 mod prime;
 mod program;
 mod work;
+mod write;
 
 pub use desk::Desk;
 pub use program::respond;
@@ -77,6 +78,16 @@ pub fn show<'a>(list: &[u8], table: &'a [u32], line: usize) -> &'a [u32] {
             &table[step.first_cell..step.first_cell + step.line.cells()]
         }
         _ => &[],
+    }
+}
+
+/// Writes lines that come as words, counts and numbers (FORMAT 9.23): 0 and the length of their
+/// text, with which the buffer then begins, or the refusal of 1 to 12 or 21, with the buffer as it
+/// was (FORMAT 9.26, 9.27).
+pub fn write(words: &[u8], counts: &[usize], numbers: &[i64], buffer: &mut [u8]) -> (u64, u64) {
+    match write::write(words, counts, numbers, buffer) {
+        Ok(length) => (0, length as u64),
+        Err(refusal) => (refusal.number, refusal.place),
     }
 }
 

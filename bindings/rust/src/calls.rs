@@ -56,4 +56,16 @@ extern "C" {
         output: *mut u8,
         output_length: usize,
     ) -> usize;
+
+    pub fn digit_table_write(
+        words: *const u8,
+        words_length: usize,
+        counts: *const usize,
+        counts_length: usize,
+        numbers: *const i64,
+        numbers_length: usize,
+        buffer: *mut u8,
+        buffer_length: usize,
+        place: *mut usize,
+    ) -> u32;
 }

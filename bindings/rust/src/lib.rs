@@ -1,4 +1,5 @@
-//! Digit tables over Z/p: reads lists, makes and checks tables, shows a line's cells, counts at a desk, and answers as the program does.
+//! Digit tables over Z/p: reads and writes lists, makes and checks tables, shows a line's cells, counts at a desk, and answers as the
+//! program does.
 //!
 //! The work is done by the static library of `crates/exports`, whose functions are proved to answer as docs/FORMAT.md says for every
 //! input. They ask nothing of their caller but that what is lent is there and does not overlap, which references ensure. So every
@@ -11,6 +12,9 @@
 compile_error!("the static library is compiled for x86-64 Linux");
 
 mod calls;
+mod write;
+
+pub use write::{write, write_rows, Line, Word, LONGEST_LIST};
 
 use std::fmt;
 
@@ -27,10 +31,10 @@ pub struct Counts {
     pub rows: usize,
 }
 
-/// A refusal: its number and its place (FORMAT 9.3). The clause of refusal n is that number of chapter 10, from FORMAT 10.1 to 10.20.
+/// A refusal: its number and its place (FORMAT 9.3). The clause of refusal n is that number of chapter 10, from FORMAT 10.1 to 10.21.
 #[derive(Clone, Copy, Debug, PartialEq, Eq)]
 pub struct Refusal {
-    /// From 1 to 20.
+    /// From 1 to 21.
     pub number: u32,
     /// A line, a cell, a row or an input, by the number; each counts from 0.
     pub place: usize,

@@ -4,13 +4,14 @@
 //! A list of spans, or at the greatest prime of any gadget but the sum, comes close to 4,096 cells. The others end at 256 values: a sum
 //! has one cell, and at p = 31 a group has at most four digits.
 
-use reference::generate::{large, text};
+use reference::generate::{cut, large, text, Rows};
 use reference::Counts;
 
-/// A list with a column of inputs and its true table.
+/// A list, its lines as words and numbers, a column of inputs and its true table.
 pub struct Workload {
     pub name: String,
     pub list: Vec<u8>,
+    pub rows: Rows,
     pub inputs: Vec<i64>,
     pub table: Vec<u32>,
 }
@@ -49,7 +50,8 @@ impl Workload {
     fn made(name: &str, list: Vec<u8>, inputs: Vec<i64>) -> Option<Workload> {
         let mut table = vec![0; counts(&list)?.cells as usize];
         let made = reference::make(&list, &inputs, &mut table) == (0, 0);
-        made.then(|| Workload { name: name.into(), list, inputs, table })
+        let rows = cut(&list).rows;
+        made.then(|| Workload { name: name.into(), list, rows, inputs, table })
     }
 }
 

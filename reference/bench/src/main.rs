@@ -1,6 +1,7 @@
 //! `bench`: what the proved service costs beside the reference, as ratios within one run.
 //!
 //!     bench [WORD]               every list, or those whose name has the word
+//!     bench write                writing every list, beside reading it
 //!     bench growth               how cost grows as a list doubles
 //!     bench costs                what a byte, a digit and a cell cost, each beside a floor
 //!     bench stack                how much stack each call takes at most
@@ -25,12 +26,13 @@ fn main() {
     let words: Vec<&str> = words.iter().map(String::as_str).collect();
     match words[..] {
         [] => bench(&workloads(), ""),
+        ["write"] => writing(&workloads()),
         ["growth"] => growth(),
         ["costs"] => costs::report(),
         ["stack"] => stack::report(),
         ["profile", name, call] => profile(name, call),
         [word] => bench(&workloads(), word),
-        _ => eprintln!("usage: bench [WORD | growth | costs | stack | profile NAME CALL]"),
+        _ => eprintln!("usage: bench [WORD | write | growth | costs | stack | profile NAME CALL]"),
     }
 }
 
@@ -53,6 +55,30 @@ fn bench(all: &[Workload], word: &str) {
                 proved / work.list.len() as f64
             );
         }
+    }
+}
+
+/// Writing the lines of each list: the proved service against the reference, and against its own reading of the same text.
+fn writing(all: &[Workload]) {
+    println!(
+        "| list | bytes | `write`, proved, ns | reference, ns | ratio | `read`, proved, ns | `write` against `read` | ns a byte |"
+    );
+    println!("|---|---|---|---|---|---|---|---|");
+    for work in all {
+        let rounds = Rounds::of(vec![
+            Job::of::<Proved>("write", work),
+            Job::of::<Reference>("write", work),
+            Job::of::<Proved>("read", work),
+        ]);
+        let [proved, reference, read] = [0, 1, 2].map(|job| rounds.median(|ns| ns[job]));
+        println!(
+            "| {} | {} | {proved:.0} | {reference:.0} | {:.2} | {read:.0} | {:.2} | {:.2} |",
+            work.name,
+            work.list.len(),
+            rounds.median(|ns| ns[0] / ns[1]),
+            rounds.median(|ns| ns[0] / ns[2]),
+            proved / work.list.len() as f64
+        );
     }
 }
 

@@ -2,7 +2,7 @@
 //! changed tells.
 
 use compare::{Proved, Service};
-use reference::generate::{directed, Case};
+use reference::generate::{cut, directed, Case, Rows};
 use std::arch::asm;
 use std::hint::black_box;
 
@@ -50,10 +50,11 @@ fn used(mut call: impl FnMut()) -> usize {
 }
 
 /// The stack of each call on one case.
-fn of_case(case: &Case) -> [(&'static str, usize); 6] {
+fn of_case(case: &Case) -> [(&'static str, usize); 7] {
     let (mut table, mut output) = (case.table.clone(), vec![0; 65_547]);
+    let Rows { words, counts: of_lines, numbers } = cut(&case.list).rows;
     let mut desk = [case.desk.heard, case.desk.accepted, case.desk.refused];
-    let mut counts = [0; 4];
+    let (mut counts, mut buffer) = ([0; 4], vec![0; 65_536]);
     [
         ("read", used(|| _ = black_box(Proved::read(&case.list, &mut counts)))),
         ("check", used(|| _ = black_box(Proved::check(&case.list, &case.table)))),
@@ -61,12 +62,13 @@ fn of_case(case: &Case) -> [(&'static str, usize); 6] {
         ("show", used(|| _ = black_box(Proved::show(&case.list, &case.table, case.line)))),
         ("desk call", used(|| _ = black_box(Proved::desk(&mut desk, &case.list, &case.table)))),
         ("respond", used(|| _ = black_box(Proved::respond(&case.stdin, &mut output)))),
+        ("write", used(|| _ = black_box(Proved::write(&words, &of_lines, &numbers, &mut buffer)))),
     ]
 }
 
 /// The most that each call takes over the given cases.
 pub fn report() {
-    let mut most = [("", 0); 6];
+    let mut most = [("", 0); 7];
     let mut count = 0;
     let large = (0..8).map(reference::generate::large);
     let chance = reference::generate::cases(1, 2_000);

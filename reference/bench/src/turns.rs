@@ -3,6 +3,7 @@
 
 use crate::lists::Workload;
 use compare::Service;
+use reference::generate::Rows;
 use std::hint::black_box;
 use std::time::{Duration, Instant};
 
@@ -29,11 +30,15 @@ impl<'a> Job<'a> {
 
     /// A call of a service on a list.
     pub fn of<S: Service>(call: &str, work: &'a Workload) -> Job<'a> {
-        let Workload { list, inputs, table, .. } = work;
-        let mut made = table.clone();
+        let Workload { list, rows, inputs, table, .. } = work;
+        let (mut made, mut buffer) = (table.clone(), vec![0; list.len()]);
         match call {
             "read" => Job::new(|| _ = black_box(S::read(black_box(list), black_box(&mut [0; 4])))),
             "check" => Job::new(|| _ = black_box(S::check(black_box(list), black_box(table)))),
+            "write" => Job::new(move || {
+                let Rows { words, counts, numbers } = black_box(rows);
+                _ = black_box(S::write(words, counts, numbers, &mut buffer))
+            }),
             _ => Job::new(move || {
                 _ = black_box(S::make(black_box(list), black_box(inputs), &mut made))
             }),

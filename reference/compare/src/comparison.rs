@@ -1,4 +1,5 @@
-//! Case after case, both services: every reply, every lent cell, and a desk of each that hears all cases of a comparison.
+//! Case after case, both services: every reply, every lent cell, a desk of each that hears all cases of a comparison, and each list
+//! written from its words and numbers.
 
 use crate::{outcome, Desk, Proved, Reference, Service, Tally};
 use reference::generate::{Call, Case, Directed, SOURCE};
@@ -25,6 +26,7 @@ impl Comparison {
             self.differ(&format!("{from}: {calls}"), case, lines, seen);
         }
         self.hear(from, case);
+        self.write_list(from, case, reference.read);
         self.tally.cases += 1;
         self.tally.shown += reference.show.iter().filter(|part| part.is_some()).count() as u64;
         self.tally.count_reply("read", reference.read.0);

@@ -1,15 +1,15 @@
-//! `compare [COUNT | soak] [--seed N] [--program PATH]`: the cases built on purpose, those of the sources, some large ones, COUNT cases by
-//! chance (200,000 if not said), every table of small lists, and runs of the built program. The cases are the same in every run; `--seed`
-//! gives other ones by chance, and `soak` is 2,000,000 other ones.
+//! `compare [COUNT | soak] [--seed N] [--program PATH]`: the cases built on purpose, those of the sources, lines written on purpose, some
+//! large cases, COUNT cases by chance (200,000 if not said), every table of small lists, and runs of the built program. The cases are the
+//! same in every run; `--seed` gives other ones by chance, and `soak` is 2,000,000 other ones.
 //!
 //! Its last line is 'compare: N cases, D differences'. It ends with status 1 if D is not 0, or if some refusal was never reached; with 2 if
 //! it was asked wrongly or the program is not there.
 
 use compare::{
     by_chance, every_small_table, large_cases, on_purpose, program_runs, runs_by_chance,
-    runs_of_limits, runs_on_purpose, standard_path, Program, Report, SEEDS,
+    runs_of_limits, runs_on_purpose, standard_path, writings_on_purpose, Program, Report, SEEDS,
 };
-use reference::generate::{directed, sources, Directed};
+use reference::generate::{directed, sources, writings, Directed};
 use std::path::PathBuf;
 use std::process::ExitCode;
 
@@ -62,6 +62,7 @@ fn compare(asked: &Asked, program: &Program) -> bool {
     for (name, cases) in &sets {
         report.part(name, on_purpose(cases));
     }
+    report.part("writings", writings_on_purpose(&writings()));
     report.part("large", large_cases(8));
     report.part("by chance", by_chance(asked.count, asked.added));
     let (tally, lines) = every_small_table();

@@ -2,7 +2,7 @@
 //! the cases of a block, so what is seen does not depend on how many cores there are.
 
 use crate::{all_lines, in_order, small_jobs, Comparison, Proved, Tally};
-use reference::generate::{case, large, Directed};
+use reference::generate::{case, large, Directed, Writing};
 use std::collections::BTreeMap;
 use std::sync::atomic::{AtomicU64, Ordering};
 
@@ -25,6 +25,16 @@ pub fn on_purpose(cases: &[Directed]) -> Tally {
             let lines = if case.list.len() < 4_096 { all_lines(case) } else { vec![1] };
             comparison.compare_directed(directed, &lines);
         }
+        comparison.tally
+    }))
+}
+
+/// Lines that are written on purpose, held to their own replies and texts too.
+pub fn writings_on_purpose(writings: &[Writing]) -> Tally {
+    let blocks: Vec<&[Writing]> = writings.chunks(BLOCK).collect();
+    Tally::sum(in_order(blocks.len(), |block| {
+        let mut comparison = Comparison::default();
+        blocks[block].iter().for_each(|writing| comparison.compare_writing(writing));
         comparison.tally
     }))
 }

@@ -7,13 +7,14 @@ use std::ops::RangeInclusive;
 use std::time::Instant;
 
 /// The numbers that each call can give, 0 for no refusal. Each must be reached, so that cases which silently stop reaching one are noticed.
-pub const REQUIRED: [(&str, &[RangeInclusive<u64>]); 8] = [
+pub const REQUIRED: [(&str, &[RangeInclusive<u64>]); 9] = [
     ("read", &[0..=12]),
     ("check", &[0..=15]),
     ("make", &[0..=13, 16..=18]),
     ("desk", &[0..=15, 19..=20]),
     ("answer", &[0..=12, 16..=18]),
     ("answer to an input line", &[3..=3]),
+    ("write", &[0..=12, 21..=21]),
     ("program", &[0..=12, 16..=18]),
     ("program's input line", &[3..=3]),
 ];

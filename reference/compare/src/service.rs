@@ -1,6 +1,6 @@
 //! The two programs behind one set of calls, so that a case is run in the same way on both.
 
-/// A number and a place; 0, 0 where nothing is refused.
+/// A number and a place; 0, 0 where nothing is refused, or 0 and a length.
 pub type Reply = (u64, u64);
 
 /// p and the counts of values, cells and rows.
@@ -19,6 +19,8 @@ pub trait Service {
     fn desk(desk: &mut Desk, list: &[u8], table: &[u32]) -> Reply;
     /// The length of the answer, which is written where it has room; else 0.
     fn respond(input: &[u8], output: &mut [u8]) -> usize;
+    /// The place is the length of the text where nothing is refused.
+    fn write(words: &[u8], counts: &[usize], numbers: &[i64], buffer: &mut [u8]) -> Reply;
 }
 
 /// The reference, which was written apart from the proved service.
@@ -60,6 +62,10 @@ impl Service for Reference {
             None => return 0,
         }
         answer.len()
+    }
+
+    fn write(words: &[u8], counts: &[usize], numbers: &[i64], buffer: &mut [u8]) -> Reply {
+        reference::write(words, counts, numbers, buffer)
     }
 }
 
@@ -107,5 +113,12 @@ impl Service for Proved {
 
     fn respond(input: &[u8], output: &mut [u8]) -> usize {
         digit_table::respond_into(input, output)
+    }
+
+    fn write(words: &[u8], counts: &[usize], numbers: &[i64], buffer: &mut [u8]) -> Reply {
+        match digit_table::write_rows(words, counts, numbers, buffer) {
+            Ok(length) => (0, length as u64),
+            Err(refusal) => (refusal.number.into(), refusal.place as u64),
+        }
     }
 }

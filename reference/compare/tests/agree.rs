@@ -1,7 +1,9 @@
 //! The two services agree; and a case on which two services differ is found.
 
-use compare::{all_lines, outcome, Comparison, Counts, Desk, Proved, Reference, Reply, Service};
-use reference::generate::{cases, directed, large, text, Call, Case};
+use compare::{
+    all_lines, outcome, written, Comparison, Counts, Desk, Proved, Reference, Reply, Service,
+};
+use reference::generate::{cases, cut, directed, large, text, writings, Call, Case};
 
 #[test]
 fn directed_cases_agree_with_each_other_and_the_format() {
@@ -106,6 +108,19 @@ impl<const CALL: usize> Service for Changed<CALL> {
         }
         length
     }
+
+    fn write(words: &[u8], counts: &[usize], numbers: &[i64], buffer: &mut [u8]) -> Reply {
+        let (number, place) = Reference::write(words, counts, numbers, buffer);
+        match CALL {
+            // A byte too many, bytes in a buffer that is too short, another place, and a row that is not kept.
+            8 if number == 0 => buffer[place as usize] = 0,
+            9 if number == 21 => buffer[0] = b'f',
+            10 => return (number, place + 1),
+            11 => return Reference::write(words, &counts[1..], numbers, buffer),
+            _ => {}
+        }
+        (number, place)
+    }
 }
 
 #[test]
@@ -131,4 +146,51 @@ fn zeros_written_by_a_refused_read_are_seen() {
     assert_eq!(right.read, (5, 0));
     assert_eq!(outcome::<Changed<7>>(&case, &[], &[]).differing(&right), ["read"]);
     assert_eq!(outcome::<Proved>(&case, &[], &[]), right);
+}
+
+#[test]
+fn writings_agree_with_each_other_and_the_format() {
+    let mut comparison = Comparison::default();
+    for writing in writings() {
+        comparison.compare_writing(&writing);
+        let proved = written::<Proved>(&writing.rows, &[writing.room]);
+        assert_eq!(proved.each[0].0, writing.reply, "{}", writing.way);
+    }
+    assert_eq!(comparison.tally.kept, [""; 0]);
+}
+
+#[test]
+fn a_change_of_writing_is_seen() {
+    let list = text("field 31;in;relu 0 2 4");
+    let rows = cut(&list).rows;
+    let rooms = [list.len() - 1, list.len() + 5];
+    let right = written::<Reference>(&rows, &rooms);
+    assert_eq!(written::<Proved>(&rows, &rooms), right);
+    assert_eq!(written::<Changed<0>>(&rows, &rooms), right);
+    assert_ne!(written::<Changed<8>>(&rows, &rooms), right);
+    assert_ne!(written::<Changed<9>>(&rows, &rooms), right);
+    assert_ne!(written::<Changed<10>>(&rows, &rooms), right);
+    assert_ne!(written::<Changed<11>>(&rows, &rooms), right);
+}
+
+#[test]
+fn a_reply_and_a_text_that_are_not_the_format_s_are_seen() {
+    for writing in writings().into_iter().take(8) {
+        let (mut other, mut longer) = (writing.clone(), writing.clone());
+        other.reply.1 += 1;
+        longer.text.push(b'\n');
+        longer.room += 1;
+        for wrong in [other, longer] {
+            let mut comparison = Comparison::default();
+            comparison.compare_writing(&wrong);
+            // Of the proved service, and of the reference.
+            assert_eq!(comparison.tally.differences, 2, "{}", writing.way);
+        }
+    }
+    let case = Case::about(text("field 31;in"));
+    let mut comparison = Comparison::default();
+    comparison.write_list("as it is read", &case, (0, 0));
+    assert_eq!(comparison.tally.differences, 0);
+    comparison.write_list("as if it were refused", &case, (7, 1));
+    assert_eq!(comparison.tally.differences, 2);
 }

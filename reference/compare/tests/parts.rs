@@ -62,6 +62,10 @@ impl<const WAY: usize> Service for Wrong<WAY> {
     fn respond(input: &[u8], output: &mut [u8]) -> usize {
         Reference::respond(input, output)
     }
+
+    fn write(words: &[u8], counts: &[usize], numbers: &[i64], buffer: &mut [u8]) -> Reply {
+        Reference::write(words, counts, numbers, buffer)
+    }
 }
 
 #[test]
@@ -92,7 +96,7 @@ fn every_gadget_has_small_lists() {
 #[test]
 fn a_refusal_that_is_never_reached_is_told() {
     let mut report = Report::begin();
-    assert_eq!(report.never_reached().len(), 13 + 16 + 17 + 18 + 16 + 1 + 16 + 1);
+    assert_eq!(report.never_reached().len(), 13 + 16 + 17 + 18 + 16 + 1 + 14 + 16 + 1);
     let mut tally = Tally::default();
     tally.count_reply("make", 18);
     report.part("one reply", tally);
