@@ -11,7 +11,7 @@ use Rattle.meaning.specs.Text.{linesOf, isEnded}
 use Rattle.meaning.specs.Line.{Line, lineOf}
 use Rattle.meaning.specs.Known.{Known, fresh}
 use Rattle.meaning.specs.Meaning.{after}
-use Rattle.meaning.specs.Refusal.{textLimit, Reading, onReading, rules, firstBroken, plain, readLine, readFrom, readingBy, reading}
+use Rattle.meaning.specs.Refusal.{textLimit, Reading, read, onReading, rules, firstBroken, plain, readLine, readFrom, readingBy, reading}
 use Rattle.meaning.specs.Number.{OddPrime}
 use Rattle.meaning.proofs.Kept.{keeps-all}
 use Rattle.meaning.proofs.Lines.{sound-after, sound-fresh}
@@ -34,6 +34,14 @@ module _ (text : List ℕ) (ended : isEnded text ≡ true) where
 
   pub lines-start : linesOf text ≡ lineAt text 0 ∷ linesFrom text (endOf text 0 + 1)
   lines-start = lines-at text 0 ended (ended-some text ended)
+
+-- p of a line 0 that is not refused is an odd prime
+pub first-is-prime : (line : List ℕ) (p : ℕ) → goes (only p) ≡ stepOption 0 fresh (lineOf line) → OddPrime p
+unfolding only
+first-is-prime line p yields =
+    let (l, kept, known, _) = gone-at 0 fresh (λ z. read [] z) (lineOf line) (only p) yields in
+    let sound = sound-after 0 fresh l sound-fresh (keeps-all 0 fresh l kept) in
+    subst OddPrime (sym (ap (λ (z : Known). z .p) known)) (sound .prime (omega arith))
 
 -- ---- the list
 
@@ -61,13 +69,6 @@ module _ (text : List ℕ) where
       module _ (p : ℕ) (yields : goes (only p) ≡ stepOption 0 fresh (lineOf line)) where
         gone : (l : Line) × (firstBroken rules 0 fresh l ≡ none) × (only p ≡ after fresh l) × (surveyOf (readLine plain 0 fresh (lineOf line) rest) ≡ surveyOf (rest (only p)))
         gone = gone-at 0 fresh rest (lineOf line) (only p) yields
-
-        pub first-is-prime : OddPrime p
-        unfolding only
-        first-is-prime =
-            let l = gone .0 in
-            let sound = sound-after 0 fresh l sound-fresh (keeps-all 0 fresh l (gone .1)) in
-            subst OddPrime (sym (ap (λ (z : Known). z .p) (gone .2))) (sound .prime (omega arith))
 
         pub survey-after : surveyOf (readFrom plain 1 (only p) later) ≡ surveyOf (reading text)
         survey-after = sym (survey-here ∙ gone .3)

@@ -13,12 +13,12 @@ use Rattle.meaning.specs.Reply.{Reply, reply, Writing, writing, written, writeR
 use Rattle.meaning.specs.Write.{Given, textOf, linesGiven}
 use Rattle.output.specs.Written.{Written}
 use Rattle.reader.specs.Read.{counted, refusedAt, surveyOf, surveyMeaning}
-use Rattle.reader.specs.declared.state.Counts.{Counts}
-use Rattle.reader.specs.declared.reading.Surveyed.{Surveyed}
-use Rattle.reader.specs.declared.reading.Surveyed.the-variants.{Counted, NotRead}
+use Rattle.reader.specs.declared.reading.Surveyed.the-variants.{NotRead}
 use Rattle.service.specs.Reply.{replyMeaning}
 use Rattle.service.specs.declared.reply.Reply.{Reply as Replied}
 use Rattle.service.proofs.ReadList.{survey-refused}
+use Rattle.writer.specs.declared.survey.Found.the-variants.{Text}
+use Rattle.writer.specs.Survey.{SurveyYield, RefusalYield}
 use Rattle.writer.specs.Claims.{Writes}
 
 -- a reply and a buffer together keep the promise of `write`
@@ -41,8 +41,14 @@ module _ (gs : List Given) (buffer : List ℕ) where
   unfolding readingBy textOf isEnded
   write-no-line e = write-refused 2 0 (rw e refl)
 
-  pub write-not-read : (x : Surveyed) → surveyMeaning x ≡ surveyOf (reading (textOf gs)) → (n i : ℕ) → x ≡ NotRead n i → writing (reply n i) buffer ≡ writeReply gs buffer
-  write-not-read x yields n i is = write-refused n i (survey-refused (textOf gs) x yields n i is)
+  -- a line is refused, where the text is not too long
+  pub write-not-read : {n i : ℕ} {r : Replied} → RefusalYield (textOf gs) n i r → (length (textOf gs) ≤ textLimit → refusedAt n i ≡ surveyOf (reading (textOf gs)))
+      → writing (replyMeaning r) buffer ≡ writeReply gs buffer
+  unfolding surveyMeaning
+  write-not-read {n} {i} {r} reply-is not-read = elim (native.Mathlib.Decide.decLt textLimit (length (textOf gs))) [
+    | yes h ↦ ap (λ (a : Reply). writing a buffer) (reply-is .over h) ∙ write-too-long h
+    | no h ↦ ap (λ (a : Reply). writing a buffer) (reply-is .within (omega arith)) ∙ write-refused n i (survey-refused (textOf gs) (NotRead n i) (not-read (omega arith)) n i refl)
+  ]
 
   -- ---- a text that is read
 
@@ -52,10 +58,10 @@ module _ (gs : List Given) (buffer : List ℕ) where
   read-by (refused n at) p v i c w e = let z : _≡_ {A = ℕ} 0 1 = cc in absurd (omega arith)
   read-by (read ls s) p v i c w e = refl
 
-  module _ (x : Surveyed) (yields : surveyMeaning x ≡ surveyOf (reading (textOf gs))) (p : ℕ) (c : Counts) (is : x ≡ Counted p c) where
+  module _ (n : ℕ) (yields : SurveyYield (Text n) (surveyOf (reading (textOf gs)))) where
     write-read : writeReply gs buffer ≡ written (textOf gs) buffer
-    unfolding writeReply surveyMeaning
-    write-read = read-by (reading (textOf gs)) p (c .values) (c .inputs) (c .cells .0) (c .rows) (ap surveyMeaning (sym is) ∙ yields)
+    unfolding writeReply SurveyYield
+    write-read = let (p, v, i, c, w, e) = yields in read-by (reading (textOf gs)) p v i c w e
 
     pub write-no-room : length buffer < length (textOf gs) → writing (reply 21 0) buffer ≡ writeReply gs buffer
     unfolding written

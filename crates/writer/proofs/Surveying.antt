@@ -4,14 +4,15 @@ use mathlib.Core.Path.{_≡_, refl, sym, ap, subst, _∙_}
 use mathlib.Core.Bool.{true}
 use mathlib.Core.List.{List, [], _∷_, map}
 use mathlib.Core.Option.{none, some}
-use Prim.Native.Nat.{ℕ, _+_, _-_, _≤_, _<_}
+use Prim.Native.Nat.{ℕ, suc, _+_, _-_, _≤_, _<_}
 use native.Mathlib.Omega.{arith}
-use lib.ListN.{length, getD, take, drop, length-drop}
+use lib.ListN.{length, getD, take, drop, length-append, length-drop}
 use lib.Seq.{length-take-le, getD-take}
 use lib.IntN.{ℤ, pos}
 use Rattle.meaning.specs.Text.{linesOf, isEnded}
 use Rattle.meaning.specs.Line.{lineOf}
-use Rattle.meaning.specs.Write.{given, wordWith, givenText, textOf, linesGiven}
+use Rattle.meaning.specs.Refusal.{textLimit}
+use Rattle.meaning.specs.Write.{Given, given, wordWith, givenText, textOf, linesGiven}
 use Rattle.text.specs.Word.{wordOf}
 use Rattle.text.specs.declared.Word.{Word}
 use Rattle.text.proofs.Answers.{good-line}
@@ -20,10 +21,12 @@ use Rattle.reader.specs.Step.{ParsedLine}
 use Rattle.reader.specs.declared.state.Counts.{Counts}
 use Rattle.reader.proofs.Walk.{Walking}
 use Rattle.writer.specs.Given.{fromTo, leftAt, LineFound}
-use Rattle.writer.specs.Line.{WordYield, LineYield}
+use Rattle.writer.specs.Measure.{Longer}
+use Rattle.writer.specs.Survey.{Limited}
+use Rattle.writer.specs.Line.{mostLine, ReadableYield, LineYield}
 use Rattle.writer.specs.declared.given.GivenLine.{GivenLine}
-use Rattle.writer.specs.declared.line.Taken.{Taken}
-use Rattle.writer.specs.declared.line.Taken.the-variants.{Line, NoLine}
+use Rattle.writer.specs.declared.line.Readable.{Readable}
+use Rattle.writer.specs.declared.line.Readable.the-variants.{Line, NoLine}
 use Rattle.meaning.proofs.Write.{lines-given}
 use Rattle.writer.proofs.Texts.{none-left, text-ended}
 
@@ -55,18 +58,23 @@ module _ {codes counts : List ℕ} {numbers : List ℤ} {l : GivenLine} (found :
 
 -- ---- a line that was taken
 
-module _ {line : List ℕ} {count size : ℕ} {after : List ℤ} {r : Taken} (taken : LineYield line size after r) (counted : size ≡ count) where
+module _ {line : List ℕ} {count size : ℕ} {after : List ℤ} {r : Readable} (taken : LineYield line size after r) (counted : size ≡ count) where
   pub none-taken : r ≡ NoLine → lineOf line ≡ none
-  unfolding WordYield
+  unfolding ReadableYield
   none-taken q = rw q at (taken .yields)
 
-  module _ {w : Word} (q : r ≡ Line w) where
+  module _ {w : Word} {bytes : ℕ} (q : r ≡ Line w bytes) where
     pub taken-is : lineOf line ≡ some (lineWith (wordOf w) (take count after))
-    unfolding WordYield
+    unfolding ReadableYield
     taken-is = rw (← counted) (rw q at (taken .yields) .0)
 
+    -- its bytes, with the one that ends it
+    pub taken-bytes : (bytes ≡ suc (length line)) × (bytes ≤ mostLine)
+    unfolding ReadableYield
+    taken-bytes = let yields = rw q at (taken .yields) in (yields .2, yields .3)
+
     pub taken-parsed : ParsedLine w count after
-    unfolding WordYield
+    unfolding ReadableYield
     taken-parsed =
         let good = good-line line taken-is in
         record {
@@ -76,9 +84,41 @@ module _ {line : List ℕ} {count size : ℕ} {after : List ℤ} {r : Taken} (ta
           small = λ i h. rw (getD-take count after i (pos 0) h) at (good .small i);
         }
 
+-- ---- the bytes of the text
+
+-- a total of the bytes so far, of a text of which so many are left; it counts no further above the limit
+pub record Counting (whole total left : ℕ) : Type 0 where
+  pub within : total ≤ textLimit → whole ≡ total + left
+  pub over : textLimit < total → textLimit < whole
+
+pub counting-start : (before left : ℕ) → Counting (before + left) before left
+counting-start before left = record { within = λ _. refl; over = λ h. omega arith }
+
+pub counting-end : {whole total left : ℕ} → Counting whole total left → left ≡ 0 → Limited total whole
+counting-end c e = record { within = λ h. omega (arith, c .within h); over = c .over }
+
+pub counting-next : {whole total left size next after : ℕ} → Counting whole total left → Longer total size after → left ≡ size + next → Counting whole after next
+counting-next {whole} {total} {left} {size} {next} {after} c more e = elim (native.Mathlib.Decide.decLt textLimit total) [
+  | yes h ↦ record { within = λ k. absurd (omega (arith, more .over h)); over = λ _. c .over h }
+  | no h ↦ record { within = λ _. omega (arith, c .within (omega arith), more .within (omega arith)); over = λ k. omega (arith, c .within (omega arith), more .within (omega arith)) }
+]
+
+-- the bytes of a line, and those of the lines after it
+pub bytes-here : {codes counts : List ℕ} {numbers : List ℤ} {i at : ℕ} {l : GivenLine} → LineFound codes counts numbers i at l
+    → {bytes : ℕ} → bytes ≡ suc (length (givenText (given (wordWith (l .code)) (fromTo numbers (l .start) (l .end)))))
+    → length (textOf (leftAt codes counts numbers i at)) ≡ bytes + length (textOf (leftAt codes counts numbers (i + 1) (l .end)))
+unfolding textOf
+bytes-here {codes} {counts} {numbers} {i} {at} {l} found e =
+    let line = givenText (given (wordWith (l .code)) (fromTo numbers (l .start) (l .end))) in
+    let rest = textOf (leftAt codes counts numbers (i + 1) (l .end)) in
+    ap (λ (gs : List Given). length (textOf gs)) (found .is) ∙ omega (arith, length-append line (10 ∷ rest))
+
 -- ---- the walk
 
--- before line n, whose numbers start at `at`, of lines whose line 1 has its numbers from `from` on
-pub record WalkedGiven (codes counts : List ℕ) (numbers : List ℤ) (from p : ℕ) (taken lows highs : List ℤ) (places : List ℕ) (c : Counts) (at n : ℕ) : Type 0 where
+-- before line n, whose numbers start at `at`, of lines whose line 1 has its numbers from `from` on, with so many bytes before line 1 and a total of
+-- those before line n
+pub record WalkedGiven (codes counts : List ℕ) (numbers : List ℤ) (from p before : ℕ) (taken lows highs : List ℤ) (places : List ℕ) (c : Counts) (total at n : ℕ)
+    : Type 0 where
   pub inside : at ≤ length numbers
+  pub bytes : Counting (before + length (textOf (leftAt codes counts numbers 1 from))) total (length (textOf (leftAt codes counts numbers n at)))
   pub walking : Walking (map givenText (leftAt codes counts numbers 1 from)) (map givenText (leftAt codes counts numbers n at)) p taken lows highs places c n

@@ -48,13 +48,13 @@ not-below : (k n : ℕ) → NoneBelow k n → k ≤ n
 not-below zero n h = omega arith
 not-below (suc k) n h = omega (arith, not-below k n (h .0), h .1)
 
-pub no-word-with : (code : ℕ) → NoneBelow 8 code → wordWith code ≡ none
+pub no-word : (code : ℕ) → NoneBelow 8 code → wordWith code ≡ none
 unfolding wordWith words
-no-word-with code h = element-past words code (not-below 8 code h)
+no-word code h = element-past words code (not-below 8 code h)
 
-pub no-word : (code : ℕ) → NoneBelow 8 code → wordText (wordWith code) ≡ []
+pub no-word-text : (code : ℕ) → NoneBelow 8 code → wordText (wordWith code) ≡ []
 unfolding wordText
-no-word code h = ap wordText (no-word-with code h)
+no-word-text code h = ap wordText (no-word code h)
 
 pub word-most : (w : Option Word) → length (wordText w) ≤ 5
 unfolding wordText all words kindOf bytes

@@ -3,4 +3,5 @@
 pub mod Given
 pub mod Measure
 pub mod Line
+pub mod Survey
 pub mod Claims

@@ -1,5 +1,5 @@
-// Writes a list that is given as words and numbers: the text of the format, or the refusal that this text would get. The text is measured, the lines
-// are read, and only when nothing is refused is the buffer written; the text stands nowhere but there.
+// Writes a list that is given as words and numbers: the text of the format, or the refusal that this text would get. The lines are read and their bytes
+// counted, and only when nothing is refused is the buffer written; the text stands nowhere but there.
 mod given;
 mod line;
 mod lines;
@@ -8,10 +8,13 @@ mod survey;
 
 use lines::write_text;
 use measure::Length;
+use measure::TEXT_LIMIT;
 use measure::text_length;
-use reader::Surveyed;
 use service::Reply;
+use survey::Found;
 use survey::survey_given;
+ghost use Rattle.meaning.specs.Write.{textOf, linesGiven};
+ghost use Rattle.writer.specs.Survey.{RefusalYield};
 ghost use Rattle.writer.specs.Claims.{Writes};
 
 // The public call: for all lines and every buffer the reply of the definitions, and the buffer that it leaves.
@@ -19,12 +22,6 @@ ghost use Rattle.writer.specs.Claims.{Writes};
 pub fn write(words: &[u8], counts: &[usize], numbers: &[i64], buffer: &mut [u8]) -> Reply
     ensures { λ r. ⌜ Writes (now (words .entry)) (now (counts .entry)) (now (numbers .entry)) (now (buffer .entry)) r (now (buffer .exit)) ⌝ }
 {
-    let Length::Of(length) = text_length(words, counts, numbers) else {
-        return Reply {
-            number: 1,
-            place: 0,
-        };
-    };
     if words.len() == 0 {
         return Reply {
             number: 2,
@@ -32,20 +29,48 @@ pub fn write(words: &[u8], counts: &[usize], numbers: &[i64], buffer: &mut [u8])
         };
     }
     let found = survey_given(words, counts, numbers);
-    if let Surveyed::NotRead(number, place) = found {
-        return Reply {
-            number: number,
-            place: place,
-        };
+    match found {
+        Found::NotRead(number, place) => first_refusal(words, counts, numbers, number, place),
+        Found::Text(length) => {
+            if TEXT_LIMIT < length {
+                return Reply {
+                    number: 1,
+                    place: 0,
+                };
+            }
+            if buffer.len() < length {
+                return Reply {
+                    number: 21,
+                    place: 0,
+                };
+            }
+            Reply {
+                number: 0,
+                place: write_text(buffer, words, counts, numbers),
+            }
+        }
     }
-    if buffer.len() < length {
+}
+
+// The refusal of lines of which one is refused: a text that is too long is refused before any line is read. It is measured here alone, as a list that
+// is read has its bytes counted on the way. FORMAT 10.1, 13.1
+fn first_refusal(
+    words: &[u8],
+    counts: &[usize],
+    numbers: &[i64],
+    number: u32,
+    place: usize,
+) -> Reply
+    ensures { λ r. ⌜ RefusalYield (textOf (linesGiven (now (words .entry)) (now (counts .entry)) (now (numbers .entry)))) number place r ⌝ }
+{
+    let Length::Of(_) = text_length(words, counts, numbers) else {
         return Reply {
-            number: 21,
+            number: 1,
             place: 0,
         };
-    }
+    };
     Reply {
-        number: 0,
-        place: write_text(buffer, words, counts, numbers),
+        number: number,
+        place: place,
     }
 }

@@ -1,5 +1,4 @@
-// How long the text of given lines is. It is measured before any line is read, and only up to the limit of a text: so no sum overflows, however
-// many numbers there are.
+// How long the text of given lines is. It is measured only up to the limit of a text: so no sum overflows, however many numbers there are.
 use super::given::line_at;
 use number::whole::whole_at;
 use output::number_length;
@@ -9,10 +8,11 @@ ghost use lib.ListN.{length};
 ghost use Rattle.meaning.specs.Refusal.{textLimit};
 ghost use Rattle.meaning.specs.Write.{given, wordWith, wordText, textOf, linesGiven};
 ghost use Rattle.writer.specs.Given.{lineText};
-ghost use Rattle.writer.specs.Measure.{LengthYield};
+ghost use Rattle.writer.specs.Line.{mostLine};
+ghost use Rattle.writer.specs.Measure.{LengthYield, Longer};
 
 // A text of more bytes is refused. FORMAT 4.8
-const TEXT_LIMIT: usize = 65536;
+pub const TEXT_LIMIT: usize = 65536;
 
 // How many bytes a text has, where it is no longer than a text may be.
 pub enum Length {
@@ -21,7 +21,7 @@ pub enum Length {
 }
 
 // How many bytes spell the word with this code. FORMAT 3.1, 9.24
-fn word_length(code: u8) -> usize
+pub fn word_length(code: u8) -> usize
     ensures { λ r. ⌜ r ≡ length (wordText (wordWith code)) ⌝ }
 {
     match code {
@@ -55,6 +55,17 @@ fn line_length(code: u8, numbers: &[i64], before: usize) -> Length
         return Length::TooLong;
     }
     Length::Of(total)
+}
+
+// A length with that of one more line, where it is not above the limit already.
+pub fn longer(total: usize, size: usize) -> usize
+    requires { ⌜ size ≤ mostLine ⌝ }
+    ensures { λ r. ⌜ Longer total size r ⌝ }
+{
+    if TEXT_LIMIT < total {
+        return total;
+    }
+    total + size
 }
 
 // The length of all lines. FORMAT 9.26, 10.1

@@ -77,7 +77,7 @@ survey-from-requires c κs =
       ended at-if2′,
       omega (arith, second at-first),
       omega (arith, within, second at-first),
-      first-is-prime text short (ended at-if2′) (lines-start text (ended at-if2′)) _ (first-read at-first (prime .1)),
+      first-is-prime _ _ (first-read at-first (prime .1)),
       rw (prime .1) at (at-first .first-parsed .ensures .1),
       search needs,
     )

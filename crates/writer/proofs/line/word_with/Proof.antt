@@ -5,13 +5,13 @@ use Rattle.meaning.specs.Word.{words}
 use Rattle.meaning.specs.Write.{elementAt, wordWith}
 use Rattle.text.specs.Word.{wordOf}
 use Rattle.writer.specs.Line.{codedMeaning}
-use Rattle.writer.proofs.Texts.{no-word-with}
+use Rattle.writer.proofs.Texts.{no-word}
 use Rattle.writer.proofs.line.word_with.Statement.{statement}
 use Rattle.writer.proofs.line.word_with.Tie as tie
 
 returns-9 : tie.Need-returns-9
 unfolding codedMeaning
-returns-9 c = sym (no-word-with (c .before .args .code) (c .match .rest))
+returns-9 c = sym (no-word (c .before .args .code) (c .match .rest))
 
 pub word-with-spec : {M : Type 1} → statement M
 unfolding codedMeaning wordOf wordWith elementAt words

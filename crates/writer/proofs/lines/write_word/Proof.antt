@@ -4,7 +4,7 @@ use borrow.Author.Needs.{needs}
 use Rattle.meaning.specs.Text.{bytes}
 use Rattle.meaning.specs.Word.{kindOf, words}
 use Rattle.meaning.specs.Write.{elementAt, wordWith, wordText}
-use Rattle.writer.proofs.Texts.{no-word}
+use Rattle.writer.proofs.Texts.{no-word-text}
 use Rattle.writer.proofs.lines.write_word.Statement.{statement}
 use Rattle.writer.proofs.lines.write_word.Tie as tie
 
@@ -45,4 +45,4 @@ write-word-spec =
     (λ c. rw (c .before .before .before .before .before .match .keys7) (c .before .before .write-bytes7 .ensures))
     (λ c. search needs)
     (λ c. rw (c .before .before .before .before .before .match .keys8) (c .before .before .write-bytes8 .ensures))
-    (λ c. rw (no-word (c .before .before .args .code) (c .match .rest)) (record { stands = refl; counted = refl })))
+    (λ c. rw (no-word-text (c .before .before .args .code) (c .match .rest)) (record { stands = refl; counted = refl })))

@@ -4,7 +4,7 @@ use lib.ListN.{length}
 use Rattle.meaning.specs.Text.{bytes}
 use Rattle.meaning.specs.Word.{kindOf, words}
 use Rattle.meaning.specs.Write.{elementAt, wordWith, wordText}
-use Rattle.writer.proofs.Texts.{no-word}
+use Rattle.writer.proofs.Texts.{no-word-text}
 use Rattle.writer.proofs.measure.word_length.Statement.{statement}
 use Rattle.writer.proofs.measure.word_length.Tie as tie
 
@@ -21,4 +21,4 @@ word-length-spec =
     (λ c. rw (c .match .keys6))
     (λ c. rw (c .match .keys7))
     (λ c. rw (c .match .keys8))
-    (λ c. sym (ap length (no-word (c .before .args .code) (c .match .rest)))))
+    (λ c. sym (ap length (no-word-text (c .before .args .code) (c .match .rest)))))
