@@ -1,5 +1,6 @@
--- Writing a number's digits from the last to the first: what is known before each digit, how it is written, and what is known at the end.
-use mathlib.Core.Path.{_≡_, refl, sym, ap, _∙_}
+-- Writing a number's digits: one or two at once, and more from the last to the first, with what is known before each digit, how it is written, and what
+-- is known at the end.
+use mathlib.Core.Path.{_≡_, refl, sym, ap, subst, _∙_}
 use mathlib.Core.List.{List, [], _∷_, _++_, append-assoc}
 use Prim.Native.Nat.{ℕ, suc, _+_, _-_, _/_, _%_, _≤_, _<_}
 use native.Mathlib.Omega.{arith}
@@ -7,6 +8,8 @@ use native.Mathlib.Numerals.{add-one}
 use lib.ListN.{length, drop, set, length-set}
 use lib.Seq.{drop-cons, drop-set-lt, getD-set-same}
 use Rattle.meaning.specs.Text.{decimalOf}
+use Rattle.output.specs.Written.{Written}
+use Rattle.output.proofs.Writing.{nothing-written, written-byte}
 use Rattle.meaning.proofs.Decimal.{decimal-short, decimal-long, length-short, length-long, some-digit}
 
 -- the digits of rest are to be written up to the one at `at`; those after it stand
@@ -51,3 +54,22 @@ module _ {n : ℕ} {before part : List ℕ} {rest at : ℕ} (f : Filling n befor
       let inside = f .within in
       let all : set part at (48 + rest) ≡ (48 + rest) ∷ drop (at + 1) part = rw first (drop-set part 0 (48 + rest) (omega arith)) in
       all ∙ ap (λ (ds : List ℕ). ds ++ drop (at + 1) part) (sym (decimal-short rest h)) ∙ f .stands
+
+-- ---- one digit, and two
+
+pub one-written : {n : ℕ} {before : List ℕ} → n < 10 → length (decimalOf n) ≤ length before → Written (decimalOf n) before (set before 0 (48 + n)) 1
+one-written {n} {before} h room =
+    subst (λ (ds : List ℕ). Written ds before (set before 0 (48 + n)) 1) (sym (decimal-short n h))
+    (written-byte (48 + n) (nothing-written before) (omega (arith, length-short n h)))
+
+pub two-digits : (n : ℕ) → 10 ≤ n → n < 100 → length (decimalOf n) ≡ 2
+two-digits n h k = omega (arith, length-long n h, length-short (n / 10) (omega arith))
+
+pub two-written : {n : ℕ} {before : List ℕ} → 10 ≤ n → n < 100 → length (decimalOf n) ≤ length before
+    → Written (decimalOf n) before (set (set before 0 (48 + n / 10)) 1 (48 + n % 10)) 2
+two-written {n} {before} h k room =
+    let size = two-digits n h k in
+    let first = written-byte (48 + n / 10) (nothing-written before) (omega arith) in
+    subst (λ (ds : List ℕ). Written ds before (set (set before 0 (48 + n / 10)) 1 (48 + n % 10)) 2)
+    (sym (decimal-long n h ∙ ap (λ (ds : List ℕ). ds ++ (48 + n % 10) ∷ []) (decimal-short (n / 10) (omega arith))))
+    (written-byte (48 + n % 10) first (omega arith))

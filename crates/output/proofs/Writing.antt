@@ -28,7 +28,10 @@ written-next {xs} {ys} {before} {first} {last} {n} {m} w v = record {
 pub written-length : {xs before after : List ℕ} {n : ℕ} → Written xs before after n → length xs ≤ length before → length after ≡ length before
 written-length {xs} {before} w h = ap length (w .stands) ∙ omega (arith, length-append xs (drop (length xs) before), length-drop (length xs) before)
 
--- ---- one byte after a text
+-- ---- one byte after a text, or after nothing
+
+pub nothing-written : (before : List ℕ) → Written [] before before 0
+nothing-written before = record { stands = refl; counted = refl }
 
 pub byte-room : (xs : List ℕ) (byte : ℕ) (before : List ℕ) → length (xs ++ byte ∷ []) ≤ length before → length xs < length before
 byte-room xs byte before h = omega (arith, length-append xs (byte ∷ []))

@@ -26,10 +26,16 @@ pub fn write_bytes(part: &mut [u8], text: &[u8]) -> usize
 
 // ---- a number as it is written: its decimal digits, without a leading zero
 
-// How many digits it has.
+// How many digits it has. Most numbers have one or two, which need no division.
 pub fn decimal_length(n: u64) -> usize
     ensures { λ r. ⌜ r ≡ length (decimalOf n) ⌝ }
 {
+    if n < 10 {
+        return 1;
+    }
+    if n < 100 {
+        return 2;
+    }
     let mut rest = n;
     let mut count: usize = 1;
     while 10 <= rest {
@@ -39,11 +45,20 @@ pub fn decimal_length(n: u64) -> usize
     count
 }
 
-// Writes the digits, the last first: each is what division by 10 leaves.
+// Writes the digits, the last first: each is what division by 10 leaves. One or two, as most numbers have, are written at once.
 pub fn write_decimal(part: &mut [u8], n: u64) -> usize
     requires { ⌜ length (decimalOf n) ≤ length (now part) ⌝ }
     ensures { λ r. ⌜ Written (decimalOf n) (now (part .entry)) (now (part .exit)) r ⌝ }
 {
+    if n < 10 {
+        part[0] = ZERO + n as u8;
+        return 1;
+    }
+    if n < 100 {
+        part[0] = ZERO + (n / 10) as u8;
+        part[1] = ZERO + (n % 10) as u8;
+        return 2;
+    }
     let count = decimal_length(n);
     let mut rest = n;
     let mut at = count - 1;

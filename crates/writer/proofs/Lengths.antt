@@ -20,7 +20,7 @@ use Rattle.writer.specs.declared.given.GivenLine.{GivenLine}
 use Rattle.writer.specs.declared.measure.Length.the-variants.{Of, TooLong}
 use Rattle.writer.specs.Given.{lineText, leftAt, LineFound}
 use Rattle.writer.specs.Measure.{LengthYield}
-use Rattle.writer.proofs.Texts.{parts-of, parts-length, word-most, fieldsEnded, line-parts, tab-parts, number-parts, end-parts, foundText, lines-parts, no-lines}
+use Rattle.writer.proofs.Texts.{parts-of, parts-length, word-most, fieldsEnded, line-parts, field-parts, end-parts, foundText, lines-parts, no-lines}
 
 -- ---- the length of a number
 
@@ -50,7 +50,7 @@ module _ {word : Option Word} {numbers : List ℤ} {before total i : ℕ} (m : M
       → MeasuringLine word numbers before (total + (1 + size)) (i + 1)
   line-turn h few e short = record {
     few = omega arith;
-    sum = omega (arith, m .sum, parts-length (tab-parts numbers i h), parts-length (number-parts numbers i));
+    sum = omega (arith, m .sum, parts-length (field-parts numbers i h));
   }
 
   pub line-over : textLimit < total → LengthYield (before + length (lineText (given word numbers))) TooLong

@@ -72,16 +72,13 @@ unfolding givenText
 line-parts w ns = record { joined = append-assoc (wordText w) (fieldsText ns) (10 ∷ []) }
 
 module _ (ns : List ℤ) (i : ℕ) where
-  pub tab-parts : i < length ns → Parts (fieldsEnded (drop i ns)) (9 ∷ []) (numberText (getD ns i (pos 0)) ++ fieldsEnded (drop (i + 1) ns))
+  pub field-parts : i < length ns → Parts (fieldsEnded (drop i ns)) (9 ∷ numberText (getD ns i (pos 0))) (fieldsEnded (drop (i + 1) ns))
   unfolding fieldsText
-  tab-parts h = record {
+  field-parts h = record {
     joined =
         rw (drop-cons ns i (pos 0) h, add-one i)
         (ap (λ (t : List ℕ). 9 ∷ t) (append-assoc (numberText (getD ns i (pos 0))) (fieldsText (drop (suc i) ns)) (10 ∷ [])));
   }
-
-  pub number-parts : let number = numberText (getD ns i (pos 0)) in let rest = fieldsEnded (drop (i + 1) ns) in Parts (number ++ rest) number rest
-  number-parts = parts-of (numberText (getD ns i (pos 0))) (fieldsEnded (drop (i + 1) ns))
 
   pub end-parts : length ns ≤ i → Parts (fieldsEnded (drop i ns)) (10 ∷ []) []
   unfolding fieldsText

@@ -68,7 +68,7 @@ fn is_sized(x: Whole) -> bool
     size <= LARGEST
 }
 
-// The bytes of one number and its tab. A number of one digit, of which there are most, is told by one test, which both signs pass up to 8 above it.
+// The bytes of one number and its tab. A number of one digit, of which there are most, is told by one test, which both signs pass.
 fn field_length(x: Whole) -> FieldBytes
     ensures { λ r. ⌜ FieldBytesYield (x .0 ∷ []) r ⌝ }
 {

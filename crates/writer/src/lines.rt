@@ -1,11 +1,16 @@
 // The text of given lines, written at the start of a part that has room for it: each line's word, its numbers with a tab before each, and the byte
 // that ends the line. FORMAT 2.9
 use super::given::line_at;
+use number::Whole;
+use number::whole::is_negative;
+use number::whole::magnitude;
 use number::whole::whole_at;
 use output::write_bytes;
 use output::write_number;
+ghost use mathlib.Core.List.{_∷_};
 ghost use Prim.Native.Nat.{_≤_};
 ghost use lib.ListN.{length};
+ghost use Rattle.meaning.specs.Text.{numberText};
 ghost use Rattle.meaning.specs.Write.{given, wordWith, wordText, textOf, linesGiven};
 ghost use Rattle.output.specs.Written.{Written};
 ghost use Rattle.writer.specs.Given.{lineText};
@@ -13,6 +18,12 @@ ghost use Rattle.writer.specs.Given.{lineText};
 const TAB: u8 = 9;
 
 const LINE_END: u8 = 10;
+
+const MINUS: u8 = 45;
+
+const ZERO: u8 = 48;
+
+const ONE: u8 = 49;
 
 // Writes the word with this code, and nothing for a code that no word has. FORMAT 3.1, 9.24
 fn write_word(part: &mut [u8], code: u8) -> usize
@@ -32,6 +43,25 @@ fn write_word(part: &mut [u8], code: u8) -> usize
     }
 }
 
+// Writes a tab and a number. A number of one digit, of which there are most, is told by one test, which both signs pass.
+fn write_tabbed(part: &mut [u8], x: Whole) -> usize
+    requires { ⌜ length (9 ∷ numberText (x .0)) ≤ length (now part) ⌝ }
+    ensures { λ r. ⌜ Written (9 ∷ numberText (x .0)) (now (part .entry)) (now (part .exit)) r ⌝ }
+{
+    part[0] = TAB;
+    let size = magnitude(x);
+    if size < 9 {
+        if is_negative(x) {
+            part[1] = MINUS;
+            part[2] = ONE + size as u8;
+            return 3;
+        }
+        part[1] = ZERO + size as u8;
+        return 2;
+    }
+    1 + write_number(&mut part[1..], x)
+}
+
 // Writes a line with this word and these numbers.
 fn write_line(part: &mut [u8], code: u8, numbers: &[i64]) -> usize
     requires { ⌜ length (lineText (given (wordWith code) (now numbers))) ≤ length (now part) ⌝ }
@@ -40,9 +70,7 @@ fn write_line(part: &mut [u8], code: u8, numbers: &[i64]) -> usize
     let mut at = write_word(part, code);
     let mut i: usize = 0;
     while i < numbers.len() {
-        part[at] = TAB;
-        at += 1;
-        at += write_number(&mut part[at..], whole_at(numbers, i));
+        at += write_tabbed(&mut part[at..], whole_at(numbers, i));
         i += 1;
     }
     part[at] = LINE_END;
