@@ -6,3 +6,4 @@ pub mod Begun
 pub mod Taking
 pub mod Surveying
 pub mod Replies
+pub mod Claims
