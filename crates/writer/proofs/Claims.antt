@@ -5,26 +5,30 @@ use mathlib.Core.Path.{_≡_, refl, sym, ap, ap₂, _∙_}
 use mathlib.Core.Bool.{Bool, true, false, cond}
 use mathlib.Core.Logic.{_⊎_, inl, inr, _↔_}
 use mathlib.Core.List.{List, [], _∷_, _++_, map}
-use mathlib.Core.Option.{Option, some, Option·none-ne-some, Option·some-injective}
+use mathlib.Core.Option.{Option, some, Option·none-ne-some}
 use borrow.Author.Tests.{le-leb}
-use lib.Dec.{leb, leb→le, nleb→lt}
+use lib.Dec.{T, leb, ltb, leb→le, le→leb, nleb→lt}
 use lib.ListN.{length, take, drop, length-append, length-drop}
 use lib.Seq.{take-at, drop-at}
-use lib.IntN.{ℤ}
-use Rattle.algebra.proofs.Test.{cond-cases, false-test}
-use Rattle.meaning.specs.Text.{sameBytes}
-use Rattle.meaning.specs.Word.{Word, kindOf, words}
-use Rattle.meaning.specs.Line.{Line, wordAmong}
-use Rattle.meaning.specs.Refusal.{onReading, reading}
+use lib.IntN.{ℤ, natAbs}
+use Rattle.algebra.proofs.Test.{both, left, right, ≡-test, false-test, cond-cases}
+use Rattle.meaning.specs.Text.{bytes, sameBytes, largest, linesOf}
+use Rattle.meaning.specs.Word.{Word, kindOf, words, mostNumbers}
+use Rattle.meaning.specs.Line.{Line, wordAmong, lineOf}
+use Rattle.meaning.specs.Known.{Known}
+use Rattle.meaning.specs.Refusal.{all, read, onReading, reading}
 use Rattle.meaning.specs.Reply.{reply, Writing, writing, written, writeReply}
 use Rattle.meaning.specs.Reply.{Reply as Meant}
-use Rattle.meaning.specs.Write.{Given, givenOf, elementAt, wordWith, lineGiven, linesGiven, textOf}
-use Rattle.meaning.proofs.Words.{among-spelling}
+use Rattle.meaning.specs.Write.{Given, givenOf, givenText, elementAt, wordWith, lineGiven, linesGiven, textOf}
+use Rattle.meaning.proofs.Words.{every-word, among-spelling}
+use Rattle.meaning.proofs.Reading.{reads-exactly}
 use Rattle.meaning.proofs.Accepted.{refused-not-zero, by-reading}
-use Rattle.meaning.proofs.Write.{writes-back as meant-back, is-read-back as meant-read-back, one-spelling as meant-once}
+use Rattle.meaning.proofs.Write.{lines-given, writes-back as meant-back, is-read-back as meant-read-back}
 use Rattle.service.specs.Reply.{replyMeaning}
 use Rattle.service.specs.declared.reply.Reply.{Reply}
-use Rattle.writer.specs.Claims.{Writes, codeAmong, codeOf, codesOf, countsOf, allNumbers, EachListCanBeGiven, WritesBack, IsReadBack, OneSpelling, RefusedAsItsText, ShortBuffers, RefusedWritingChangesNothing, LeavesTheRest}
+use Rattle.writer.specs.Line.{allSized}
+use Rattle.writer.specs.Claims.{Writes, codeAmong, codeOf, codesOf, countsOf, allNumbers, EachListCanBeGiven, RowsOfReadListsFit, WritesBack, IsReadBack, OneSpelling, RefusedAsItsText, ShortBuffers, RefusedWritingChangesNothing, LeavesTheRest}
+use Rattle.writer.proofs.Taking.{counted-most, no-count-line, no-size-line}
 
 -- ---- rows for every list
 
@@ -57,19 +61,6 @@ each-list-can-be-given (l ∷ ls) =
     ap₂ (λ (g : Given) (gs : List Given). g ∷ gs) (line-given l (allNumbers ls))
     (rw (drop-at (l .numbers) (allNumbers ls) (length (l .numbers)) refl) (each-list-can-be-given ls))
 
--- rows give one list
-given-once : (ls ms : List Line) → map givenOf ls ≡ map givenOf ms → ls ≡ ms
-unfolding givenOf
-given-once [] [] e = refl
-given-once [] (m ∷ ms) e = let z : _≡_ {A = ℕ} 0 1 = cc in absurd (omega arith)
-given-once (l ∷ ls) [] e = let z : _≡_ {A = ℕ} 0 1 = cc in absurd (omega arith)
-given-once (l ∷ ls) (m ∷ ms) e =
-    let first : givenOf l ≡ givenOf m = cc in
-    let later : map givenOf ls ≡ map givenOf ms = cc in
-    let w : l .word ≡ m .word = Option·some-injective _ _ (ap (λ (g : Given). g .word) first) in
-    let same : l ≡ m = ap₂ (λ (v : Word) (ns : List ℤ). record { word = v; numbers = ns }) w (ap (λ (g : Given). g .numbers) first) in
-    ap₂ (λ (k : Line) (ks : List Line). k ∷ ks) same (given-once ls ms later)
-
 -- ---- how a writing comes out: a refusal that leaves the buffer, or the text and what was after it
 
 module _ (text buffer : List ℕ) where
@@ -101,6 +92,71 @@ unfolding writeReply onReading
 write-outcome gs buffer = by-reading (textOf gs)
     (λ n i q. rw q (inl (refused-not-zero (textOf gs) n i q, refl)))
     (λ ls s q. rw q (written-outcome (textOf gs) buffer))
+
+-- the text of the lines that a text is read as is that text
+text-again : (text : List ℕ) (ls : List Line) (s : Known) → reading text ≡ read ls s → textOf (map givenOf ls) ≡ text
+text-again text ls s e = by (write-outcome (map givenOf ls) text)
+  where
+    t : List ℕ
+    t = textOf (map givenOf ls)
+
+    back : writeReply (map givenOf ls) text ≡ writing (reply 0 (length text)) (text ++ drop (length text) text)
+    back = meant-back text ls s text e (omega arith)
+
+    by : Outcome t text (writeReply (map givenOf ls) text) → t ≡ text
+    by (inl h) = absurd (omega (arith, h .0, ap (λ (w : Writing). w .answer .number) back))
+    by (inr h) =
+        sym (take-at t (drop (length t) text) (length t) refl)
+        ∙ ap (λ (w : Writing). take (w .answer .place) (w .buffer)) (sym (h .0) ∙ back)
+        ∙ take-at text (drop (length text) text) (length text) refl
+
+-- ---- the rows of a list that is read
+
+all-append : {A : Type 0} (f : A → Bool) (xs ys : List A) → T (all f xs) → T (all f ys) → T (all f (xs ++ ys))
+unfolding all
+all-append f [] ys t u = u
+all-append f (x ∷ xs) ys t u = both (f x) (all f (xs ++ ys)) (left (f x) (all f xs) t) (all-append f xs ys (right (f x) (all f xs) t) u)
+
+code-fits : (w : Word) → T (ltb (codeOf w) 256)
+unfolding codeOf codeAmong all words kindOf bytes sameBytes
+code-fits w = ≡-test (ltb (codeOf w) 256) (every-word (λ v. ltb (codeOf v) 256) refl w)
+
+-- a line that its own text spells has no more numbers than the most, of sizes that are allowed
+count-fits : (l : Line) → lineOf (givenText (givenOf l)) ≡ some l → T (leb (length (l .numbers)) mostNumbers)
+unfolding givenOf
+count-fits l e = by (kindOf (l .word) .isCounted (l .numbers)) refl
+  where
+    by : (b : Bool) → kindOf (l .word) .isCounted (l .numbers) ≡ b → T (leb (length (l .numbers)) mostNumbers)
+    by true q = le→leb (length (l .numbers)) mostNumbers (counted-most (l .word) (l .numbers) q)
+    by false q = absurd (Option·none-ne-some _ (sym (no-count-line (l .numbers) refl q) ∙ e))
+
+sizes-fit : (l : Line) → lineOf (givenText (givenOf l)) ≡ some l → T (allSized (l .numbers))
+unfolding givenOf
+sizes-fit l e = by (allSized (l .numbers)) refl
+  where
+    by : (b : Bool) → allSized (l .numbers) ≡ b → T b
+    by true q = tt
+    by false q = absurd (Option·none-ne-some _ (sym (no-size-line (l .numbers) refl q) ∙ e))
+
+abbrev RowsFit : List Line → Type 0
+RowsFit ls = T (all (λ code. ltb code 256) (codesOf ls)) × T (all (λ n. leb n mostNumbers) (countsOf ls)) × T (allSized (allNumbers ls))
+
+lines-fit : (ls : List Line) → map lineOf (map givenText (map givenOf ls)) ≡ map some ls → RowsFit ls
+unfolding codesOf countsOf allNumbers allSized all
+lines-fit [] e = (tt, tt, tt)
+lines-fit (l ∷ ls) e =
+    let first : lineOf (givenText (givenOf l)) ≡ some l = cc in
+    let later : map lineOf (map givenText (map givenOf ls)) ≡ map some ls = cc in
+    let (codes, counts, sizes) = lines-fit ls later in (
+      both (ltb (codeOf (l .word)) 256) _ (code-fits (l .word)) codes,
+      both (leb (length (l .numbers)) mostNumbers) _ (count-fits l first) counts,
+      all-append (λ z. leb (natAbs z) largest) (l .numbers) (allNumbers ls) (sizes-fit l first) sizes,
+    )
+
+pub rows-of-read-lists-fit : RowsOfReadListsFit
+rows-of-read-lists-fit text ls s e =
+    let lines : linesOf text ≡ map givenText (map givenOf ls) = ap linesOf (sym (text-again text ls s e)) ∙ lines-given (map givenOf ls) in
+    lines-fit ls (ap (map lineOf) (sym lines) ∙ reads-exactly text .2 ls s e .0)
 
 -- ---- a reply that keeps the promise
 
@@ -142,8 +198,10 @@ is-read-back words counts numbers buffer r after promise z =
 
 pub one-spelling : OneSpelling
 one-spelling words counts numbers buffer r after promise text ls s e gives z =
-    let (ms, s′, same, again) = is-read-back words counts numbers buffer r after promise z in
-    meant-once (take (r .place) after) text ls s′ s (rw (given-once ls ms (sym gives ∙ same)) again) e
+    let given = textOf (linesGiven words counts numbers) in
+    let (place, stands, room) = wrote promise z in
+    ap₂ (λ (n : ℕ) (b : List ℕ). take n b) place stands ∙ take-at given (drop (length given) buffer) (length given) refl
+    ∙ ap textOf gives ∙ text-again text ls s e
 
 -- ---- refusals
 

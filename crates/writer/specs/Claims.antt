@@ -5,18 +5,20 @@ use mathlib.Core.Path.{_≡_}
 use mathlib.Core.Bool.{cond}
 use mathlib.Core.Logic.{_↔_}
 use mathlib.Core.List.{List, [], _∷_, _++_, map}
+use lib.Dec.{T, leb, ltb}
 use lib.ListN.{length, take, drop}
 use lib.IntN.{ℤ}
 use Rattle.meaning.specs.Text.{sameBytes}
-use Rattle.meaning.specs.Word.{Word, kindOf}
+use Rattle.meaning.specs.Word.{Word, kindOf, mostNumbers}
 use Rattle.meaning.specs.Word.{words as allWords}
 use Rattle.meaning.specs.Line.{Line}
 use Rattle.meaning.specs.Known.{Known}
-use Rattle.meaning.specs.Refusal.{refused, read, reading}
+use Rattle.meaning.specs.Refusal.{all, refused, read, reading}
 use Rattle.meaning.specs.Reply.{reply, writeReply}
 use Rattle.meaning.specs.Write.{givenOf, textOf, linesGiven}
 use Rattle.service.specs.Reply.{replyMeaning}
 use Rattle.service.specs.declared.reply.Reply.{Reply}
+use Rattle.writer.specs.Line.{allSized}
 
 -- what `write` promises of its reply and of the buffer afterwards. FORMAT 9.1, 9.2, 9.26, 9.27
 pub record Writes (words counts : List ℕ) (numbers : List ℤ) (buffer : List ℕ) (r : Reply) (after : List ℕ) : Type 0 where
@@ -52,6 +54,13 @@ allNumbers (l ∷ ls) = l .numbers ++ allNumbers ls
 -- so there are rows for every list. FORMAT 9.23, 9.24, 9.25
 abbrev pub EachListCanBeGiven : Type 0
 EachListCanBeGiven = (ls : List Line) → Gives (codesOf ls) (countsOf ls) (allNumbers ls) ls
+
+-- and those of a list that is read are what a call may be given: each code is a byte, no count is above 33, and numbers are as small as a text's.
+-- FORMAT 2.6, 4.5, 9.1
+abbrev pub RowsOfReadListsFit : Type 0
+RowsOfReadListsFit =
+    (text : List ℕ) (ls : List Line) (s : Known) → reading text ≡ read ls s →
+    T (all (λ code. ltb code 256) (codesOf ls)) × T (all (λ n. leb n mostNumbers) (countsOf ls)) × T (allSized (allNumbers ls))
 
 -- ---- there and back
 
