@@ -159,9 +159,9 @@ pub extern "C" fn digit_table_write(
     ensures { λ r. ⌜ writing (reply r (now (place .exit))) (now (buffer .exit))
         ≡ writeReply (linesGiven (now (words .entry)) (now (counts .entry)) (now (numbers .entry))) (now (buffer .entry)) ⌝ }
 {
-    let replied = write(words, counts, numbers, buffer);
-    *place = replied.place;
-    replied.number
+    let written = write(words, counts, numbers, buffer);
+    *place = written.place;
+    written.number
 }
 
 // The first cell of a part, and 0 where it is empty.

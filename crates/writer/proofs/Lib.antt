@@ -7,3 +7,4 @@ pub mod Tabbed
 pub mod Taking
 pub mod Surveying
 pub mod Replies
+pub mod Claims
