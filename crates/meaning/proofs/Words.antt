@@ -5,7 +5,7 @@ use native.Mathlib.Omega.{arith}
 use mathlib.Core.Path.{_≡_, refl, sym}
 use mathlib.Core.Bool.{Bool, true, false, cond, _&&_}
 use mathlib.Core.List.{List, [], _∷_}
-use mathlib.Core.Option.{Option, none, some, Option·none-ne-some}
+use mathlib.Core.Option.{Option, some, Option·none-ne-some}
 use borrow.Author.Tests.{eqb-true}
 use lib.Dec.{T, lit<, ltb, eqb}
 use lib.ListN.{length, getD}

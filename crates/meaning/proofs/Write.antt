@@ -7,7 +7,7 @@ use mathlib.Core.Logic.{⊎-elim}
 use mathlib.Core.Option.{Option, none, some, Option·none-ne-some, Option·some-injective}
 use Prim.Native.Nat.{ℕ, suc, _≤_, _<_}
 use native.Mathlib.Omega.{arith}
-use lib.Dec.{T, leb, ltb, eqb}
+use lib.Dec.{T, leb, ltb}
 use lib.ListN.{length, take, drop}
 use lib.Seq.{take-at}
 use lib.IntN.{ℤ, pos, negsuc, natAbs}
@@ -16,7 +16,7 @@ use Rattle.meaning.specs.Text.{bytes, sameBytes, split, isDigit, allDigi
 use Rattle.meaning.specs.Word.{Word, kindOf, words}
 use Rattle.meaning.specs.Line.{Line, wordAmong, consNumber, numbersOf, assemble, lineOfFields, lineOf}
 use Rattle.meaning.specs.Refusal.{all, Reading, refused, read, onReading, reading}
-use Rattle.meaning.specs.Reply.{Reply, reply, Writing, writing, written, writeReply}
+use Rattle.meaning.specs.Reply.{reply, Writing, writing, written, writeReply}
 use Rattle.meaning.specs.Known.{Known}
 use Rattle.meaning.specs.Claims.{not-ended, WritesBack, IsReadBack, OneSpelling}
 use Rattle.meaning.specs.Write.{Given, given, givenOf, wordText, fieldsText, givenText, textOf}

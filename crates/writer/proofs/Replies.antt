@@ -1,11 +1,11 @@
 -- What `write` replies and leaves, by what was found: the text is too long, there is no line, a line is refused, the buffer is too short, or the text is
 -- written.
 use mathlib.Core.Path.{_≡_, refl, sym, ap, _∙_}
-use mathlib.Core.List.{List, [], _∷_, _++_}
+use mathlib.Core.List.{List, []}
 use Prim.Native.Nat.{ℕ, _≤_, _<_}
 use native.Mathlib.Omega.{arith}
 use borrow.Author.Tests.{le-leb, lt-leb}
-use lib.ListN.{length, drop}
+use lib.ListN.{length}
 use lib.IntN.{ℤ}
 use Rattle.meaning.specs.Text.{isEnded}
 use Rattle.meaning.specs.Refusal.{textLimit, Reading, refused, read, onReading, readingBy, reading}

@@ -1,12 +1,12 @@
 -- Reading given lines by the reader's steps: the lines that are left begin with the one that is taken, a line that was taken is what a step asks for,
 -- and what holds before each line is what holds in a walk over a text.
-use mathlib.Core.Path.{_≡_, refl, sym, ap, subst, _∙_}
+use mathlib.Core.Path.{_≡_, refl, ap, _∙_}
 use mathlib.Core.Bool.{true}
 use mathlib.Core.List.{List, [], _∷_, map}
 use mathlib.Core.Option.{none, some}
 use Prim.Native.Nat.{ℕ, suc, _+_, _-_, _≤_, _<_}
 use native.Mathlib.Omega.{arith}
-use lib.ListN.{length, getD, take, drop, length-append, length-drop}
+use lib.ListN.{length, take, drop, length-append, length-drop}
 use lib.Seq.{length-take-le, getD-take}
 use lib.IntN.{ℤ, pos}
 use Rattle.meaning.specs.Text.{linesOf, isEnded}

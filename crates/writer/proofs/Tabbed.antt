@@ -7,7 +7,7 @@ use native.Mathlib.Omega.{arith}
 use lib.ListN.{length, set}
 use lib.IntN.{ℤ, pos}
 use lib.Signed.{mag, ltZ}
-use Rattle.meaning.specs.Text.{decimalOf, numberText}
+use Rattle.meaning.specs.Text.{numberText}
 use Rattle.meaning.proofs.Decimal.{decimal-short}
 use Rattle.output.specs.Written.{Written}
 use Rattle.output.proofs.Signed.{signed-text, plain-text}

@@ -2,7 +2,7 @@
 -- sizes of the numbers.
 use mathlib.Core.Path.{_≡_, refl, sym, ap, subst, _∙_}
 use mathlib.Core.Bool.{Bool, true, false, cond, _&&_, and-true}
-use mathlib.Core.List.{List, [], _∷_, _++_, map, append-nil}
+use mathlib.Core.List.{List, [], _∷_, map, append-nil}
 use mathlib.Core.Option.{Option, none, some}
 use Prim.Native.Nat.{ℕ, suc, _+_, _*_, _≤_, _<_}
 use native.Mathlib.Omega.{arith}
@@ -18,9 +18,9 @@ use lib.Signed.{mag, ltZ}
 use Rattle.number.proofs.Word.{below-zero, from-zero}
 use Rattle.meaning.specs.Text.{largest, number, numberText}
 use Rattle.meaning.specs.Word.{Word, kindOf, mostNumbers}
-use Rattle.meaning.specs.Line.{Line, consNumber, numbersOf, assemble, lineOf}
+use Rattle.meaning.specs.Line.{consNumber, numbersOf, assemble, lineOf}
 use Rattle.meaning.specs.Refusal.{all}
-use Rattle.meaning.specs.Write.{Given, given, wordText, fieldsText, givenText}
+use Rattle.meaning.specs.Write.{given, wordText, fieldsText, givenText}
 use Rattle.meaning.proofs.NumberText.{number-read, number-over}
 use Rattle.meaning.proofs.Write.{given-line}
 use Rattle.text.proofs.Lines.{count-over}

@@ -4,7 +4,6 @@ use super::given::line_at;
 use super::line::Readable;
 use super::line::line_given;
 use super::measure::longer;
-use number::cell::cell_number;
 use reader::First;
 use reader::Stepped;
 use reader::counts_of;
@@ -51,9 +50,7 @@ pub fn survey_given(words: &[u8], counts: &[usize], numbers: &[i64]) -> Found
     }
 }
 
-// The lines after line 0, whose numbers start at `from`; so many bytes stand before them. The counts are kept one by one, and that of
-// the cells in fewer bits than that of the rows: else the compiler takes the two out of a step's answer as one, just after they were written apart, and
-// the processor waits for that, a fifth of the time of a short line.
+// The lines after line 0, whose numbers start at `from`; so many bytes stand before them.
 fn survey_later(
     words: &[u8],
     counts: &[usize],
@@ -70,10 +67,7 @@ fn survey_later(
 {
     let mut lows: [i64; 256] = [0; 256];
     let mut highs: [i64; 256] = [0; 256];
-    let mut values: usize = 0;
-    let mut inputs: usize = 0;
-    let mut cells: u32 = 0;
-    let mut rows: usize = 0;
+    let mut known = counts_of(0, 0, 0, 0);
     let mut total = before;
     let mut at = from;
     let mut n: usize = 1;
@@ -84,17 +78,13 @@ fn survey_later(
         let Readable::Line(word, size) = line_given(line.code, &numbers[start..end], taken) else {
             return Found::NotRead(3, n);
         };
-        let known = counts_of(values, inputs, cells as usize, rows);
         let stepped = step_parsed(word, taken, end - start, p, known, &mut lows, &mut highs);
         match stepped {
             Stepped::Refused(number) => {
                 return Found::NotRead(number, n);
             }
             Stepped::Next(after) => {
-                values = after.values;
-                inputs = after.inputs;
-                cells = cell_number(after.cells) as u32;
-                rows = after.rows;
+                known = after;
             }
         }
         total = longer(total, size);

@@ -1,6 +1,5 @@
 -- Each code has its word, and no other code has one.
-use mathlib.Core.Path.{_≡_, refl, sym, ap, _∙_}
-use borrow.Author.Needs.{needs}
+use mathlib.Core.Path.{refl, sym}
 use Rattle.meaning.specs.Word.{words}
 use Rattle.meaning.specs.Write.{elementAt, wordWith}
 use Rattle.text.specs.Word.{wordOf}

@@ -1,22 +1,17 @@
 -- The walk over the lines, with what holds before each of them as the invariant. A line that is none is refused 3, and one that is taken is stepped
 -- over.
-use mathlib.Core.Path.{refl, sym, ap, subst, _∙_}
-use mathlib.Core.List.{List, map}
-use Prim.Native.Nat.{ℕ, _+_, _-_, _≤_, _<_}
+use mathlib.Core.Path.{refl, sym, ap, _∙_}
+use mathlib.Core.List.{List}
+use Prim.Native.Nat.{ℕ, _-_, _<_}
 use native.Mathlib.Omega.{arith}
 use lib.ListN.{length, replicate}
 use denote.Ref.{now}
 use borrow.Author.Needs.{needs}
 use Rattle.meaning.specs.Machine.{pastU64}
 use Rattle.meaning.specs.Refusal.{valueLimit}
-use Rattle.reader.specs.Size.{counted}
-use Rattle.reader.specs.declared.state.Counts.{Counts}
-use Rattle.reader.specs.declared.state.Stepped.{Stepped}
 use Rattle.reader.specs.Step.{stepMeaning, placedAt, valueCount}
 use Rattle.reader.proofs.Steps.{no-line-step, line-step}
-use Rattle.reader.proofs.Walk.{Walking, placed-long, walk-ready, walk-start, walk-end, walk-stopped, walk-next}
-use Rattle.meaning.specs.Write.{givenText}
-use Rattle.writer.specs.Given.{leftAt}
+use Rattle.reader.proofs.Walk.{placed-long, walk-ready, walk-start, walk-end, walk-stopped, walk-next}
 use Rattle.writer.specs.Survey.{SurveyYield, BytesYield}
 use Rattle.writer.proofs.Texts.{no-lines}
 use Rattle.writer.proofs.Surveying.{WalkedGiven, line-here, line-count, no-line-left, none-taken, taken-is, taken-bytes, taken-parsed, counting-start, counting-next, counting-end, bytes-here}
@@ -24,19 +19,18 @@ use Rattle.writer.proofs.survey.survey_later.Statement.{statement}
 use Rattle.writer.proofs.survey.survey_later.Tie as tie
 
 abbrev Inv-loop : tie.InvT-loop
-Inv-loop words counts numbers from p before taken₀ lows₀ highs₀ values₀ inputs₀ cells₀ rows₀ total₀ at₀ n₀ taken lows highs values inputs cells rows total at n =
-    (places : List ℕ) × WalkedGiven words counts numbers from p before taken lows highs places (counted values inputs cells rows) total at n
+Inv-loop words counts numbers from p before taken₀ lows₀ highs₀ known₀ total₀ at₀ n₀ taken lows highs known total at n =
+    (places : List ℕ) × WalkedGiven words counts numbers from p before taken lows highs places known total at n
 
 abbrev μ-loop : tie.MeasureT-loop
-μ-loop words counts numbers from p before taken₀ lows₀ highs₀ values₀ inputs₀ cells₀ rows₀ total₀ at₀ n₀ taken lows highs values inputs cells rows total at n =
+μ-loop words counts numbers from p before taken₀ lows₀ highs₀ known₀ total₀ at₀ n₀ taken lows highs known total at n =
     length words - n
 
 loop-holds : tie.Need-loop-holds Inv-loop μ-loop
 loop-holds c =
-    let start = c .before .before in (
-      replicate valueLimit 0,
-      record { inside = start .pre .1; bytes = counting-start _ _; walking = walk-start _ (start .args .p) _ _ _ _ (start .pre .2) (start .pre .5) refl refl refl },
-    )
+    let start = c .before .before .before in
+    rw (c .counts-of .ensures)
+    (replicate valueLimit 0, record { inside = start .pre .1; bytes = counting-start _ _; walking = walk-start _ (start .args .p) _ _ _ _ (start .pre .2) (start .pre .5) refl refl refl })
 
 line-at-requires : tie.Need-line-at-requires Inv-loop μ-loop
 line-at-requires c κs = (c .loop-test .taken, c .before .loop .inv .1 .inside)
@@ -54,7 +48,7 @@ line-given-requires : tie.Need-line-given-requires Inv-loop μ-loop
 line-given-requires c κs = c .before .before .before .before .loop .inv .1 .walking .numbers-long
 
 same-length : tie.Need-same-length Inv-loop μ-loop
-same-length c = c .before .before .before .line-given .ensures .long ∙ sym (c .before .before .before .before .before .before .before .before .before .before .before .pre .5)
+same-length c = c .before .before .before .line-given .ensures .long ∙ sym (c .before .before .before .before .before .before .before .before .before .before .before .before .pre .5)
 
 returns : tie.Need-returns Inv-loop μ-loop
 unfolding SurveyYield BytesYield
@@ -78,52 +72,35 @@ module _ (c : tie.After-word Inv-loop μ-loop) where
   at-loop = at-test .before
 
   abbrev start : tie.Start Inv-loop μ-loop
-  start = at-loop .before .before .before
-
--- and the counts as a struct, as a step asks for them
-module _ (c : tie.After-counts-of Inv-loop μ-loop) where
-  abbrev at-word : tie.After-word Inv-loop μ-loop
-  at-word = c .before .before
-
-  walked : WalkedGiven (now (start at-word .args .words)) (now (start at-word .args .counts)) (now (start at-word .args .numbers)) (start at-word .args .from) (start at-word .args .p) (start at-word .args .before)
-      (at-loop at-word .loop .taken) (at-loop at-word .loop .lows) (at-loop at-word .loop .highs) (at-loop at-word .loop .inv .0) (c .counts-of .result) (at-loop at-word .loop .total) (at-loop at-word .loop .at) (at-loop at-word .loop .n)
-  walked =
-      subst (λ (k : Counts). WalkedGiven (now (start at-word .args .words)) (now (start at-word .args .counts)) (now (start at-word .args .numbers)) (start at-word .args .from) (start at-word .args .p) (start at-word .args .before)
-      (at-loop at-word .loop .taken) (at-loop at-word .loop .lows) (at-loop at-word .loop .highs) (at-loop at-word .loop .inv .0) k (at-loop at-word .loop .total) (at-loop at-word .loop .at) (at-loop at-word .loop .n))
-      (sym (c .counts-of .ensures)) (at-loop at-word .loop .inv .1)
-
-cast-counts-of : tie.Need-cast-counts-of Inv-loop μ-loop
-unfolding counted
-cast-counts-of c = omega (arith, at-loop (c .before) .loop .inv .1 .walking .sized .few .cells-most)
+  start = at-loop .before .before .before .before
 
 sub-step-parsed : tie.Need-sub-step-parsed Inv-loop μ-loop
-sub-step-parsed c = at-line (at-word (c .before)) .line-at .ensures .starts
+sub-step-parsed c = at-line (c .before .before) .line-at .ensures .starts
 
 step-parsed-requires : tie.Need-step-parsed-requires Inv-loop μ-loop
 step-parsed-requires c κs =
-    let known = c .before .before .before in
-    let line = at-word known in
-    let w = walked known .walking in (
-      walk-ready (start line .args .p) _ _ _ _ (w .sized) _ (w .later) (start line .pre .3) (w .sound) (w .ordered),
+    let at-word = c .before .before .before .before in
+    let w = at-loop at-word .loop .inv .1 .walking in
+    let found = at-line at-word .line-at .ensures in (
+      walk-ready (start at-word .args .p) _ _ _ _ (w .sized) _ (w .later) (start at-word .pre .3) (w .sound) (w .ordered),
       w .sized,
-      taken-parsed (at-take line .line-given .ensures) (line-count (at-line line .line-at .ensures)) (line .word .given .1),
+      taken-parsed (at-take at-word .line-given .ensures) (line-count found) (at-word .word .given .1),
     )
 
 same-length-2 : tie.Need-same-length-2 Inv-loop μ-loop
 same-length-2 c =
-    let line = c .before .before .before .before .before .before .before .before .before .before .before in
-    at-take line .line-given .ensures .long ∙ sym (start line .pre .5)
+    let at-word = c .before .before .before .before .before .before .before .before .before .before in
+    at-take at-word .line-given .ensures .long ∙ sym (start at-word .pre .5)
 
 returns-2 : tie.Need-returns-2 Inv-loop μ-loop
 unfolding SurveyYield BytesYield stepMeaning
 returns-2 c =
     let at-step = c .before .before .before .before .before in
-    let known = at-step .before .before .before .before in
-    let line = at-word known in
-    let w = walked known .walking in
-    let found = at-line line .line-at .ensures in
-    let step = at-step .step-parsed .ensures .0 _ (at-loop line .loop .inv .0) (w .places-long) refl in
-    (walk-stopped w (line-here found) _ (line-step 1 _ (taken-is (at-take line .line-given .ensures) (line-count found) (line .word .given .1)) (rw (c .before .stepped .given .1) at step)), tt)
+    let at-word = at-step .before .before .before .before .before in
+    let w = at-loop at-word .loop .inv .1 .walking in
+    let found = at-line at-word .line-at .ensures in
+    let step = at-step .step-parsed .ensures .0 _ (at-loop at-word .loop .inv .0) (w .places-long) refl in
+    (walk-stopped w (line-here found) _ (line-step 1 _ (taken-is (at-take at-word .line-given .ensures) (line-count found) (at-word .word .given .1)) (rw (c .before .stepped .given .1) at step)), tt)
 
 -- there are no more words than a length can say
 words-few : (c : tie.After-shared-slice-known2 Inv-loop μ-loop) → length (now (c .before .before .args .words)) < pastU64
@@ -131,72 +108,44 @@ words-few c = search needs
 
 longer-requires : tie.Need-longer-requires Inv-loop μ-loop
 longer-requires c κs =
-    let line = c .before .before .before .before .before .before .before .before .before .before .before .before in
-    taken-bytes (at-take line .line-given .ensures) (line-count (at-line line .line-at .ensures)) (line .word .given .1) .1
+    let at-word = c .before .before .before .before .before .before .before .before .before .before in
+    taken-bytes (at-take at-word .line-given .ensures) (line-count (at-line at-word .line-at .ensures)) (at-word .word .given .1) .1
 
 add-n : tie.Need-add-n Inv-loop μ-loop
 add-n c =
-    let line = c .before .before .before .before .before .before .before .before .before .before .before .before .before in
-    omega (arith, at-test line .loop-test .taken, words-few (at-loop line .before))
-
-loop-less : tie.Need-loop-less Inv-loop μ-loop
-loop-less c = omega (arith, at-test (c .before .before .before .before .before .before .before .before .before .before .before .before .before) .loop-test .taken)
-
--- the walk after a line that is not refused
-module _ (c : tie.After-stepped2 Inv-loop μ-loop) where
-  abbrev at-step : tie.After-step-parsed Inv-loop μ-loop
-  at-step = c .before .before .before .before
-
-  abbrev known : tie.After-counts-of Inv-loop μ-loop
-  known = at-step .before .before .before .before
-
-  stepped-over : Walking (map givenText (leftAt (now (start (at-word known) .args .words)) (now (start (at-word known) .args .counts)) (now (start (at-word known) .args .numbers)) 1 (start (at-word known) .args .from)))
-      (map givenText (leftAt (now (start (at-word known) .args .words)) (now (start (at-word known) .args .counts)) (now (start (at-word known) .args .numbers)) (at-loop (at-word known) .loop .n + 1) (at-line (at-word known) .line-at .result .end)))
-      (start (at-word known) .args .p) (at-take (at-word known) .line-given .last .1 .1 .0) (at-step .step-parsed .last .1 .1 .1 .1 .1 .0) (at-step .step-parsed .last .1 .1 .1 .1 .1 .1 .0) (placedAt (known .counts-of .result) (at-loop (at-word known) .loop .inv .0)) (c .stepped2 .given .0 .0) (at-loop (at-word known) .loop .n + 1)
-  unfolding stepMeaning valueCount
-  stepped-over =
-      let line = at-word known in
-      let taken = at-take line .line-given .ensures in
-      let found = at-line line .line-at .ensures in
-      let loop = at-loop line .loop in
-      let w = walked known .walking in
-      let stepped = at-step .step-parsed .ensures in
-      let is = c .stepped2 .given .1 in
-      let lows = at-step .step-parsed .last .1 .1 .1 .1 .1 .0 in
-      let highs = at-step .step-parsed .last .1 .1 .1 .1 .1 .1 .0 in
-      let places = placedAt (known .counts-of .result) (loop .inv .0) in
-      let step = ap (λ (r : Stepped). stepMeaning (start line .args .p) r lows highs places) (sym is) ∙ stepped .0 _ (loop .inv .0) (w .places-long) refl in
-      let few = subst (λ (r : Stepped). valueCount r ≤ valueLimit) is (stepped .1 .0) in
-      walk-next w (line-here found) (c .stepped2 .given .0 .0) _ lows highs places
-      (line-step 1 _ (taken-is taken (line-count found) (line .word .given .1)) step) few (taken .long) (stepped .1 .1 .long) (stepped .1 .2 .long)
-      (placed-long (known .counts-of .result) (loop .inv .0))
-
-cast-cells : tie.Need-cast-cells Inv-loop μ-loop
-cast-cells c = omega (arith, c .cell-number .ensures, stepped-over (c .before .before) .sized .few .cells-most)
+    let at-word = c .before .before .before .before .before .before .before .before .before .before .before in
+    omega (arith, at-test at-word .loop-test .taken, words-few (at-loop at-word .before .before))
 
 loop-again : tie.Need-loop-again Inv-loop μ-loop
-unfolding counted
+unfolding stepMeaning valueCount
 loop-again c =
-    let stepped = c .before .before .before in
-    let line = at-word (known stepped) in
-    let found = at-line line .line-at .ensures in
-    let loop = at-loop line .loop in
-    rw (c .before .cell-number .ensures) (
-      placedAt (known stepped .counts-of .result) (loop .inv .0),
+    let at-step = c .before .before .before .before .before .before in
+    let at-word = at-step .before .before .before .before .before in
+    let taken = at-take at-word .line-given .ensures in
+    let found = at-line at-word .line-at .ensures in
+    let line = at-word .word .given .1 in
+    let loop = at-loop at-word .loop in
+    let w = loop .inv .1 .walking in
+    let stepped = at-step .step-parsed .ensures in
+    let is = c .before .before .stepped2 .given .1 in (
+      placedAt (loop .known) (loop .inv .0),
       record {
         inside = found .inside;
-        bytes = counting-next (loop .inv .1 .bytes) (c .longer .ensures) (bytes-here found (taken-bytes (at-take line .line-given .ensures) (line-count found) (line .word .given .1) .0));
-        walking = stepped-over stepped;
+        bytes = counting-next (loop .inv .1 .bytes) (c .longer .ensures) (bytes-here found (taken-bytes taken (line-count found) line .0));
+        walking =
+            walk-next w (line-here found) (c .before .before .stepped2 .given .0 .0) _ _ _ (placedAt (loop .known) (loop .inv .0))
+            (line-step 1 _ (taken-is taken (line-count found) line) (rw is at (stepped .0 _ (loop .inv .0) (w .places-long) refl)))
+            (rw is at (stepped .1 .0)) (taken .long) (stepped .1 .1 .long) (stepped .1 .2 .long) (placed-long (loop .known) (loop .inv .0));
       },
     )
 
 same-length-3 : tie.Need-same-length-3 Inv-loop μ-loop
-same-length-3 c = c .before .loop .inv .1 .walking .numbers-long ∙ sym (c .before .before .before .before .pre .5)
+same-length-3 c = c .before .loop .inv .1 .walking .numbers-long ∙ sym (c .before .before .before .before .before .pre .5)
 
 returns-3 : tie.Need-returns-3 Inv-loop μ-loop
-unfolding SurveyYield BytesYield counted
+unfolding SurveyYield BytesYield
 returns-3 c =
-    let args = c .before .before .before .before .args in
+    let args = c .before .before .before .before .before .args in
     let loop = c .before .loop in
     let none = no-lines (now (args .words)) (now (args .counts)) (now (args .numbers)) (loop .n) (loop .at) (c .loop-test .left) in (
       (_, _, _, _, _, walk-end (loop .inv .1 .walking) (no-line-left (now (args .words)) (now (args .counts)) (now (args .numbers)) (loop .n) (loop .at) (c .loop-test .left))),
@@ -209,6 +158,7 @@ survey-later-spec =
     (tie.spec
     Inv-loop
     μ-loop
+    (λ c κs. search needs)
     loop-holds
     line-at-requires
     (λ c. search needs)
@@ -220,8 +170,6 @@ survey-later-spec =
     (λ c. search needs)
     same-length
     returns
-    cast-counts-of
-    (λ c κs. search needs)
     sub-step-parsed
     (λ c. search needs)
     (λ c. search needs)
@@ -230,11 +178,9 @@ survey-later-spec =
     same-length-2
     returns-2
     (λ c. search needs)
-    (λ c κs. search needs)
-    cast-cells
     longer-requires
     add-n
-    loop-less
+    (λ c. search needs)
     loop-again
     same-length-3
     returns-3)
