@@ -3,6 +3,7 @@ pub mod Texts
 pub mod Rows
 pub mod Lengths
 pub mod Begun
+pub mod Digits
 pub mod Tabbed
 pub mod Taking
 pub mod Surveying

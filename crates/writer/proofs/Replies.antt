@@ -17,8 +17,7 @@ use Rattle.reader.specs.declared.reading.Surveyed.the-variants.{NotRead}
 use Rattle.service.specs.Reply.{replyMeaning}
 use Rattle.service.specs.declared.reply.Reply.{Reply as Replied}
 use Rattle.service.proofs.ReadList.{survey-refused}
-use Rattle.writer.specs.declared.survey.Found.the-variants.{Text}
-use Rattle.writer.specs.Survey.{SurveyYield, RefusalYield}
+use Rattle.writer.specs.Survey.{IsRead, RefusalYield}
 use Rattle.writer.specs.Claims.{Writes}
 
 -- a reply and a buffer together keep the promise of `write`
@@ -58,9 +57,9 @@ module _ (gs : List Given) (buffer : List ℕ) where
   read-by (refused n at) p v i c w e = let z : _≡_ {A = ℕ} 0 1 = cc in absurd (omega arith)
   read-by (read ls s) p v i c w e = refl
 
-  module _ (n : ℕ) (yields : SurveyYield (Text n) (surveyOf (reading (textOf gs)))) where
+  module _ (yields : IsRead (surveyOf (reading (textOf gs)))) where
     write-read : writeReply gs buffer ≡ written (textOf gs) buffer
-    unfolding writeReply SurveyYield
+    unfolding writeReply IsRead
     write-read = let (p, v, i, c, w, e) = yields in read-by (reading (textOf gs)) p v i c w e
 
     pub write-no-room : length buffer < length (textOf gs) → writing (reply 21 0) buffer ≡ writeReply gs buffer

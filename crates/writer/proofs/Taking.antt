@@ -1,17 +1,15 @@
 -- A given line taken for the reader's steps: the numbers that are taken one by one, and the line that its text spells, by the word, the count and the
 -- sizes of the numbers.
 use mathlib.Core.Path.{_≡_, refl, sym, ap, subst, _∙_}
-use mathlib.Core.Bool.{Bool, true, false, cond, _&&_, and-true}
-use mathlib.Core.List.{List, [], _∷_, map, append-nil}
+use mathlib.Core.Bool.{Bool, true, false, cond, _&&_}
+use mathlib.Core.List.{List, [], _∷_, map}
 use mathlib.Core.Option.{Option, none, some}
 use Prim.Native.Nat.{ℕ, suc, _+_, _*_, _≤_, _<_}
 use native.Mathlib.Omega.{arith}
 use native.Mathlib.Numerals.{add-one}
-use borrow.Author.Tests.{leb-true, leb-false, le-leb, lt-ltb}
-use mir.Syntax.{w64}
-use mir.Val.{SFits}
+use borrow.Author.Tests.{leb-true, leb-false}
 use lib.Dec.{leb, ltb}
-use lib.ListN.{length, getD, take, drop, set, length-set, length-append, drop-of-length-le}
+use lib.ListN.{length, getD, take, drop, set, length-set, length-append, length-drop, drop-of-length-le}
 use lib.Seq.{drop-cons, take-suc, take-all, take-set-le, getD-set-same}
 use lib.IntN.{ℤ, pos, negsuc, natAbs}
 use lib.Signed.{mag, ltZ}
@@ -24,12 +22,9 @@ use Rattle.meaning.specs.Write.{given, wordText, fieldsText, givenText}
 use Rattle.meaning.proofs.NumberText.{number-read, number-over}
 use Rattle.meaning.proofs.Write.{given-line}
 use Rattle.text.proofs.Lines.{count-over}
-use Rattle.output.proofs.Signed.{signed-text, plain-text}
-use Rattle.meaning.proofs.Decimal.{length-short}
 use Rattle.writer.specs.declared.line.FieldBytes.{FieldBytes}
 use Rattle.writer.specs.declared.line.FieldBytes.the-variants.{Of, TooLarge}
-use Rattle.writer.specs.Line.{allSized, mostField, FieldBytesYield, Stand, NumbersTaken}
-use Rattle.writer.proofs.Lengths.{number-most}
+use Rattle.writer.specs.Line.{allSized, mostField, MoreBytesYield, FieldBytesYield, Stand, NumbersTaken}
 
 -- ---- the size of a number, by its magnitude
 
@@ -40,54 +35,18 @@ sized-below (negsuc n) e below = rw e refl
 pub sized-from : (z : ℤ) {size : ℕ} → size ≡ mag z → ltZ z (pos 0) ≡ false → leb size largest ≡ leb (natAbs z) largest
 sized-from z {size} e from = rw (e, from-zero z from) refl
 
--- ---- the bytes of one number
-
-one-field : (z : ℤ) → length (fieldsText (z ∷ [])) ≡ length (numberText z) + 1
-unfolding fieldsText
-one-field z = rw (append-nil (numberText z)) (omega arith)
-
-one-sized : (z : ℤ) {b : Bool} → leb (natAbs z) largest ≡ b → allSized (z ∷ []) ≡ b
-unfolding allSized all
-one-sized z e = and-true (leb (natAbs z) largest) ∙ e
-
-field-short : (z : ℤ) {n : ℕ} → natAbs z ≤ largest → n ≡ length (numberText z) + 1 → n ≤ mostField → FieldBytesYield (z ∷ []) (Of n)
-unfolding FieldBytesYield
-field-short z h e most = (one-sized z (le-leb (natAbs z) largest h), e ∙ sym (one-field z), omega arith)
-
-module _ (z : ℤ) {size : ℕ} (sized : size ≡ mag z) {below : Bool} (tested : below ≡ ltZ z (pos 0)) (one : size < 9) where
-  -- a sign, and a digit from 1 to 9
-  pub field-below : below ≡ true → FieldBytesYield (z ∷ []) (Of 3)
-  field-below t =
-      let text = ap length (signed-text z sized tested t) in
-      let digits = length-short (size + 1) (omega arith) in
-      field-short z (leb-true (natAbs z) largest (sym (sized-below z sized (sym tested ∙ t)) ∙ lt-ltb size largest (omega arith))) (omega arith) (omega arith)
-
-  pub field-from : below ≡ false → FieldBytesYield (z ∷ []) (Of 2)
-  field-from t =
-      let text = ap length (plain-text z sized tested t) in
-      let digits = length-short size (omega arith) in
-      field-short z (leb-true (natAbs z) largest (sym (sized-from z sized (sym tested ∙ t)) ∙ le-leb size largest (omega arith))) (omega arith) (omega arith)
-
-module _ (z : ℤ) {r : Bool} (tested : r ≡ leb (natAbs z) largest) where
-  pub field-sized : r ≡ true → SFits w64 z → {n : ℕ} → n ≡ length (numberText z) → FieldBytesYield (z ∷ []) (Of (1 + n))
-  field-sized t fits e = field-short z (leb-true (natAbs z) largest (sym tested ∙ t)) (omega arith) (omega (arith, number-most fits))
-
-  pub field-large : r ≡ false → FieldBytesYield (z ∷ []) TooLarge
-  unfolding FieldBytesYield
-  field-large t = one-sized z (sym tested ∙ t)
-
 -- ---- taking the numbers
 
--- the first i numbers are taken, have sizes that are allowed, and their bytes are counted
+-- the first i numbers are taken and have sizes that are allowed; their bytes are counted, and two for each that is left
 pub record Taking (from numbers : List ℤ) (total i : ℕ) : Type 0 where
   pub within : i ≤ length from
   pub stand : take i numbers ≡ take i from
   pub long : length numbers ≡ mostNumbers
   pub sized : allSized from ≡ allSized (drop i from)
-  pub counted : length (fieldsText from) ≡ total + length (fieldsText (drop i from))
-  pub few : total ≤ mostField * i
+  pub counted : length (fieldsText from) + 2 * length (drop i from) ≡ total + length (fieldsText (drop i from))
+  pub few : total ≤ mostField * i + 2 * length (drop i from)
 
-pub taking-start : (from numbers : List ℤ) → length numbers ≡ mostNumbers → Taking from numbers 0 0
+pub taking-start : (from numbers : List ℤ) → length numbers ≡ mostNumbers → Taking from numbers (2 * length from) 0
 taking-start from numbers h = record { within = omega arith; stand = refl; long = h; sized = refl; counted = omega arith; few = omega arith }
 
 -- the numbers from i on are number i and those after it
@@ -95,30 +54,27 @@ module _ (from : List ℤ) (i : ℕ) (h : i < length from) where
   numbers-next : drop i from ≡ getD from i (pos 0) ∷ drop (i + 1) from
   numbers-next = drop-cons from i (pos 0) h ∙ ap (λ (j : ℕ). getD from i (pos 0) ∷ drop j from) (sym (add-one i))
 
-  sized-next : {b : Bool} → allSized (getD from i (pos 0) ∷ []) ≡ b → allSized (drop i from) ≡ (b && allSized (drop (i + 1) from))
+  sized-next : {b : Bool} → leb (natAbs (getD from i (pos 0))) largest ≡ b → allSized (drop i from) ≡ (b && allSized (drop (i + 1) from))
   unfolding allSized all
-  sized-next e =
-      ap allSized numbers-next
-      ∙ ap (λ (b : Bool). b && allSized (drop (i + 1) from)) (sym (and-true (leb (natAbs (getD from i (pos 0))) largest)) ∙ e)
+  sized-next e = ap allSized numbers-next ∙ ap (λ (b : Bool). b && allSized (drop (i + 1) from)) e
 
-  fields-next : length (fieldsText (drop i from)) ≡ length (fieldsText (getD from i (pos 0) ∷ [])) + length (fieldsText (drop (i + 1) from))
+  fields-next : length (fieldsText (drop i from)) ≡ 1 + length (numberText (getD from i (pos 0))) + length (fieldsText (drop (i + 1) from))
   unfolding fieldsText
   fields-next =
       let x = getD from i (pos 0) in
       let rest = fieldsText (drop (i + 1) from) in
-      ap (λ (ns : List ℤ). length (fieldsText ns)) numbers-next
-      ∙ omega (arith, length-append (numberText x) rest, one-field x)
+      ap (λ (ns : List ℤ). length (fieldsText ns)) numbers-next ∙ omega (arith, length-append (numberText x) rest)
 
 module _ {from numbers : List ℤ} {total i : ℕ} (t : Taking from numbers total i) where
   module _ (h : i < length from) where
-    pub taking-stopped : FieldBytesYield (getD from i (pos 0) ∷ []) TooLarge → NumbersTaken from numbers TooLarge
-    unfolding FieldBytesYield Stand
-    taking-stopped large = record { yields = t .sized ∙ sized-next from i h large; stand = tt; long = t .long }
+    pub taking-stopped : MoreBytesYield (getD from i (pos 0)) TooLarge → {after : List ℤ} → length after ≡ mostNumbers → NumbersTaken from after TooLarge
+    unfolding FieldBytesYield MoreBytesYield Stand
+    taking-stopped large long = record { yields = t .sized ∙ sized-next from i h large; stand = tt; long = long }
 
-    pub taking-next : length from ≤ mostNumbers → (n : ℕ) → FieldBytesYield (getD from i (pos 0) ∷ []) (Of n)
-        → Taking from (set numbers i (getD from i (pos 0))) (total + n) (i + 1)
-    unfolding FieldBytesYield
-    taking-next few n (small, bytes, most) =
+    pub taking-next : length from ≤ mostNumbers → (n : ℕ) → MoreBytesYield (getD from i (pos 0)) (Of n) → {next : ℕ} → next ≡ total + n
+        → Taking from (set numbers i (getD from i (pos 0))) next (i + 1)
+    unfolding MoreBytesYield
+    taking-next few n (small, bytes, most) e =
         let x = getD from i (pos 0) in
         let here : i < length numbers = omega (arith, t .long) in
         let size = length-set numbers i x in
@@ -130,13 +86,13 @@ module _ {from numbers : List ℤ} {total i : ℕ} (t : Taking from numbers tota
               ∙ rw (getD-set-same numbers i x (pos 0) here, take-set-le i numbers i x (omega arith), t .stand) (sym (take-suc from i (pos 0) h)));
           long = size ∙ t .long;
           sized = t .sized ∙ sized-next from i h small;
-          counted = omega (arith, t .counted, fields-next from i h, bytes);
-          few = omega (arith, t .few, most);
+          counted = omega (arith, t .counted, ap length (numbers-next from i h), fields-next from i h, bytes);
+          few = omega (arith, t .few, ap length (numbers-next from i h), most);
         }
 
   -- what is counted stays small
   pub taking-few : length from ≤ mostNumbers → total ≤ mostField * mostNumbers
-  taking-few h = omega (arith, t .few, t .within)
+  taking-few h = omega (arith, t .few, t .within, length-drop i from)
 
   pub taking-end : length from ≤ i → NumbersTaken from numbers (Of total)
   unfolding allSized all FieldBytesYield Stand fieldsText
@@ -144,7 +100,7 @@ module _ {from numbers : List ℤ} {total i : ℕ} (t : Taking from numbers tota
       let last : i ≡ length from = omega (arith, t .within) in
       let none = drop-of-length-le from h in
       record {
-        yields = (t .sized ∙ rw none refl, sym (t .counted ∙ rw none (omega arith)), omega (arith, t .few));
+        yields = (t .sized ∙ rw none refl, omega (arith, rw none at (t .counted)), omega (arith, ap length none, t .few));
         stand = rw (← last) (t .stand ∙ take-all i from h);
         long = t .long;
       }

@@ -1,30 +1,23 @@
--- How the answers for a given line are read: its word by its code, the bytes of its numbers where their sizes are allowed, and the line that its text
--- spells.
+-- How the answers for a given line are read: the bytes of its numbers where their sizes are allowed, and the line that its text spells.
 use Prim.Native.Nat.{ℕ, suc, _+_, _*_, _≤_}
 use mathlib.Core.Path.{_≡_}
 use mathlib.Core.Bool.{Bool, true, false}
 use mathlib.Core.List.{List}
-use mathlib.Core.Option.{Option, none, some}
+use mathlib.Core.Option.{none, some}
 use lib.Dec.{leb}
 use lib.ListN.{length, take}
 use lib.IntN.{ℤ, natAbs}
-use Rattle.meaning.specs.Text.{largest}
-use Rattle.meaning.specs.Word.{Word, mostNumbers}
+use Rattle.meaning.specs.Text.{largest, numberText}
+use Rattle.meaning.specs.Word.{mostNumbers}
 use Rattle.meaning.specs.Line.{lineOf}
 use Rattle.meaning.specs.Refusal.{all}
 use Rattle.meaning.specs.Write.{fieldsText}
 use Rattle.text.specs.Word.{wordOf}
 use Rattle.rules.specs.Yield.{lineWith}
-use Rattle.writer.specs.declared.line.Coded.{Coded}
-use Rattle.writer.specs.declared.line.Coded.the-variants.{Known, NoWord}
 use Rattle.writer.specs.declared.line.FieldBytes.{FieldBytes}
 use Rattle.writer.specs.declared.line.FieldBytes.the-variants.{Of, TooLarge}
 use Rattle.writer.specs.declared.line.Readable.{Readable}
 use Rattle.writer.specs.declared.line.Readable.the-variants.{Line, NoLine}
-
-unfoldable pub codedMeaning : Coded → Option Word
-codedMeaning (Known w) = some (wordOf w)
-codedMeaning NoWord = none
 
 -- is the size of each number allowed? FORMAT 2.6
 unfoldable pub allSized : List ℤ → Bool
@@ -36,6 +29,11 @@ mostField = 21
 
 abbrev pub mostLine : ℕ
 mostLine = 6 + mostField * mostNumbers
+
+-- the answer for a number: how many bytes more than two it has with its tab, or it is too large. FORMAT 2.6, 2.9
+unfoldable pub MoreBytesYield : ℤ → FieldBytes → Type 0
+MoreBytesYield z (Of n) = (leb (natAbs z) largest ≡ true) × (length (numberText z) ≡ n + 1) × (n + 2 ≤ mostField)
+MoreBytesYield z TooLarge = leb (natAbs z) largest ≡ false
 
 -- the answer for numbers: how many bytes they have, or one of them is too large. FORMAT 2.6, 2.9
 unfoldable pub FieldBytesYield : List ℤ → FieldBytes → Type 0

@@ -1,5 +1,5 @@
 -- How the answer of measuring is read: a length that a text may have, or that the text is too long.
-use Prim.Native.Nat.{ℕ, _+_, _≤_, _<_}
+use Prim.Native.Nat.{ℕ, _≤_, _<_}
 use mathlib.Core.Path.{_≡_}
 use Rattle.meaning.specs.Refusal.{textLimit}
 use Rattle.writer.specs.declared.measure.Length.{Length}
@@ -9,8 +9,3 @@ use Rattle.writer.specs.declared.measure.Length.the-variants.{Of, TooLon
 unfoldable pub LengthYield : ℕ → Length → Type 0
 LengthYield n (Of m) = (m ≡ n) × (n ≤ textLimit)
 LengthYield n TooLong = textLimit < n
-
--- a length that is within the limit grows by that of a line
-pub record Longer (total size r : ℕ) : Type 0 where
-  pub within : total ≤ textLimit → r ≡ total + size
-  pub over : textLimit < total → r ≡ total

@@ -4,11 +4,12 @@ mod given;
 mod line;
 mod lines;
 mod measure;
+mod short;
 mod survey;
+mod word;
 
 use lines::write_text;
 use measure::Length;
-use measure::TEXT_LIMIT;
 use measure::text_length;
 use service::Reply;
 use survey::Found;
@@ -31,13 +32,11 @@ pub fn write(words: &[u8], counts: &[usize], numbers: &[i64], buffer: &mut [u8])
     let found = survey_given(words, counts, numbers);
     match found {
         Found::NotRead(number, place) => first_refusal(words, counts, numbers, number, place),
+        Found::TooLong => Reply {
+            number: 1,
+            place: 0,
+        },
         Found::Text(length) => {
-            if TEXT_LIMIT < length {
-                return Reply {
-                    number: 1,
-                    place: 0,
-                };
-            }
             if buffer.len() < length {
                 return Reply {
                     number: 21,

@@ -1,8 +1,12 @@
 // A given line as the reader's steps ask for it: its word, and its numbers, the first ones of an array with room for the most that a line has. What its
 // text would be refused for is found here without the text: a code that no word has, a wrong count, a number of too great a size. While the numbers
 // are looked at, their bytes are counted. FORMAT 10.3
-use super::measure::word_length;
+use super::short::is_down_to;
+use super::short::is_short;
+use super::word::Coded;
+use super::word::word_with;
 use number::Whole;
+use number::whole::is_below;
 use number::whole::is_negative;
 use number::whole::magnitude;
 use number::whole::set_whole;
@@ -12,23 +16,18 @@ use text::LARGEST;
 use text::Word;
 use text::is_count;
 ghost use mathlib.Core.Path.{_≡_};
-ghost use mathlib.Core.List.{[], _∷_};
+ghost use mathlib.Core.Bool.{false, _&&_};
 ghost use Prim.Native.Nat.{_≤_};
-ghost use lib.Dec.{leb};
+ghost use lib.Dec.{leb, ltb};
 ghost use lib.ListN.{length};
 ghost use lib.IntN.{natAbs};
+ghost use lib.Signed.{nonNeg};
 ghost use Rattle.meaning.specs.Text.{largest};
 ghost use Rattle.meaning.specs.Word.{mostNumbers};
 ghost use Rattle.meaning.specs.Write.{given, wordWith, givenText};
-ghost use Rattle.writer.specs.Line.{codedMeaning, FieldBytesYield, NumbersTaken, LineYield};
+ghost use Rattle.writer.specs.Line.{MoreBytesYield, NumbersTaken, LineYield};
 
-// The word with a code, if one has it.
-enum Coded {
-    Known(Word),
-    NoWord,
-}
-
-// How many bytes numbers take, with a tab before each, where the size of each is allowed.
+// How many bytes numbers take, where the size of each is allowed.
 enum FieldBytes {
     Of(usize),
     TooLarge,
@@ -38,23 +37,6 @@ enum FieldBytes {
 pub enum Readable {
     Line(Word, usize),
     NoLine,
-}
-
-// FORMAT 9.24
-fn word_with(code: u8) -> Coded
-    ensures { λ r. ⌜ codedMeaning r ≡ wordWith code ⌝ }
-{
-    match code {
-        0 => Coded::Known(Word::Field),
-        1 => Coded::Known(Word::In),
-        2 => Coded::Known(Word::Span),
-        3 => Coded::Known(Word::Sum),
-        4 => Coded::Known(Word::Relu),
-        5 => Coded::Known(Word::Which),
-        6 => Coded::Known(Word::Max),
-        7 => Coded::Known(Word::Root),
-        _ => Coded::NoWord,
-    }
 }
 
 // Whether the size of a number is allowed. FORMAT 2.6
@@ -68,36 +50,39 @@ fn is_sized(x: Whole) -> bool
     size <= LARGEST
 }
 
-// The bytes of one number and its tab. A number of one digit, of which there are most, is told by one test, which both signs pass.
-fn field_length(x: Whole) -> FieldBytes
-    ensures { λ r. ⌜ FieldBytesYield (x .0 ∷ []) r ⌝ }
+// How many bytes more than two a number and its tab have, of a number that is no single digit.
+fn more_bytes(x: Whole) -> FieldBytes
+    requires { ⌜ (nonNeg (x .0) && ltb (natAbs (x .0)) 10) ≡ false ⌝ }
+    ensures { λ r. ⌜ MoreBytesYield (x .0) r ⌝ }
 {
-    if magnitude(x) < 9 {
-        if is_negative(x) {
-            return FieldBytes::Of(3);
+    if is_short(x) {
+        if is_down_to(x, 9) {
+            return FieldBytes::Of(1);
         }
         return FieldBytes::Of(2);
     }
     if is_sized(x) {
-        return FieldBytes::Of(1 + number_length(x));
+        return FieldBytes::Of(number_length(x) - 1);
     }
     FieldBytes::TooLarge
 }
 
-// Takes numbers into the array, and counts their bytes where the sizes of all are allowed.
+// Takes numbers into the array, and counts their bytes where the sizes of all are allowed: two for each, as most have, and what others have more.
 fn take_numbers(from: &[i64], numbers: &mut [i64]) -> FieldBytes
     requires { ⌜ (length (now from) ≤ mostNumbers) × (length (now numbers) ≡ mostNumbers) ⌝ }
     ensures { λ r. ⌜ NumbersTaken (now (from .entry)) (now (numbers .exit)) r ⌝ }
 {
-    let mut total: usize = 0;
+    let mut total = 2 * from.len();
     let mut i: usize = 0;
     while i < from.len() {
         let x = whole_at(from, i);
-        let FieldBytes::Of(bytes) = field_length(x) else {
-            return FieldBytes::TooLarge;
-        };
         set_whole(numbers, i, x);
-        total += bytes;
+        if !is_below(x, 10) {
+            let FieldBytes::Of(more) = more_bytes(x) else {
+                return FieldBytes::TooLarge;
+            };
+            total += more;
+        }
         i += 1;
     }
     FieldBytes::Of(total)
@@ -108,7 +93,7 @@ pub fn line_given(code: u8, from: &[i64], numbers: &mut [i64]) -> Readable
     requires { ⌜ length (now numbers) ≡ mostNumbers ⌝ }
     ensures { λ r. ⌜ LineYield (givenText (given (wordWith code) (now (from .entry)))) (length (now (from .entry))) (now (numbers .exit)) r ⌝ }
 {
-    let Coded::Known(word) = word_with(code) else {
+    let Coded::Known(word, length) = word_with(code) else {
         return Readable::NoLine;
     };
     if !is_count(word, from.len()) {
@@ -117,5 +102,5 @@ pub fn line_given(code: u8, from: &[i64], numbers: &mut [i64]) -> Readable
     let FieldBytes::Of(bytes) = take_numbers(from, numbers) else {
         return Readable::NoLine;
     };
-    Readable::Line(word, word_length(code) + bytes + 1)
+    Readable::Line(word, length + bytes + 1)
 }

@@ -1,17 +1,20 @@
 // The text of given lines, written at the start of a part that has room for it: each line's word, its numbers with a tab before each, and the byte
 // that ends the line. FORMAT 2.9
 use super::given::line_at;
+use super::short::is_short_negative;
+use super::word::write_word;
 use number::Whole;
-use number::whole::is_negative;
-use number::whole::magnitude;
+use number::whole::is_below;
+use number::whole::negated;
+use number::whole::size_of;
 use number::whole::whole_at;
-use output::write_bytes;
+use output::write_decimal;
 use output::write_number;
 ghost use mathlib.Core.List.{_∷_};
 ghost use Prim.Native.Nat.{_≤_};
 ghost use lib.ListN.{length};
 ghost use Rattle.meaning.specs.Text.{numberText};
-ghost use Rattle.meaning.specs.Write.{given, wordWith, wordText, textOf, linesGiven};
+ghost use Rattle.meaning.specs.Write.{given, wordWith, textOf, linesGiven};
 ghost use Rattle.output.specs.Written.{Written};
 ghost use Rattle.writer.specs.Given.{lineText};
 
@@ -23,43 +26,32 @@ const MINUS: u8 = 45;
 
 const ZERO: u8 = 48;
 
-const ONE: u8 = 49;
-
-// Writes the word with this code, and nothing for a code that no word has. FORMAT 3.1, 9.24
-fn write_word(part: &mut [u8], code: u8) -> usize
-    requires { ⌜ length (wordText (wordWith code)) ≤ length (now part) ⌝ }
-    ensures { λ r. ⌜ Written (wordText (wordWith code)) (now (part .entry)) (now (part .exit)) r ⌝ }
+// Writes a number, one of two digits by a test of its own.
+fn write_signed(part: &mut [u8], x: Whole) -> usize
+    requires { ⌜ length (numberText (x .0)) ≤ length (now part) ⌝ }
+    ensures { λ r. ⌜ Written (numberText (x .0)) (now (part .entry)) (now (part .exit)) r ⌝ }
 {
-    match code {
-        0 => write_bytes(part, b"field"),
-        1 => write_bytes(part, b"in"),
-        2 => write_bytes(part, b"span"),
-        3 => write_bytes(part, b"sum"),
-        4 => write_bytes(part, b"relu"),
-        5 => write_bytes(part, b"which"),
-        6 => write_bytes(part, b"max"),
-        7 => write_bytes(part, b"root"),
-        _ => 0,
+    if is_short_negative(x) {
+        part[0] = MINUS;
+        return 1 + write_decimal(&mut part[1..], size_of(negated(x)) as u64);
     }
+    if is_below(x, 100) {
+        return write_decimal(part, size_of(x) as u64);
+    }
+    write_number(part, x)
 }
 
-// Writes a tab and a number. A number of one digit, of which there are most, is told by one test, which both signs pass.
+// Writes a tab and a number, a single digit at once.
 fn write_tabbed(part: &mut [u8], x: Whole) -> usize
     requires { ⌜ length (9 ∷ numberText (x .0)) ≤ length (now part) ⌝ }
     ensures { λ r. ⌜ Written (9 ∷ numberText (x .0)) (now (part .entry)) (now (part .exit)) r ⌝ }
 {
     part[0] = TAB;
-    let size = magnitude(x);
-    if size < 9 {
-        if is_negative(x) {
-            part[1] = MINUS;
-            part[2] = ONE + size as u8;
-            return 3;
-        }
-        part[1] = ZERO + size as u8;
+    if is_below(x, 10) {
+        part[1] = ZERO + size_of(x) as u8;
         return 2;
     }
-    1 + write_number(&mut part[1..], x)
+    1 + write_signed(&mut part[1..], x)
 }
 
 // Writes a line with this word and these numbers.

@@ -1,15 +1,14 @@
 // How long the text of given lines is. It is measured only up to the limit of a text: so no sum overflows, however many numbers there are.
 use super::given::line_at;
+use super::word::word_length;
 use number::whole::whole_at;
 use output::number_length;
-ghost use mathlib.Core.Path.{_≡_};
 ghost use Prim.Native.Nat.{_+_, _≤_};
 ghost use lib.ListN.{length};
 ghost use Rattle.meaning.specs.Refusal.{textLimit};
-ghost use Rattle.meaning.specs.Write.{given, wordWith, wordText, textOf, linesGiven};
+ghost use Rattle.meaning.specs.Write.{given, wordWith, textOf, linesGiven};
 ghost use Rattle.writer.specs.Given.{lineText};
-ghost use Rattle.writer.specs.Line.{mostLine};
-ghost use Rattle.writer.specs.Measure.{LengthYield, Longer};
+ghost use Rattle.writer.specs.Measure.{LengthYield};
 
 // A text of more bytes is refused. FORMAT 4.8
 pub const TEXT_LIMIT: usize = 65536;
@@ -18,23 +17,6 @@ pub const TEXT_LIMIT: usize = 65536;
 pub enum Length {
     Of(usize),
     TooLong,
-}
-
-// How many bytes spell the word with this code. FORMAT 3.1, 9.24
-pub fn word_length(code: u8) -> usize
-    ensures { λ r. ⌜ r ≡ length (wordText (wordWith code)) ⌝ }
-{
-    match code {
-        0 => 5,
-        1 => 2,
-        2 => 4,
-        3 => 3,
-        4 => 4,
-        5 => 5,
-        6 => 3,
-        7 => 4,
-        _ => 0,
-    }
 }
 
 // The length with that of one more line, which has this word and these numbers.
@@ -55,17 +37,6 @@ fn line_length(code: u8, numbers: &[i64], before: usize) -> Length
         return Length::TooLong;
     }
     Length::Of(total)
-}
-
-// A length with that of one more line, where it is not above the limit already.
-pub fn longer(total: usize, size: usize) -> usize
-    requires { ⌜ size ≤ mostLine ⌝ }
-    ensures { λ r. ⌜ Longer total size r ⌝ }
-{
-    if TEXT_LIMIT < total {
-        return total;
-    }
-    total + size
 }
 
 // The length of all lines. FORMAT 9.26, 10.1

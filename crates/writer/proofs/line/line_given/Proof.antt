@@ -1,5 +1,5 @@
 -- Each way out has one reason for which the text spells no line, and at the last there is none.
-use mathlib.Core.Path.{_≡_, refl, sym, ap, _∙_}
+use mathlib.Core.Path.{_≡_, refl, sym, subst, _∙_}
 use mathlib.Core.Option.{some}
 use Prim.Native.Nat.{_+_, _*_, _≤_}
 use native.Mathlib.Omega.{arith}
@@ -7,25 +7,34 @@ use lib.ListN.{length}
 use borrow.Author.Needs.{needs}
 use borrow.Author.Tests.{not-true, not-false}
 use Rattle.meaning.specs.Word.{mostNumbers}
-use Rattle.meaning.specs.Write.{wordWith}
+use Rattle.meaning.specs.Write.{wordWith, wordText}
 use Rattle.text.specs.Word.{wordOf}
-use Rattle.writer.specs.Line.{codedMeaning, mostField, mostLine, ReadableYield}
+use Rattle.writer.specs.declared.word.Coded.the-variants.{Known}
+use Rattle.writer.specs.Word.{CodedYield}
+use Rattle.writer.specs.Line.{mostField, mostLine, ReadableYield}
 use Rattle.writer.proofs.Taking.{too-large, all-taken, taken-stand, counted-most, no-word-line, no-count-line, no-size-line, taken-line, taken-size}
 use Rattle.writer.proofs.Texts.{word-most}
 use Rattle.writer.proofs.line.line_given.Statement.{statement}
 use Rattle.writer.proofs.line.line_given.Tie as tie
 
 returns : tie.Need-returns
-unfolding codedMeaning ReadableYield
+unfolding CodedYield ReadableYield
 returns c =
     let found = c .before .before in
     let s = found .before in
-    record { yields = no-word-line (s .args .from .now) (sym (found .word-with .ensures) ∙ ap codedMeaning (c .enum-told .given .1)); long = s .pre }
+    record { yields = no-word-line (s .args .from .now) (rw (c .enum-told .given .1) at (found .word-with .ensures)); long = s .pre }
 
--- the word, once its code is known
+-- the word, once its code is known, and its length
+coded : (c : tie.After-word) → CodedYield (c .before .before .before .args .code) (Known (c .word .given .0 .0) (c .word .given .0 .1 .0))
+coded c = subst (CodedYield (c .before .before .before .args .code)) (c .word .given .1) (c .before .before .word-with .ensures)
+
 word-is : (c : tie.After-word) → wordWith (c .before .before .before .args .code) ≡ some (wordOf (c .word .given .0 .0))
-unfolding codedMeaning
-word-is c = sym (c .before .before .word-with .ensures) ∙ ap codedMeaning (c .word .given .1)
+unfolding CodedYield
+word-is c = coded c .0
+
+length-is : (c : tie.After-word) → c .word .given .0 .1 .0 ≡ length (wordText (wordWith (c .before .before .before .args .code)))
+unfolding CodedYield
+length-is c = coded c .1
 
 returns-2 : tie.Need-returns-2
 unfolding ReadableYield
@@ -69,26 +78,23 @@ module _ (c : tie.After-bytes) where
   bytes-few : c .bytes .given .0 .0 ≤ mostField * mostNumbers
   bytes-few = omega (arith, all-taken (taking .take-numbers .ensures) (c .bytes .given .1) .2, few at-count)
 
-module _ (c : tie.After-word-length) where
-  abbrev taken : tie.After-bytes
-  taken = c .before .before
-
-  line-few : c .word-length .result + taken .bytes .given .0 .0 + 1 ≤ mostLine
-  line-few = omega (arith, bytes-few taken, word-most (wordWith (start taken .args .code)), c .word-length .ensures)
+  line-few : at-word .word .given .0 .1 .0 + c .bytes .given .0 .0 + 1 ≤ mostLine
+  line-few = omega (arith, bytes-few, word-most (wordWith (start .args .code)), length-is at-word)
 
 returns-4 : tie.Need-returns-4
 unfolding ReadableYield
 returns-4 c =
-    let from = start (taken c) .args .from .now in
-    let numbers = taking (taken c) .take-numbers .ensures in
-    let all = all-taken numbers (taken c .bytes .given .1) in
-    let counted = sym (at-count (taken c) .before .is-count .ensures from refl) ∙ not-false _ (at-count (taken c) .if1 .left) in
+    let taken = c .before in
+    let from = start taken .args .from .now in
+    let numbers = taking taken .take-numbers .ensures in
+    let all = all-taken numbers (taken .bytes .given .1) in
+    let counted = sym (at-count taken .before .is-count .ensures from refl) ∙ not-false _ (at-count taken .if1 .left) in
     record {
       yields = (
-        rw (taken-stand numbers (taken c .bytes .given .1)) (taken-line from (word-is (at-word (taken c))) counted (all .0)),
-        few (at-count (taken c)),
-        taken-size (wordWith (start (taken c) .args .code)) from (c .word-length .ensures) (all .1),
-        line-few c,
+        rw (taken-stand numbers (taken .bytes .given .1)) (taken-line from (word-is (at-word taken)) counted (all .0)),
+        few (at-count taken),
+        taken-size (wordWith (start taken .args .code)) from (length-is (at-word taken)) (all .1),
+        line-few taken,
       );
       long = numbers .long;
     }
@@ -108,8 +114,7 @@ line-given-spec =
     (λ c. search needs)
     (λ c. search needs)
     returns-3
-    (λ c κs. search needs)
-    (λ c. omega (arith, line-few c))
-    (λ c. omega (arith, line-few c))
+    (λ c. omega (arith, line-few (c .before)))
+    (λ c. omega (arith, line-few (c .before)))
     (λ c. search needs)
     returns-4)

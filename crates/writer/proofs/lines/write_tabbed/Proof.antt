@@ -1,56 +1,53 @@
--- A number of one digit is written at once, with its sign; any other into the part after the tab.
-use Prim.Native.Nat.{_≤_}
+-- A single digit is written at once, and any other number into the part after the tab.
+use mathlib.Core.Path.{_≡_, sym, _∙_}
+use mathlib.Core.Bool.{true, _&&_}
 use native.Mathlib.Omega.{arith}
-use lib.ListN.{length, set, length-set}
+use lib.Dec.{ltb}
+use lib.ListN.{length-set}
+use lib.IntN.{natAbs}
+use lib.Signed.{nonNeg}
 use borrow.Author.Needs.{needs}
 use Rattle.output.proofs.Writing.{rest-starts, rest-room, whole-room, written-whole, written-length}
-use Rattle.writer.proofs.Tabbed.{tab-written, tab-halves, signed-room, signed-written, plain-room, plain-written}
+use Rattle.writer.proofs.Digits.{below-limit, from-zero-on}
+use Rattle.writer.proofs.Tabbed.{tab-written, tab-halves, digit-room, digit-written}
 use Rattle.writer.proofs.lines.write_tabbed.Statement.{statement}
 use Rattle.writer.proofs.lines.write_tabbed.Tie as tie
 
--- room for a sign and a digit, and for a digit
-signed : (c : tie.Then2) → 3 ≤ length (c .before .before .before .before .before .args .part .now)
-signed c =
-    let measured = c .before .before .before in
-    let s = measured .before .before in
-    signed-room (s .args .x .0) (s .args .part .now) (s .pre) (measured .magnitude .ensures) (c .before .is-negative .ensures) (c .before .before .if1 .taken) (c .if2 .taken)
+-- ---- a single digit
 
-plain : (c : tie.Else2) → 2 ≤ length (c .before .before .before .before .before .args .part .now)
-plain c =
-    let measured = c .before .before .before in
-    let s = measured .before .before in
-    plain-room (s .args .x .0) (s .args .part .now) (s .pre) (measured .magnitude .ensures) (c .before .is-negative .ensures) (c .before .before .if1 .taken) (c .if2 .left)
+module _ (c : tie.Then1) where
+  abbrev start : tie.Start
+  start = c .before .before .before
+
+  single : (nonNeg (start .args .x .0) && ltb (natAbs (start .args .x .0)) 10) ≡ true
+  single = sym (c .before .is-below .ensures) ∙ c .if1 .taken
+
+size-of-requires : tie.Need-size-of-requires
+size-of-requires c κs = from-zero-on (below-limit (start c .args .x .0) 10 (single c) .0)
+
+cast-part : tie.Need-cast-part
+cast-part c = let then = c .before in omega (arith, c .size-of .ensures, below-limit (start then .args .x .0) 10 (single then) .1)
+
+add-part : tie.Need-add-part
+add-part c = let then = c .before in omega (arith, c .size-of .ensures, below-limit (start then .args .x .0) 10 (single then) .1)
 
 slice-write-part-2 : tie.Need-slice-write-part-2
-slice-write-part-2 c = omega (arith, signed c, length-set (c .before .before .before .before .before .args .part .now) 0 9)
-
-slice-write-part-3 : tie.Need-slice-write-part-3
-slice-write-part-3 c =
-    let part = c .before .before .before .before .before .args .part .now in
-    omega (arith, signed c, length-set part 0 9, length-set (set part 0 9) 1 45)
+slice-write-part-2 c =
+    let s = start (c .before) in
+    omega (arith, digit-room (s .args .x .0) (s .args .part .now) (s .pre) (single (c .before)) (c .size-of .ensures), length-set (s .args .part .now) 0 9)
 
 returns : tie.Need-returns
-returns c =
-    let measured = c .before .before .before in
-    let s = measured .before .before in
-    signed-written (s .args .x .0) (s .args .part .now) (s .pre) (measured .magnitude .ensures) (c .before .is-negative .ensures) (c .before .before .if1 .taken) (c .if2 .taken)
+returns c = let s = start (c .before) in digit-written (s .args .x .0) (s .args .part .now) (s .pre) (single (c .before)) (c .size-of .ensures)
 
-slice-write-part-4 : tie.Need-slice-write-part-4
-slice-write-part-4 c = omega (arith, plain c, length-set (c .before .before .before .before .before .args .part .now) 0 9)
+-- ---- any other number
 
 returns-2 : tie.Need-returns-2
 returns-2 c =
-    let measured = c .before .before .before in
-    let s = measured .before .before in
-    plain-written (s .args .x .0) (s .args .part .now) (s .pre) (measured .magnitude .ensures) (c .before .is-negative .ensures) (c .before .before .if1 .taken) (c .if2 .left)
-
-returns-3 : tie.Need-returns-3
-returns-3 c =
     let s = c .before .before .before .before .before .before .before in
-    written-whole (tab-halves (s .args .x .0) (s .args .part .now) (s .pre)) (tab-written (s .args .x .0) (s .args .part .now) (s .pre)) (c .before .before .write-number .ensures)
+    written-whole (tab-halves (s .args .x .0) (s .args .part .now) (s .pre)) (tab-written (s .args .x .0) (s .args .part .now) (s .pre)) (c .before .before .write-signed .ensures)
 
-same-length-3 : tie.Need-same-length-3
-same-length-3 c = written-length (returns-3 c) (c .before .before .before .before .before .before .before .pre)
+same-length-2 : tie.Need-same-length-2
+same-length-2 c = written-length (returns-2 c) (c .before .before .before .before .before .before .before .pre)
 
 pub write-tabbed-spec : {M : Type 1} → statement M
 write-tabbed-spec =
@@ -58,22 +55,16 @@ write-tabbed-spec =
     (tie.spec
     (λ c. omega (arith, c .before .pre))
     (λ c κs. search needs)
-    (λ c κs. search needs)
+    size-of-requires
+    cast-part
+    add-part
     slice-write-part-2
-    (λ c. omega (arith, c .before .before .if1 .taken))
-    (λ c. omega (arith, c .before .before .if1 .taken))
-    slice-write-part-3
     (λ c. search needs)
     returns
-    (λ c. omega (arith, c .before .before .if1 .taken))
-    (λ c. omega (arith, c .before .before .if1 .taken))
-    slice-write-part-4
+    (λ c. let s = c .before .before .before in rest-starts (tab-halves (s .args .x .0) (s .args .part .now) (s .pre)) (tab-written (s .args .x .0) (s .args .part .now) (s .pre)))
+    (λ c. let s = c .before .before .before in rest-starts (tab-halves (s .args .x .0) (s .args .part .now) (s .pre)) (tab-written (s .args .x .0) (s .args .part .now) (s .pre)))
     (λ c. search needs)
-    returns-2
-    (λ c. rest-starts (tab-halves (c .before .before .before .args .x .0) (c .before .before .before .args .part .now) (c .before .before .before .pre)) (tab-written (c .before .before .before .args .x .0) (c .before .before .before .args .part .now) (c .before .before .before .pre)))
-    (λ c. rest-starts (tab-halves (c .before .before .before .args .x .0) (c .before .before .before .args .part .now) (c .before .before .before .pre)) (tab-written (c .before .before .before .args .x .0) (c .before .before .before .args .part .now) (c .before .before .before .pre)))
-    (λ c. search needs)
-    (λ c κs. rest-room (tab-halves (c .before .before .before .before .args .x .0) (c .before .before .before .before .args .part .now) (c .before .before .before .before .pre)) (tab-written (c .before .before .before .before .args .x .0) (c .before .before .before .before .args .part .now) (c .before .before .before .before .pre)))
-    (λ c. omega (arith, whole-room (tab-halves (c .before .before .before .before .before .before .before .args .x .0) (c .before .before .before .before .before .before .before .args .part .now) (c .before .before .before .before .before .before .before .pre)) (tab-written (c .before .before .before .before .before .before .before .args .x .0) (c .before .before .before .before .before .before .before .args .part .now) (c .before .before .before .before .before .before .before .pre)) (c .before .before .write-number .ensures)))
-    same-length-3
-    returns-3)
+    (λ c κs. let s = c .before .before .before .before in rest-room (tab-halves (s .args .x .0) (s .args .part .now) (s .pre)) (tab-written (s .args .x .0) (s .args .part .now) (s .pre)))
+    (λ c. let s = c .before .before .before .before .before .before .before in omega (arith, whole-room (tab-halves (s .args .x .0) (s .args .part .now) (s .pre)) (tab-written (s .args .x .0) (s .args .part .now) (s .pre)) (c .before .before .write-signed .ensures)))
+    same-length-2
+    returns-2)

@@ -5,8 +5,8 @@ use Rattle.meaning.specs.Text.{bytes}
 use Rattle.meaning.specs.Word.{kindOf, words}
 use Rattle.meaning.specs.Write.{elementAt, wordWith, wordText}
 use Rattle.writer.proofs.Texts.{no-word-text}
-use Rattle.writer.proofs.lines.write_word.Statement.{statement}
-use Rattle.writer.proofs.lines.write_word.Tie as tie
+use Rattle.writer.proofs.word.write_word.Statement.{statement}
+use Rattle.writer.proofs.word.write_word.Tie as tie
 
 pub write-word-spec : {M : Type 1} → statement M
 unfolding wordText wordWith elementAt words kindOf bytes
