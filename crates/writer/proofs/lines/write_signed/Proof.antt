@@ -1,12 +1,14 @@
 -- A sign and then the digits of the negation, or the digits alone; any other number by its magnitude.
 use mathlib.Core.Path.{_≡_, sym, ap, _∙_}
-use mathlib.Core.List.{_∷_}
-use Prim.Native.Nat.{ℕ}
+use mathlib.Core.List.{[], _∷_}
+use Prim.Native.Nat.{ℕ, _≤_}
 use native.Mathlib.Omega.{arith}
+use lib.ListN.{length, set}
 use lib.IntN.{ℤ, negℤ, natAbs}
 use borrow.Author.Needs.{needs}
 use Rattle.meaning.specs.Text.{decimalOf, numberText}
-use Rattle.output.proofs.Writing.{rest-starts, rest-room, whole-room, written-whole, written-length}
+use Rattle.output.specs.Written.{Written}
+use Rattle.output.proofs.Writing.{Halves, rest-starts, rest-room, whole-room, written-whole, written-length}
 use Rattle.writer.proofs.Digits.{below-limit, from-zero-on, plain-number, negation-of}
 use Rattle.writer.proofs.Tabbed.{sign-room, sign-written, sign-halves}
 use Rattle.writer.proofs.lines.write_signed.Statement.{statement}
@@ -24,14 +26,12 @@ module _ (c : tie.Then1) where
   signed : numberText z ≡ 45 ∷ decimalOf (natAbs (negℤ z))
   signed = negation-of z (sym (c .before .is-short-negative .ensures) ∙ c .if1 .taken) .2
 
-slice-write-part : tie.Need-slice-write-part
-slice-write-part c = sign-room (z c) (start c .args .part .now) (start c .pre) _ (signed c)
+  -- the sign, and what comes after it
+  sign : Written (45 ∷ []) (start .args .part .now) (set (start .args .part .now) 0 45) 1
+  sign = sign-written z (start .args .part .now) (start .pre) _ signed
 
-sub-write-decimal : tie.Need-sub-write-decimal
-sub-write-decimal c = let part = start c .args .part .now in rest-starts (sign-halves (z c) part (start c .pre) _ (signed c)) (sign-written (z c) part (start c .pre) _ (signed c))
-
-part-write-decimal-start : tie.Need-part-write-decimal-start
-part-write-decimal-start c = let part = start c .args .part .now in rest-starts (sign-halves (z c) part (start c .pre) _ (signed c)) (sign-written (z c) part (start c .pre) _ (signed c))
+  starts : 1 ≤ length (set (start .args .part .now) 0 45)
+  starts = rest-starts (sign-halves z (start .args .part .now) (start .pre) _ signed) sign
 
 negated-requires : tie.Need-negated-requires
 negated-requires c κs = let then = c .before in negation-of (z then) (sym (then .before .is-short-negative .ensures) ∙ then .if1 .taken) .0
@@ -49,22 +49,16 @@ module _ (c : tie.After-size-of) where
   sized : numberText (z then) ≡ 45 ∷ decimalOf (c .size-of .result)
   sized = signed then ∙ ap (λ (n : ℕ). 45 ∷ decimalOf n) (sym (c .size-of .ensures ∙ ap natAbs (c .before .negated .ensures)))
 
-write-decimal-requires : tie.Need-write-decimal-requires
-write-decimal-requires c κs =
-    let s = start (then c) in
-    rest-room (sign-halves (z (then c)) (s .args .part .now) (s .pre) _ (sized c)) (sign-written (z (then c)) (s .args .part .now) (s .pre) _ (sized c))
+  halves : Halves (numberText (z then)) (45 ∷ []) (decimalOf (c .size-of .result)) (start then .args .part .now)
+  halves = sign-halves (z then) (start then .args .part .now) (start then .pre) _ sized
 
-add-result : tie.Need-add-result
-add-result c =
-    let at-size = c .before .before .before in
-    let s = start (then at-size) in
-    omega (arith, whole-room (sign-halves (z (then at-size)) (s .args .part .now) (s .pre) _ (sized at-size)) (sign-written (z (then at-size)) (s .args .part .now) (s .pre) _ (sized at-size)) (c .before .before .write-decimal .ensures))
+-- where the digits are written
+module _ (c : tie.After-slice-known2) where
+  abbrev at-size : tie.After-size-of
+  at-size = c .before .before .before
 
 returns : tie.Need-returns
-returns c =
-    let at-size = c .before .before .before in
-    let s = start (then at-size) in
-    written-whole (sign-halves (z (then at-size)) (s .args .part .now) (s .pre) _ (sized at-size)) (sign-written (z (then at-size)) (s .args .part .now) (s .pre) _ (sized at-size)) (c .before .before .write-decimal .ensures)
+returns c = written-whole (halves (at-size c)) (sign (then (at-size c))) (c .before .before .write-decimal .ensures)
 
 -- ---- a number of two digits
 
@@ -89,10 +83,7 @@ write-decimal-requires-2 : tie.Need-write-decimal-requires-2
 write-decimal-requires-2 c κs = rw (plain c) (began c .pre)
 
 returns-2 : tie.Need-returns-2
-returns-2 c = let at-size = c .before .before .before in rw (plain at-size) at (c .before .before .write-decimal2 .ensures)
-
-same-length : tie.Need-same-length
-same-length c = written-length (returns c) (start (then (c .before .before .before)) .pre)
+returns-2 c = rw (plain (c .before .before .before)) at (c .before .before .write-decimal2 .ensures)
 
 same-length-2 : tie.Need-same-length-2
 same-length-2 c = written-length (returns-2 c) (began (c .before .before .before) .pre)
@@ -105,15 +96,15 @@ write-signed-spec =
     tie.close
     (tie.spec
     (λ c κs. search needs)
-    slice-write-part
-    sub-write-decimal
-    part-write-decimal-start
+    (λ c. sign-room (z c) (start c .args .part .now) (start c .pre) _ (signed c))
+    starts
+    starts
     (λ c. search needs)
     negated-requires
     size-of-requires
-    write-decimal-requires
-    add-result
-    same-length
+    (λ c κs. rest-room (halves c) (sign (then c)))
+    (λ c. omega (arith, whole-room (halves (at-size c)) (sign (then (at-size c))) (c .before .before .write-decimal .ensures)))
+    (λ c. written-length (returns c) (start (then (at-size c)) .pre))
     returns
     (λ c κs. search needs)
     size-of-requires-2

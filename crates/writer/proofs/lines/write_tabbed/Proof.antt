@@ -1,13 +1,16 @@
 -- A single digit is written at once, and any other number into the part after the tab.
 use mathlib.Core.Path.{_≡_, sym, _∙_}
 use mathlib.Core.Bool.{true, _&&_}
+use mathlib.Core.List.{[], _∷_}
 use native.Mathlib.Omega.{arith}
 use lib.Dec.{ltb}
-use lib.ListN.{length-set}
+use lib.ListN.{set, length-set}
 use lib.IntN.{natAbs}
 use lib.Signed.{nonNeg}
 use borrow.Author.Needs.{needs}
-use Rattle.output.proofs.Writing.{rest-starts, rest-room, whole-room, written-whole, written-length}
+use Rattle.meaning.specs.Text.{numberText}
+use Rattle.output.specs.Written.{Written}
+use Rattle.output.proofs.Writing.{Halves, rest-starts, rest-room, whole-room, written-whole, written-length}
 use Rattle.writer.proofs.Digits.{below-limit, from-zero-on}
 use Rattle.writer.proofs.Tabbed.{tab-written, tab-halves, digit-room, digit-written}
 use Rattle.writer.proofs.lines.write_tabbed.Statement.{statement}
@@ -41,13 +44,20 @@ returns c = let s = start (c .before) in digit-written (s .args .x .0) (s .args 
 
 -- ---- any other number
 
-returns-2 : tie.Need-returns-2
-returns-2 c =
-    let s = c .before .before .before .before .before .before .before in
-    written-whole (tab-halves (s .args .x .0) (s .args .part .now) (s .pre)) (tab-written (s .args .x .0) (s .args .part .now) (s .pre)) (c .before .before .write-signed .ensures)
+module _ (s : tie.Start) where
+  tab : Written (9 ∷ []) (s .args .part .now) (set (s .args .part .now) 0 9) 1
+  tab = tab-written (s .args .x .0) (s .args .part .now) (s .pre)
 
-same-length-2 : tie.Need-same-length-2
-same-length-2 c = written-length (returns-2 c) (c .before .before .before .before .before .before .before .pre)
+  halves : Halves (9 ∷ numberText (s .args .x .0)) (9 ∷ []) (numberText (s .args .x .0)) (s .args .part .now)
+  halves = tab-halves (s .args .x .0) (s .args .part .now) (s .pre)
+
+-- where the number is written
+module _ (c : tie.After-slice-known2) where
+  abbrev began : tie.Start
+  began = c .before .before .before .before .before .before .before
+
+returns-2 : tie.Need-returns-2
+returns-2 c = written-whole (halves (began c)) (tab (began c)) (c .before .before .write-signed .ensures)
 
 pub write-tabbed-spec : {M : Type 1} → statement M
 write-tabbed-spec =
@@ -61,10 +71,10 @@ write-tabbed-spec =
     slice-write-part-2
     (λ c. search needs)
     returns
-    (λ c. let s = c .before .before .before in rest-starts (tab-halves (s .args .x .0) (s .args .part .now) (s .pre)) (tab-written (s .args .x .0) (s .args .part .now) (s .pre)))
-    (λ c. let s = c .before .before .before in rest-starts (tab-halves (s .args .x .0) (s .args .part .now) (s .pre)) (tab-written (s .args .x .0) (s .args .part .now) (s .pre)))
+    (λ c. rest-starts (halves (c .before .before .before)) (tab (c .before .before .before)))
+    (λ c. rest-starts (halves (c .before .before .before)) (tab (c .before .before .before)))
     (λ c. search needs)
-    (λ c κs. let s = c .before .before .before .before in rest-room (tab-halves (s .args .x .0) (s .args .part .now) (s .pre)) (tab-written (s .args .x .0) (s .args .part .now) (s .pre)))
-    (λ c. let s = c .before .before .before .before .before .before .before in omega (arith, whole-room (tab-halves (s .args .x .0) (s .args .part .now) (s .pre)) (tab-written (s .args .x .0) (s .args .part .now) (s .pre)) (c .before .before .write-signed .ensures)))
-    same-length-2
+    (λ c κs. rest-room (halves (c .before .before .before .before)) (tab (c .before .before .before .before)))
+    (λ c. omega (arith, whole-room (halves (began c)) (tab (began c)) (c .before .before .write-signed .ensures)))
+    (λ c. written-length (returns-2 c) (began c .pre))
     returns-2)
