@@ -1,5 +1,7 @@
 // The desk: a check that counts (FORMAT 9.11, 9.12). It says how many tables it has heard, accepted and refused,
 // and stops at the full count, where one more could not be counted.
+#![tactic(auto)]
+
 ghost use Rattle.std.specs.Prelude.{◌≡◌, ◌+◌, ◌<◌, eqb};
 ghost use Rattle.meaning.specs.Reply.{reply};
 ghost use Rattle.meaning.specs.Desk.{full_count, called, call_of};

@@ -2,6 +2,8 @@
 // is lent for one number as a pointer. No function asks anything of its caller but that what it lends is there and that what is written overlaps
 // nothing else that is lent. Each returns the number of its reply, but for showing and answering, which return a count.
 // FORMAT 9.1, 9.2, 9.18, 9.21, 9.22
+#![tactic(auto)]
+
 ghost use Rattle.std.specs.Prelude.{◌≡◌, ◌+◌, ◌≤◌, length, get_or, take, drop};
 ghost use Rattle.meaning.specs.Refusal.{cell_limit};
 ghost use Rattle.meaning.specs.Reply.{reply, making, writing, read_reply, check_reply, make_reply, write_reply, shown, shown_from};

@@ -1,6 +1,8 @@
 // Lines as they are given, by words and numbers in three rows. Each is taken out of the rows by `line_at`. `line_given` has it as the reader's steps
 // ask for it, and counts the bytes of its text; `text_length` measures the text of all lines, and `write_text` writes it. What the lines mean as a list
 // is not asked here.
+#![tactic(auto)]
+
 mod given;
 mod line;
 mod measure;

@@ -3,6 +3,8 @@
 //
 // A function that writes cells is lent the part of the table that starts at the first cell that it writes. It leaves the rest of the part
 // as it was. Checking writes nothing: the table is a shared slice.
+#![tactic(auto)]
+
 pub mod group;
 pub mod named;
 pub mod numbers;

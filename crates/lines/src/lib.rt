@@ -1,5 +1,7 @@
 // Reads the lines of the text format: a line's word and numbers, or the number that it is, each as its definition in `meaning` says, for every byte
 // string. The fields of a line are numbers and words, which `text` reads.
+#![tactic(auto)]
+
 ghost use Rattle.std.specs.Prelude.{◌≡◌, true, ◌+◌, ◌<◌, length};
 ghost use Rattle.meaning.specs.Machine.{past_u64};
 ghost use Rattle.meaning.specs.Text.{is_ended};

@@ -3,6 +3,8 @@
 // written to it, both here. A remainder is not the whole number that it stands for: the one way from the first to the second is the signed reading,
 // `signed_value`. Beside them stand the inverse, the capped power and the square root. Each function is proved equal to its
 // definition in meaning or algebra.
+#![tactic(auto)]
+
 pub mod cell;
 pub mod inverse;
 pub mod power;

@@ -1,5 +1,7 @@
 // Writes text into a part of the output that is lent: bytes, numbers and fields. Each writer is given a part with room for its text,
 // writes the text at its start and leaves what comes after it; the part that is left then goes to the next writer.
+#![tactic(auto)]
+
 ghost use Rattle.std.specs.Prelude.{◌≡◌, ◌≤◌, length};
 ghost use Rattle.meaning.specs.Text.{decimal_of, number_text};
 ghost use Rattle.output.specs.Written.{Written, field_text};

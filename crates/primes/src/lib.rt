@@ -1,6 +1,8 @@
 // Whether a number is an odd prime. Of five great primes that proof systems use it is known: 119·2^23 + 1, 15·2^27 + 1, 127·2^24 + 1,
 // 2^31 - 1 and the greatest below 2^32. Of a number below 256 a table of the primes says it. For any other number the primes of the table are tried
 // first, then the odd numbers from 241 on up to the square root, but for multiples of 3 and 5: each test is one division of 32-bit numbers.
+#![tactic(auto)]
+
 ghost use Rattle.std.specs.Prelude.{◌≡◌, ℕ, ◌+◌, ◌≤◌, ◌<◌, length, get_or};
 ghost use Rattle.meaning.specs.Machine.{past_u32};
 ghost use Rattle.meaning.specs.Number.{odd_prime};

@@ -1,4 +1,6 @@
 // The product's program as a function on bytes: a list, the line `end` and the inputs are answered by the table or by a refusal.
+#![tactic(auto)]
+
 mod answer;
 mod answer_text;
 mod input;

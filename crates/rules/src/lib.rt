@@ -1,5 +1,7 @@
 // The rules of each kind of line, and the ends of the value that a line of the kind makes. A function here takes a line's numbers and what is
 // known before it, and changes nothing: taking in the line is for reading.
+#![tactic(auto)]
+
 mod input;
 mod max;
 mod relu;

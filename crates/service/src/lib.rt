@@ -1,5 +1,7 @@
 // The public calls of the product: reading, checking, making and showing, each promised by equations with the definitions of `meaning`.
 // Reading is the reader's, offered here beside the others.
+#![tactic(auto)]
+
 pub mod checking;
 pub mod making;
 pub mod reply;

@@ -1,5 +1,7 @@
 // Stored runs of `respond`: P1 (FORMAT 12.1, 11.12), and each refusal that an input of the program can cause. The answers are printed one after
 // another and compared with the stored ones. (Refusals 13 to 15 are a check's; 19 and 20 are the desk's; the program makes tables only.)
+#![tactic(auto)]
+
 use libc::STDOUT_FILENO;
 use program::respond;
 

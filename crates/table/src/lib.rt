@@ -2,6 +2,8 @@
 // for each kind of line; what kinds share is crate `groups`. `line_works`, `line_cells` and `line_rows` take a line of any kind, by its
 // word. They call the functions of the same names for its kind, as `max_line_works`, which take a line of a list that was read: its
 // numbers keep the rules.
+#![tactic(auto)]
+
 mod input;
 pub mod line_cells;
 pub mod line_rows;

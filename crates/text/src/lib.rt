@@ -3,6 +3,8 @@
 //
 // A reader answers with an enum. `specs/` says how each answer is read as a value of the definitions or as a refusal's number, and a
 // contract says that it is the definition's. Nothing is read past a slice's end and no sum overflows, however long the bytes are.
+#![tactic(auto)]
+
 ghost use Rattle.std.specs.Prelude.{◌≡◌, true, ◌||◌, ◌≤◌, ◌<◌, eqb, length};
 ghost use Rattle.meaning.specs.Text.{same_bytes, is_ended, is_digit};
 ghost use Rattle.meaning.specs.Word.{kind_of};

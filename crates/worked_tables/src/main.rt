@@ -1,5 +1,7 @@
 // Runs the worked tables P1 to P11 (clauses 12.1 to 12.11 of docs/FORMAT.md) through the compiled service, a line for each call. Every number
 // after a call's first colon is what the call returned or left; the numbers before it are what it was given.
+#![tactic(auto)]
+
 mod call;
 mod print;
 

@@ -1,5 +1,7 @@
 // Writes a list that is given as words and numbers: the text of the format, or the refusal that this text would get. The lines are read and their bytes
 // counted, and only when nothing is refused is the buffer written; the text stands nowhere but there.
+#![tactic(auto)]
+
 mod survey;
 
 ghost use Rattle.meaning.specs.Write.{text_of, lines_given};

@@ -64,7 +64,7 @@ module _ (s : Known) (vs : List ℤ) (w : Within s.known vs) where
   sum-between es x (t ∷ ts) n h =
       let own : Between (ends_of s t.value) (value_at vs t.value) = (low_end s vs t.value n.0 w, high_end s vs t.value n.0 w) in
       let term = scaled-between t.coefficient (value_at vs t.value) (ends_of s t.value) own in
-      sum-between _ _ ts n.1 (added-between es (scaled t.coefficient (ends_of s t.value)) x _ h term)
+      sum-between (added es (scaled t.coefficient (ends_of s t.value))) _ ts n.1 (added-between es (scaled t.coefficient (ends_of s t.value)) x _ h term)
 
   -- ---- the sum over cells is congruent to it
 
