@@ -14,7 +14,7 @@ use service::{Reply, check};
 const FULL_COUNT: u64 = 18446744073709551615;
 
 // Three counts, all 0 when fresh.
-#[derive(Drop)]
+#[derive(Clone, Copy)]
 pub struct Desk {
     pub heard: u64,
     pub accepted: u64,
@@ -22,7 +22,7 @@ pub struct Desk {
 }
 
 // The desk after a call, and the call's reply.
-#[derive(Drop)]
+#[derive(Clone, Copy)]
 pub struct Called {
     pub desk: Desk,
     pub reply: Reply,

@@ -7,7 +7,7 @@ ghost use Rattle.given_lines.specs.Given.{LineFound};
 const NO_WORD: u8 = 255;
 
 // A line: the code of its word, and where its numbers start and end in their row.
-#[derive(Drop)]
+#[derive(Clone, Copy)]
 pub struct GivenLine {
     pub code: u8,
     pub start: usize,

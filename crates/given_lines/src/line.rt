@@ -16,14 +16,14 @@ use output::number_length;
 use text::{LARGEST, Word, is_count};
 
 // How many bytes numbers take, where the size of each is allowed.
-#[derive(Drop)]
+#[derive(Clone, Copy)]
 enum FieldBytes {
     Of(usize),
     TooLarge,
 }
 
 // The word of a line that is one, and how many bytes its text has with the one that ends it. Its numbers stand in the array that is lent for them.
-#[derive(Drop)]
+#[derive(Clone, Copy)]
 pub enum Readable {
     Line(Word, usize),
     NoLine,

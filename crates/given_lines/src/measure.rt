@@ -14,7 +14,7 @@ use output::number_length;
 pub const TEXT_LIMIT: usize = 65536;
 
 // How many bytes a text has, where it is no longer than a text may be.
-#[derive(Drop)]
+#[derive(Clone, Copy)]
 pub enum Length {
     Of(usize),
     TooLong,

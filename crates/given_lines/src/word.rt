@@ -8,7 +8,7 @@ use output::write_bytes;
 use text::Word;
 
 // The word with a code, if one has it, and how many bytes spell it.
-#[derive(Drop)]
+#[derive(Clone, Copy)]
 pub enum Coded {
     Known(Word, usize),
     NoWord,

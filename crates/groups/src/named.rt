@@ -9,7 +9,7 @@ use number::{Cell, Whole};
 
 // ---- values
 
-#[derive(Drop)]
+#[derive(Clone, Copy)]
 pub struct OneValue {
     pub value: Whole,
     pub base: u32,
@@ -28,7 +28,7 @@ pub fn one_value(numbers: &[i64], values: &[i64]) -> OneValue
     }
 }
 
-#[derive(Drop)]
+#[derive(Clone, Copy)]
 pub struct TwoValues {
     pub first: Whole,
     pub second: Whole,
@@ -51,7 +51,7 @@ pub fn two_values(numbers: &[i64], values: &[i64]) -> TwoValues
 
 // ---- cells
 
-#[derive(Drop)]
+#[derive(Clone, Copy)]
 pub struct OnePlace {
     pub place: Cell,
     pub base: u32,
@@ -70,7 +70,7 @@ pub fn one_place(numbers: &[i64], places: &[u16]) -> OnePlace
     }
 }
 
-#[derive(Drop)]
+#[derive(Clone, Copy)]
 pub struct TwoPlaces {
     pub first: Cell,
     pub second: Cell,

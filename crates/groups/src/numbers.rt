@@ -25,7 +25,7 @@ fn base_at(numbers: &[i64], at: usize) -> u32
 }
 
 // A base and its digit count.
-#[derive(Drop)]
+#[derive(Clone, Copy)]
 pub struct Digits {
     pub base: u32,
     pub count: usize,

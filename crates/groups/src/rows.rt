@@ -6,7 +6,7 @@ ghost use Rattle.meaning.specs.Reply.{reply};
 ghost use Rattle.groups.specs.Rows.{rows_meaning, first_of};
 
 // The number of the first row that fails, counted from 0 in its line.
-#[derive(Drop)]
+#[derive(Clone, Copy)]
 pub enum Rows {
     AllHold,
     Fails(usize),

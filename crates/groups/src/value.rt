@@ -9,7 +9,7 @@ use number::residue::{remainder_of, set_residue};
 use number::whole::whole_at;
 
 // What working a line answers: the value that it makes, or that it makes none and its statement is true, or that its statement is false.
-#[derive(Drop)]
+#[derive(Clone, Copy)]
 pub enum Worked {
     Value(Whole),
     NoValue,

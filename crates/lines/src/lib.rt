@@ -15,7 +15,7 @@ use text::{MOST_NUMBERS, Number, Spelled, Word, is_count, number_at, word_at};
 const TAB: u8 = 9;
 
 // How many numbers fields spell, and where their line ends.
-#[derive(Drop)]
+#[derive(Clone, Copy)]
 enum NumberFields {
     Numbers(usize, usize),
     NoNumbers,
@@ -23,7 +23,7 @@ enum NumberFields {
 
 // The fields of a line, and where the next line starts: a word and how many numbers it has; or how many numbers there are alone, which is none
 // where they follow a word that they do not belong to. Both have the same parts, so that the compiler keeps them in registers.
-#[derive(Drop)]
+#[derive(Clone, Copy)]
 enum Fields {
     Worded(Word, usize, usize),
     Alone(usize, usize),
@@ -31,7 +31,7 @@ enum Fields {
 }
 
 // A line's word, how many numbers follow it, and where the next line starts.
-#[derive(Drop)]
+#[derive(Clone, Copy)]
 pub enum Parsed {
     Line(Word, usize, usize),
     NoLine,

@@ -3,7 +3,7 @@
 ghost use Rattle.std.specs.Prelude.{◌≡◌, ◌+◌, ◌<◌};
 ghost use Rattle.meaning.specs.Machine.{past_u64};
 
-#[derive(Drop)]
+#[derive(Clone, Copy)]
 pub struct Cell(pub(crate) usize);
 
 pub fn nth_cell(n: usize) -> Cell

@@ -2,7 +2,7 @@
 ghost use Rattle.std.specs.Prelude.{◌≡◌};
 ghost use Rattle.number.specs.Power.{capped_power};
 
-#[derive(Drop)]
+#[derive(Clone, Copy)]
 pub enum Power {
     Of(u64),
     AboveCap,

@@ -8,7 +8,7 @@ use super::cell::Cell;
 use super::whole::{Whole, magnitude};
 
 // A remainder modulo p, below p.
-#[derive(Drop)]
+#[derive(Clone, Copy)]
 pub struct Residue(pub(crate) u32);
 
 // ---- cells of a lent table

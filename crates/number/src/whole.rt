@@ -9,7 +9,7 @@ ghost use Rattle.meaning.specs.Machine.{past_i64};
 ghost use Rattle.meaning.specs.Number.{between, in_range, lowest, highest};
 
 // A whole number.
-#[derive(Drop)]
+#[derive(Clone, Copy)]
 pub struct Whole(pub(crate) i64);
 
 // ---- numbers of a lent slice

@@ -9,14 +9,14 @@ use lines::number_of;
 use text::{Number, is_same, line_end};
 
 // Where the first line `end` starts, and how many lines come before it.
-#[derive(Drop)]
+#[derive(Clone, Copy)]
 pub enum Ending {
     At(usize, usize),
     Missing,
 }
 
 // How many numbers there are, or which line, counted from 0, is the first that is none.
-#[derive(Drop)]
+#[derive(Clone, Copy)]
 pub enum Inputs {
     Numbers(usize),
     NoNumber(usize),

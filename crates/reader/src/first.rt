@@ -12,7 +12,7 @@ use primes::is_odd_prime;
 use text::Word;
 
 // p, or the number of the refusal.
-#[derive(Drop)]
+#[derive(Clone, Copy)]
 pub enum First {
     Prime(u32),
     NotFirst(u32),

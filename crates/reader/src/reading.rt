@@ -18,14 +18,14 @@ use number::cell::cell_number;
 use text::is_ended;
 
 // A read list's p and all its counts, or its refusal.
-#[derive(Drop)]
+#[derive(Clone, Copy)]
 pub enum Surveyed {
     Counted(u32, Counts),
     NotRead(u32, usize),
 }
 
 // A read list's p and its counts of values, cells and rows, or its refusal.
-#[derive(Drop)]
+#[derive(Clone, Copy)]
 pub enum Answer {
     Read(u32, usize, usize, usize),
     Refused(u32, usize),

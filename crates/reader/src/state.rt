@@ -9,7 +9,7 @@ use number::whole::set_whole;
 use rules::Made;
 
 // The counts of the first lines of a list, or of one line alone.
-#[derive(Drop)]
+#[derive(Clone, Copy)]
 pub struct Counts {
     pub values: usize,
     pub inputs: usize,
@@ -32,7 +32,7 @@ pub fn counts_with(counts: Counts, size: Counts) -> Counts
 }
 
 // The counts after a line, or the number of its refusal.
-#[derive(Drop)]
+#[derive(Clone, Copy)]
 pub enum Stepped {
     Next(Counts),
     Refused(u32),

@@ -17,21 +17,21 @@ use number::whole::{
 };
 
 // The known ends of a value.
-#[derive(Drop)]
+#[derive(Clone, Copy)]
 pub struct Ends {
     pub low: Whole,
     pub high: Whole,
 }
 
 // The ends of the value that a line makes, or the number of the first rule that it breaks.
-#[derive(Drop)]
+#[derive(Clone, Copy)]
 pub enum Made {
     EndsOf(Ends),
     Breaks(u32),
 }
 
 // A base and a digit count of which 2 <= b and 1 <= k <= 31.
-#[derive(Drop)]
+#[derive(Clone, Copy)]
 pub enum DigitsFound {
     Of(u64, u32),
     NoDigits,
@@ -110,7 +110,7 @@ pub fn early_broken(named: bool, values: usize, new: usize, cells: usize, width:
 // ---- rules 6 to 9 of a line with digits
 
 // The base and the digit count of a line that keeps these rules, or the first of them that it breaks.
-#[derive(Drop)]
+#[derive(Clone, Copy)]
 pub enum Begun {
     Digits(u64, u32),
     Stops(u32),

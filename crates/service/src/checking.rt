@@ -15,7 +15,7 @@ use reader::{Counts, Surveyed, counts_of, survey};
 use table::line_rows::line_rows;
 
 // The first cell of p or more.
-#[derive(Drop)]
+#[derive(Clone, Copy)]
 enum Cells {
     AllBelow,
     Large(Cell),

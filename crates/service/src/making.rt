@@ -16,7 +16,7 @@ use number::whole::{in_range, whole_at};
 use reader::{Counts, Surveyed, survey};
 
 // The place of the first input outside -M..M.
-#[derive(Drop)]
+#[derive(Clone, Copy)]
 enum Inputs {
     AllInRange,
     Outside(usize),

@@ -10,7 +10,7 @@ use number::cell::{cell_number, nth_cell};
 use reader::{Surveyed, counts_of, survey};
 
 // The cells from one up to another, which is not among them.
-#[derive(Drop)]
+#[derive(Clone, Copy)]
 struct Stretch {
     pub from: Cell,
     pub to: Cell,

@@ -17,7 +17,7 @@ use reader::{Counts, counts_with, line_size};
 use text::Word;
 
 // A line of the list: its word, how many numbers it has, the counts after it, and where the next line starts.
-#[derive(Drop)]
+#[derive(Clone, Copy)]
 pub struct Taken {
     pub word: Word,
     pub count: usize,

@@ -14,7 +14,7 @@ use reader::counts_of;
 use table::line_works::line_works;
 
 // The first line whose statement is false.
-#[derive(Drop)]
+#[derive(Clone, Copy)]
 pub enum Working {
     AllTrue,
     FalseAt(usize),

@@ -31,14 +31,14 @@ pub const MOST_NUMBERS: usize = 33;
 // ---- numbers
 
 // A number, and the place where its field ends.
-#[derive(Drop)]
+#[derive(Clone, Copy)]
 pub enum Number {
     Of(i64, usize),
     NoNumber,
 }
 
 // The size of a number above 0, and the place where its field ends.
-#[derive(Drop)]
+#[derive(Clone, Copy)]
 enum Size {
     Plain(u64, usize),
     NoSize,
@@ -145,7 +145,7 @@ pub fn number_at(text: &[u8], at: usize) -> Number
 
 // ---- words
 
-#[derive(Drop)]
+#[derive(Clone, Copy)]
 pub enum Word {
     Field,
     In,
@@ -158,7 +158,7 @@ pub enum Word {
 }
 
 // A word, and the place where its field ends.
-#[derive(Drop)]
+#[derive(Clone, Copy)]
 pub enum Spelled {
     Known(Word, usize),
     NoWord,

@@ -12,7 +12,7 @@ use reader::{Counts, First, Stepped, counts_of, first_parsed, step_parsed};
 use text::Word;
 
 // How many bytes the text of lines has that are read; or that they are too many; or the refusal of a line.
-#[derive(Drop)]
+#[derive(Clone, Copy)]
 pub enum Found {
     Text(usize),
     TooLong,
@@ -20,7 +20,7 @@ pub enum Found {
 }
 
 // p and the counts after a line, or the number of its refusal.
-#[derive(Drop)]
+#[derive(Clone, Copy)]
 enum Advanced {
     Next(u32, Counts),
     Refused(u32),

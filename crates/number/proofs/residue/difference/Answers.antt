@@ -6,18 +6,14 @@ use borrow.Author.Rules.{rules}
 use Rattle.algebra.proofs.Integer.Order.{positive_part-negation, negative_part-negation}
 use Rattle.algebra.proofs.Integer.Linear.{linear}
 use Rattle.number.proofs.Remainder.{remainder_by}
-use Rattle.number.proofs.residue.difference.Statement.{statement}
-use Rattle.number.proofs.residue.difference.Tie as tie
+use Rattle.number.proofs.residue.difference.Goals as goal
 
-returns : tie.Need-returns
-returns c = let p = c.before.before.before.before.before.args.p in (
+pub returns-then-a-b : goal.returns-then-a-b
+returns-then-a-b c = let p = c.args.p in (
   omega arith,
   remainder_by _ _ (negsuc 0) _ (omega arith)
       (omega (linear, positive_part-negation (pos (1 * p)), negative_part-negation (pos (1 * p)))),
 )
 
-returns-2 : tie.Need-returns-2
-returns-2 c = (omega arith, remainder_by _ _ (pos 0) _ (omega arith) (omega linear))
-
-pub difference-spec : {M : Type 1} → statement M
-difference-spec = tie.close (tie.spec (λ c. search rules) (λ c. search rules) returns returns-2)
+pub returns-else-a-b : goal.returns-else-a-b
+returns-else-a-b c = (omega arith, remainder_by _ _ (pos 0) _ (omega arith) (omega linear))

@@ -1,0 +1,11 @@
+-- `number::residue::product`: the product of two u32 fits a u64.
+use mathlib.Core.Path.{sym}
+use native.Mathlib.Omega.{arith}
+use native.Mathlib.Nat.{mod-lt}
+use borrow.Author.Rules.{rules}
+use Rattle.number.proofs.Word.{wide-product}
+use Rattle.number.proofs.Remainder.{remainder-positive}
+use Rattle.number.proofs.residue.product.Goals as goal
+
+pub returns : goal.returns
+returns c = rw c.reduced.ensures (mod-lt _ c.requires, sym (remainder-positive _ _))
