@@ -1,0 +1,16 @@
+-- `number::prime::is_listed`: no entry before place i is n.
+use mathlib.Core.Path.{sym}
+use mathlib.Core.Bool.{false≢true}
+use mathlib.Core.Logic.{◌≢◌}
+use Prim.Native.Nat.{ℕ, ◌-◌, ◌≤◌, ◌<◌}
+use native.Mathlib.Omega.{arith}
+use lib.ListN.{length, get_or}
+use borrow.Author.Rules.{rules}
+use borrow.Author.Count.{below_more}
+use Rattle.primes.proofs.is_listed.Given as goal
+
+abbrev pub invariant-loop-i : goal.invariant-loop-i
+invariant-loop-i l = (l.i ≤ length l.table) × ((k : ℕ) → k < l.i → get_or l.table k 0 ≢ l.n)
+
+abbrev pub decreases-loop-i : goal.decreases-loop-i
+decreases-loop-i l = length l.table - l.i
