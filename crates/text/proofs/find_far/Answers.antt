@@ -1,0 +1,44 @@
+-- No separator stands from `at` to `i`; in a turn the four bytes from `i` on are passed one by one.
+use Prim.Native.Nat.{◌+◌}
+use native.Mathlib.Omega.{arith}
+use Rattle.text.proofs.Places.{search-past, search-here}
+use Rattle.text.proofs.find_far.Goals as goal
+
+pub returns-then-bytes-i : goal.returns-then-bytes-i
+returns-then-bytes-i c =
+    let at-loop = c.loop-i in
+    let passed0 = at-loop.invariant in
+    search-here passed0 (omega (arith, c.loop-i-test.true)) c.if-bytes-i.true
+
+pub returns-then-bytes-i-2 : goal.returns-then-bytes-i-2
+returns-then-bytes-i-2 c =
+    let at-loop = c.loop-i in
+    let passed0 = at-loop.invariant in
+    let passed1 = search-past passed0 (omega (arith, c.loop-i-test.true)) c.if-bytes-i.false {j = at-loop.i + 1} (omega arith) in
+    search-here passed1 (omega (arith, c.loop-i-test.true)) c.if-bytes-i-2.true
+
+pub returns-then-bytes-i-3 : goal.returns-then-bytes-i-3
+returns-then-bytes-i-3 c =
+    let at-loop = c.loop-i in
+    let passed0 = at-loop.invariant in
+    let passed1 = search-past passed0 (omega (arith, c.loop-i-test.true)) c.if-bytes-i.false {j = at-loop.i + 1} (omega arith) in
+    let passed2 = search-past passed1 (omega (arith, c.loop-i-test.true)) c.if-bytes-i-2.false {j = at-loop.i + 2} (omega arith) in
+    search-here passed2 (omega (arith, c.loop-i-test.true)) c.if-bytes-i-3.true
+
+pub returns-then-bytes-i-4 : goal.returns-then-bytes-i-4
+returns-then-bytes-i-4 c =
+    let at-loop = c.loop-i in
+    let passed0 = at-loop.invariant in
+    let passed1 = search-past passed0 (omega (arith, c.loop-i-test.true)) c.if-bytes-i.false {j = at-loop.i + 1} (omega arith) in
+    let passed2 = search-past passed1 (omega (arith, c.loop-i-test.true)) c.if-bytes-i-2.false {j = at-loop.i + 2} (omega arith) in
+    let passed3 = search-past passed2 (omega (arith, c.loop-i-test.true)) c.if-bytes-i-3.false {j = at-loop.i + 3} (omega arith) in
+    search-here passed3 (omega (arith, c.loop-i-test.true)) c.if-bytes-i-4.true
+
+pub loop-i-preserved : goal.loop-i-preserved
+loop-i-preserved c =
+    let at-loop = c.loop-i in
+    let passed0 = at-loop.invariant in
+    let passed1 = search-past passed0 (omega (arith, c.loop-i-test.true)) c.if-bytes-i.false {j = at-loop.i + 1} (omega arith) in
+    let passed2 = search-past passed1 (omega (arith, c.loop-i-test.true)) c.if-bytes-i-2.false {j = at-loop.i + 2} (omega arith) in
+    let passed3 = search-past passed2 (omega (arith, c.loop-i-test.true)) c.if-bytes-i-3.false {j = at-loop.i + 3} (omega arith) in
+    search-past passed3 (omega (arith, c.loop-i-test.true)) c.if-bytes-i-4.false (omega arith)
