@@ -1,5 +1,5 @@
 -- What a sum line yields: its coefficients and its names are every other number, and its ends are taken term by term.
-use mathlib.Core.Path.{◌≡◌, refl, sym, ◌∙◌}
+use mathlib.Core.Path.{◌≡◌, refl, sym, ap, ◌∙◌}
 use mathlib.Core.Bool.{Bool, true, false, cond, ◌&&◌}
 use mathlib.Core.List.{List, [], ◌∷◌}
 use Prim.Native.Nat.{ℕ, zero, suc, ◌+◌, ◌≤◌, ◌<◌}
@@ -178,7 +178,9 @@ module _ {p values cells : ℕ} {lows highs : List ℤ} (ready : Ready p values 
     sum-ranged : is_ranged s.p sum (take count numbers) ≡ all (in_range p)
         (get_or numbers 0 (pos 0) ∷ alternate (drop 1 (take count numbers)))
     unfolding is_ranged all kind_of
-    sum-ranged = rw (meaning.prime, number-taken count numbers 0 some, without-drop (take count numbers) 0)
+    sum-ranged =
+        rw (number-taken count numbers 0 some, without-drop (take count numbers) 0)
+        (ap (λ (q : ℕ). all (in_range q) (get_or numbers 0 (pos 0) ∷ alternate (drop 1 (take count numbers)))) meaning.prime)
 
     sum-yield : yield_of s (line_with sum (take count numbers)) ≡ cond (all (in_range p) (get_or numbers 0 (pos 0) ∷ alternate (drop 1 (take count numbers))))
         (yield_unless (early_of s sum (take count numbers)) (late ((kind_of sum).gadget s (take count numbers)) ((kind_of sum).gadget s (take count numbers)).made)) (refuses 6)

@@ -91,6 +91,7 @@ pub fn are_made(numbers: &[i64], values: usize) -> bool
 
 // The first that is broken of the rules 7 (the names are made), 8 (room for the new values) and 9 (room for the cells), or 0.
 // FORMAT 10.7, 10.8, 10.9
+#[tactic(auto, unfolding(crate::specs::Rule::early_broken))]
 pub fn early_broken(named: bool, values: usize, new: usize, cells: usize, width: usize) -> u32
     requires { (values ≤ value_limit) × (new ≤ 1) × (cells ≤ cell_limit) × (width ≤ cell_limit) }
     ensures { result ≡ early_broken named values new cells width }
