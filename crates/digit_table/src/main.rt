@@ -3,13 +3,38 @@
 // No answer is longer than 65,547 bytes (`longest_answer` in the contract of `respond`), so the output has room for each. FORMAT 11.1, 11.13, 9.17
 #![tactic(auto)]
 
-use libc::{STDIN_FILENO, STDOUT_FILENO};
-use program::respond;
+ghost use Rattle.std.specs.Prelude.{◌≤◌, length, IfOk};
 
-fn main() {
+use program::respond;
+use std::io;
+use std::io::{ErrorKind, Print, Read};
+
+// Reads until the buffer is full or the input ends, and says how many bytes were read.
+fn read_full<R: Read>(reader: &mut R, buffer: &mut [u8]) -> io::Result<usize>
+    ensures { IfOk result (λ n. n ≤ length buffer.new) }
+{
+    let mut done = 0;
+    for _ in 0..u64::MAX {
+        if buffer.len() <= done {
+            break;
+        }
+        match reader.read(&mut buffer[done..]) {
+            Ok(0) => break,
+            Ok(n) => done += n,
+            Err(e) => {
+                if e.kind() != ErrorKind::Interrupted {
+                    return Err(e);
+                }
+            }
+        }
+    }
+    Ok(done)
+}
+
+fn main(rt: HostRuntime) -> io::Result<()> {
     let mut input: [u8; 65537] = [0; 65537];
     let mut output: [u8; 65547] = [0; 65547];
-    let read = io::read_full(STDIN_FILENO, &mut input);
+    let read = read_full(&mut rt.stdin(), &mut input)?;
     let written = respond(&input[..read], &mut output);
-    io::write_all(STDOUT_FILENO, &output[..written]);
+    rt.stdout().write_all(&output[..written])
 }
