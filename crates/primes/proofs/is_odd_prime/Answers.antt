@@ -8,7 +8,7 @@ use borrow.Author.Rules.{rules}
 use Rattle.primes.specs.Table.{table_length}
 use Rattle.primes.proofs.OddPrime.{odd-prime-passes, odd-prime-low, odd-prime-fails}
 use Rattle.primes.proofs.PrimeTable.{entry-prime, entry-below, listed-decides}
-use Rattle.known_primes.proofs.Known.{known-prime}
+use Rattle.known_primes.proofs.KnownPrime.{known-prime}
 use Rattle.primes.proofs.is_odd_prime.Goals as goal
 
 pub returns-then-n-lt3 : goal.returns-then-n-lt3
