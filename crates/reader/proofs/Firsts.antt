@@ -57,6 +57,18 @@ not-field Which h = refl
 not-field Max h = refl
 not-field Root h = refl
 
+-- the same of a word that is told apart from `field` by an equation
+pub other-word : (v : Word) → (v ≡ Field → ⊥) → (kind_of (word_of v)).is_field ≡ false
+unfolding kind_of word_of
+other-word Field h = absurd (h refl)
+other-word In h = refl
+other-word Span h = refl
+other-word Sum h = refl
+other-word Relu h = refl
+other-word Which h = refl
+other-word Max h = refl
+other-word Root h = refl
+
 module _ {w : Word} {n : ℕ} {numbers : List ℤ} (parsed : ParsedLine w n numbers) (is : w ≡ Field) where
   abbrev z : ℤ
   z = get_or numbers 0 (pos 0)

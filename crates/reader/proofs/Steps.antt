@@ -101,6 +101,18 @@ not_span Which h = tt
 not_span Max h = tt
 not_span Root h = tt
 
+-- a word that is told apart from `span` by an equation
+pub other_than_span : (v : Word) → (v ≡ Span → ⊥) → NotSpan (word_of v)
+unfolding word_of
+other_than_span Field h = tt
+other_than_span In h = tt
+other_than_span Span h = absurd (h refl)
+other_than_span Sum h = tt
+other_than_span Relu h = tt
+other_than_span Which h = tt
+other_than_span Max h = tt
+other_than_span Root h = tt
+
 pub yield-by-word : (s : Known) (w : Meant) (ns : List ℤ) → NotSpan w → line_yield s (line_with w ns) ≡ yield_of s (line_with w ns)
 unfolding line_yield yield_by
 yield-by-word s field ns h = refl
