@@ -1,0 +1,77 @@
+-- `table::line_works::line_works`: each word's line is worked by the function of its kind.
+use mathlib.Core.Path.{◌≡◌}
+use Rattle.text.specs.Word.{word_of}
+use Rattle.text.specs.declared.Word.{Word as Coded}
+use Rattle.groups.specs.declared.value.Worked.{Worked}
+use Rattle.table.specs.LineValues.{ValuesGiven, WorkYield}
+use Rattle.table.proofs.LineWord.{count_of, at-kind, by_word}
+use Rattle.table.proofs.WorksLine.{field-yield}
+use Rattle.table.proofs.line_works.line_works.Goals as goal
+use Rattle.table.proofs.line_works.line_works.Goals.{Start}
+
+-- what is given at the kind, and what the word yields
+module _ (s : Start) {v : Coded} (is : s.args.word ≡ v) where
+  given : ValuesGiven (word_of v) s.args.numbers.now (count_of v s.args.count) s.args.values.now
+  given = at-kind (λ u m. ValuesGiven u s.args.numbers.now m s.args.values.now) s.args.count is s.requires.kept s.requires
+
+  yields : (r : Worked) → WorkYield (word_of v) s.args.numbers.now (count_of v s.args.count) s.args.values.now s.args.next.0 r
+      → WorkYield (word_of s.args.word) s.args.numbers.now s.args.count s.args.values.now s.args.next.0 r
+  yields r =
+      by_word (λ u m. WorkYield u s.args.numbers.now m s.args.values.now s.args.next.0 r) s.args.count is
+      s.requires.kept
+
+pub span_line_works-requires : goal.span_line_works-requires
+unfolding word_of count_of
+span_line_works-requires c = given (goal.at.span_line_works-requires c).Start c.in-Span.is
+
+pub sum_line_works-requires : goal.sum_line_works-requires
+unfolding word_of count_of
+sum_line_works-requires c = given (goal.at.sum_line_works-requires c).Start c.in-Sum.is
+
+pub relu_line_works-requires : goal.relu_line_works-requires
+unfolding word_of count_of
+relu_line_works-requires c = given (goal.at.relu_line_works-requires c).Start c.in-Relu.is
+
+pub which_line_works-requires : goal.which_line_works-requires
+unfolding word_of count_of
+which_line_works-requires c = given (goal.at.which_line_works-requires c).Start c.in-Which.is
+
+pub max_line_works-requires : goal.max_line_works-requires
+unfolding word_of count_of
+max_line_works-requires c = given (goal.at.max_line_works-requires c).Start c.in-Max.is
+
+pub root_line_works-requires : goal.root_line_works-requires
+unfolding word_of count_of
+root_line_works-requires c = given (goal.at.root_line_works-requires c).Start c.in-Root.is
+
+pub returns-in-Field : goal.returns-in-Field
+unfolding word_of count_of
+returns-in-Field c = yields (goal.at.returns-in-Field c).Start c.in-Field.is _ (field-yield _ _ _)
+
+pub returns-in-In : goal.returns-in-In
+unfolding word_of count_of
+returns-in-In c = yields (goal.at.returns-in-In c).Start c.in-In.is _ (c.input_line_works.ensures _ _)
+
+pub returns-in-Span : goal.returns-in-Span
+unfolding word_of count_of
+returns-in-Span c = yields (goal.at.returns-in-Span c).Start c.in-Span.is _ (c.span_line_works.ensures _)
+
+pub returns-in-Sum : goal.returns-in-Sum
+unfolding word_of count_of
+returns-in-Sum c = yields (goal.at.returns-in-Sum c).Start c.in-Sum.is _ (c.sum_line_works.ensures _)
+
+pub returns-in-Relu : goal.returns-in-Relu
+unfolding word_of count_of
+returns-in-Relu c = yields (goal.at.returns-in-Relu c).Start c.in-Relu.is _ (c.relu_line_works.ensures _)
+
+pub returns-in-Which : goal.returns-in-Which
+unfolding word_of count_of
+returns-in-Which c = yields (goal.at.returns-in-Which c).Start c.in-Which.is _ (c.which_line_works.ensures _)
+
+pub returns-in-Max : goal.returns-in-Max
+unfolding word_of count_of
+returns-in-Max c = yields (goal.at.returns-in-Max c).Start c.in-Max.is _ (c.max_line_works.ensures _)
+
+pub returns-in-Root : goal.returns-in-Root
+unfolding word_of count_of
+returns-in-Root c = yields (goal.at.returns-in-Root c).Start c.in-Root.is _ (c.root_line_works.ensures _)
