@@ -1,0 +1,16 @@
+-- `service::checking::first_large`: where not all cells are below p, they are looked at from the first on.
+use mathlib.Core.Path.{sym, ap, ◌∙◌}
+use Prim.Native.Nat.{◌-◌, ◌<◌}
+use lib.ListN.{length}
+use Rattle.meaning.specs.Reply.{is_cell, refusal_at}
+use Rattle.service.specs.Check.{cells_meaning}
+use Rattle.service.proofs.Scan.{Scanned, all_none, scanned-none, scan-inside, scan-here, scan-next}
+use Rattle.service.proofs.Checked.{cell-large, cell_below}
+use borrow.Author.Rules.{rules}
+use Rattle.service.proofs.checking.first_large.Given as goal
+
+abbrev pub invariant-loop-i : goal.invariant-loop-i
+invariant-loop-i l = (l.i < length l.table) × Scanned (is_cell l.p) 0 l.table l.i
+
+abbrev pub decreases-loop-i : goal.decreases-loop-i
+decreases-loop-i l = length l.table - l.i

@@ -1,0 +1,28 @@
+-- `service::working::take_value`: one value is written where the line makes one, and none else.
+use mathlib.Core.Path.{sym, ap, ◌∙◌}
+use Rattle.service.specs.Make.{with_value, is_true}
+use Rattle.groups.specs.declared.value.Worked.{Worked}
+use borrow.Author.Rules.{rules}
+use Rattle.service.proofs.working.take_value.Goals as goal
+
+pub returns-in-Value : goal.returns-in-Value
+unfolding with_value is_true
+returns-in-Value c =
+    let written = c in
+    let S = written in
+    let is = c.in-Value.is in
+    (sym (ap is_true is), written.set_whole.ensures ∙ sym (ap (λ (w : Worked). with_value S.args.values.now S.args.at w) is))
+
+pub returns-in-NoValue : goal.returns-in-NoValue
+unfolding with_value is_true
+returns-in-NoValue c =
+    let S = c in
+    let is = c.in-NoValue.is in
+    (sym (ap is_true is), sym (ap (λ (w : Worked). with_value S.args.values.now S.args.at w) is))
+
+pub returns-in-False : goal.returns-in-False
+unfolding with_value is_true
+returns-in-False c =
+    let S = c in
+    let is = c.in-False.is in
+    (sym (ap is_true is), sym (ap (λ (w : Worked). with_value S.args.values.now S.args.at w) is))

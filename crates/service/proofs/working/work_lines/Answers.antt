@@ -1,0 +1,53 @@
+-- `service::working::work_lines`: the walk that works each line, with what holds before each line as the invariant.
+use mathlib.Core.Path.{refl, sym, ap, ◌∙◌}
+use Prim.Native.Nat.{◌-◌, ◌≤◌}
+use lib.ListN.{length}
+use borrow.Author.Tests.{not-true, not-false}
+use Rattle.service.specs.Make.{is_true}
+use Rattle.service.proofs.ReadList.{read_short}
+use Rattle.service.proofs.Worked.{WorkingOn, working-first, working-end, working-false, working-next, value-inside, at-line, values-given}
+use Rattle.meaning.specs.Refusal.{text_limit}
+use borrow.Author.Rules.{rules}
+use Rattle.service.proofs.working.work_lines.Goals as goal
+
+pub loop-at-init : goal.loop-at-init
+loop-at-init c =
+    let S = c in
+    rw c.counts_of-counts.ensures (working-first S.args.list.now S.args.inputs.now _ S.args.values.now refl S.requires.1 S.requires.0)
+
+pub line_works-worked-requires : goal.line_works-worked-requires
+line_works-worked-requires c =
+    let w = c.loop-at.invariant in
+    let inside = c.loop-at-test.true in
+    let took = c.take_line-line.ensures.yields (at-line w inside) in
+    values-given w inside took
+
+pub take_value-requires : goal.take_value-requires
+unfolding is_true
+take_value-requires c z value =
+    let w = c.loop-at.invariant in
+    let inside = c.loop-at-test.true in
+    let took = c.take_line-line.ensures.yields (at-line w inside) in
+    let yields = rw c.input_at-input.ensures at (c.line_works-worked.ensures (values-given w inside took)) in
+    value-inside w _ _ took.left_is _ yields (ap is_true value) took.kept z value
+
+pub loop-at-preserved : goal.loop-at-preserved
+loop-at-preserved c =
+    let w = c.loop-at.invariant in
+    let inside = c.loop-at-test.true in
+    let took = c.take_line-line.ensures.yields (at-line w inside) in
+    let yields = rw c.input_at-input.ensures at (c.line_works-worked.ensures (values-given w inside took)) in
+    let answer = sym c.take_value.ensures.0 ∙ c.if-not-take_value.false in
+    rw c.take_value.ensures.1 (working-next w _ _ took.left_is _ yields answer took.kept _ took.next took.long)
+
+pub returns-then-not-take_value-clause-yields : goal.returns-then-not-take_value-clause-yields
+returns-then-not-take_value-clause-yields c =
+    let w = c.loop-at.invariant in
+    let inside = c.loop-at-test.true in
+    let took = c.take_line-line.ensures.yields (at-line w inside) in
+    let yields = rw c.input_at-input.ensures at (c.line_works-worked.ensures (values-given w inside took)) in
+    let answer = sym c.take_value.ensures.0 ∙ c.if-not-take_value.true in
+    λ m. working-false w _ _ took.left_is _ yields answer m _
+
+pub returns-clause-yields : goal.returns-clause-yields
+returns-clause-yields c = working-end c.loop-at.invariant c.loop-at-test.false
