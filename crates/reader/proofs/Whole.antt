@@ -72,3 +72,7 @@ module _ (text : List ℕ) where
 
         pub survey-after : survey_of (read_from plain 1 (only p) later) ≡ survey_of (reading text)
         survey-after = sym (survey-here ∙ gone.3)
+
+-- the same of a longer text, as the check applies it
+pub too_long : (text : List ℕ) → text_limit < length text → survey_of (reading text) ≡ refused_at 1 0
+too_long text h = sym (survey-too-long text h)

@@ -46,6 +46,7 @@ pub fn read(list: &[u8]) -> Answer
 }
 
 // The same with the count of inputs, which making asks for. FORMAT 10.1, 10.2, 10.3, 13.1
+#[tactic(auto, using(crate::proofs::Whole::too_long), unfolding(crate::specs::Read::survey_meaning, crate::specs::Read::PrimeFound))]
 pub fn survey(list: &[u8]) -> Surveyed
     ensures yields { survey_meaning result ≡ survey_of (reading list.now) }
     ensures prime { PrimeFound result }

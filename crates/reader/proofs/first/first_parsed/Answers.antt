@@ -9,7 +9,7 @@ use lib.Signed.{lt_z}
 use Rattle.meaning.specs.Number.{odd_prime}
 use Rattle.reader.specs.Step.{goes}
 use Rattle.reader.specs.Read.{only, first_meaning, prime_in}
-use Rattle.reader.proofs.Firsts.{first-other, other-word, first-negative, first-natural, first-size, first-composite, first-odd-prime}
+use Rattle.reader.proofs.Firsts.{first-other, other-word, first-negative, first-size, first-composite, first-odd-prime}
 use Rattle.reader.proofs.first.first_parsed.Goals as goal
 use Rattle.reader.proofs.first.first_parsed.Goals.{After-size_of-p, Else-is_negative}
 
@@ -30,9 +30,6 @@ passed c = sym (rw c.whole_at-n.ensures at c.is_negative.ensures) ∙ c.if-is_ne
 -- its size is what is tested
 number : (c : After-size_of-p) → c.size_of-p.result ≡ nat_abs (get_or c.args.numbers.now 0 (pos 0))
 number c = c.size_of-p.ensures ∙ ap nat_abs c.whole_at-n.ensures
-
-pub size_of-p-requires : goal.size_of-p-requires
-size_of-p-requires c = rw c.whole_at-n.ensures (first-natural c.requires c.in-Field.is (passed (goal.at.size_of-p-requires c).Else-is_negative))
 
 pub overflow_cast-p : goal.overflow_cast-p
 overflow_cast-p c = omega (arith, number (goal.at.overflow_cast-p c).After-size_of-p, first-size c.requires c.in-Field.is)

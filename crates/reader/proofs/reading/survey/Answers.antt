@@ -12,19 +12,15 @@ use Rattle.reader.specs.Read.{survey_meaning, PrimeFound, prime_in, first_meanin
 use Rattle.reader.specs.Step.{step_option}
 use Rattle.reader.specs.declared.first.First.{First}
 use Rattle.reader.proofs.Steps.{no-line-step, line_step, line-parsed}
-use Rattle.reader.proofs.Whole.{ended_some, first-within, lines_start, survey-too-long, survey-not-ended, first-stopped, first-is-prime, survey-after}
+use Rattle.reader.proofs.Whole.{ended_some, first-within, lines_start, survey-not-ended, first-stopped, first-is-prime, survey-after}
 use borrow.Author.Rules.{rules}
 use Rattle.reader.proofs.reading.survey.Goals as goal
 use Rattle.reader.proofs.reading.survey.Goals.{After-first_parsed-first, Else-not-is_ended}
 
-pub returns-then-list-gt65536 : goal.returns-then-list-gt65536
-unfolding survey_meaning PrimeFound
-returns-then-list-gt65536 c = record { yields = survey-too-long c.args.list.now c.if-list-gt65536.true; prime = tt }
-
 pub returns-then-not-is_ended : goal.returns-then-not-is_ended
 unfolding survey_meaning PrimeFound
 returns-then-not-is_ended c = record {
-  yields = survey-not-ended c.args.list.now c.if-list-gt65536.false (sym c.is_ended.ensures ∙ c.if-not-is_ended.true);
+  yields = survey-not-ended c.args.list.now (omega arith) (sym c.is_ended.ensures ∙ c.if-not-is_ended.true);
   prime = tt;
 }
 
@@ -43,7 +39,7 @@ returns-in_default c =
     let text = c.args.list.now in
     let e = ended (goal.at.returns-in_default c).Else-not-is_ended in
     record {
-      yields = first-stopped text c.if-list-gt65536.false e (lines_start text e) 3 (no-line-step 0 fresh (no-line-meaning c.line_of.ensures.read c.in_default.is));
+      yields = first-stopped text (omega arith) e (lines_start text e) 3 (no-line-step 0 fresh (no-line-meaning c.line_of.ensures.read c.in_default.is));
       prime = tt;
     }
 
@@ -78,7 +74,7 @@ returns-in-NotFirst c =
     let text = c.args.list.now in
     let e = ended (goal.at.returns-in-NotFirst c).Else-not-is_ended in
     let at_first = (goal.at.returns-in-NotFirst c).After-first_parsed-first in
-    record { yields = first-stopped text c.if-list-gt65536.false e (lines_start text e) _ (first_read at_first c.in-NotFirst.is); prime = tt }
+    record { yields = first-stopped text (omega arith) e (lines_start text e) _ (first_read at_first c.in-NotFirst.is); prime = tt }
 
 pub returns-in-Prime : goal.returns-in-Prime
 unfolding first_meaning
@@ -87,6 +83,6 @@ returns-in-Prime c =
     let e = ended (goal.at.returns-in-Prime c).Else-not-is_ended in
     let at_first = (goal.at.returns-in-Prime c).After-first_parsed-first in
     record {
-      yields = rw (second at_first) at c.survey_from.ensures.yields ∙ survey-after text c.if-list-gt65536.false e (lines_start text e) _ (first_read at_first c.in-Prime.is);
+      yields = rw (second at_first) at c.survey_from.ensures.yields ∙ survey-after text (omega arith) e (lines_start text e) _ (first_read at_first c.in-Prime.is);
       prime = c.survey_from.ensures.prime;
     }

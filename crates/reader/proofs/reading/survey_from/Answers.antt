@@ -22,9 +22,6 @@ loop-at-init c =
     rw c.counts_of-counts.ensures
     (replicate value_limit 0, record { inside = c.requires.2; counted = c.requires.1; walking = walk_start _ c.args.p _ _ _ _ c.requires.3 c.requires.5 refl refl refl })
 
-pub line_of-requires : goal.line_of-requires
-line_of-requires c = (c.requires.0, c.loop-at-test.true, c.loop-at.invariant.1.walking.numbers-long)
-
 pub returns-in_default : goal.returns-in_default
 unfolding survey_meaning PrimeFound
 returns-in_default c = record {
@@ -56,9 +53,6 @@ returns-in-Refused c =
       yields = walk-stopped w (line-here (goal.at.returns-in-Refused c).In-Line) _ (line_step 1 _ (line-meaning c.line_of.ensures.read c.in-Line.is) (rw c.in-Refused.is at step));
       prime = tt;
     }
-
-pub overflow_add-n : goal.overflow_add-n
-overflow_add-n c = omega (arith, c.loop-at.invariant.1.counted, c.loop-at-test.true)
 
 pub loop-at-smaller : goal.loop-at-smaller
 loop-at-smaller c = omega (arith, next-at (goal.at.loop-at-smaller c).In-Line, c.loop-at-test.true)
