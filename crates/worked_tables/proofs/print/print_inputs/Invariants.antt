@@ -1,0 +1,10 @@
+-- `worked_tables::print::print_inputs`: each turn takes the next index, and nothing has to hold from turn to turn.
+use Prim.Native.Nat.{◌-◌}
+use lib.ListN.{length}
+use Rattle.worked_tables.proofs.print.print_inputs.Given as goal
+
+abbrev pub invariant-loop-i : goal.invariant-loop-i
+invariant-loop-i g l = Unit {0}
+
+abbrev pub decreases-loop-i : goal.decreases-loop-i
+decreases-loop-i g l = length l.inputs - l.i
