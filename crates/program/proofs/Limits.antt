@@ -1,7 +1,7 @@
 -- The most that a list which is read has, and how many lines its text can have: what no sum overflows by.
 use mathlib.Core.Path.{◌≡◌, subst}
 use mathlib.Core.List.{List, [], ◌∷◌}
-use Prim.Native.Nat.{ℕ, suc, ◌+◌, ◌-◌, ◌≤◌}
+use Prim.Native.Nat.{ℕ, suc, ◌+◌, ◌≤◌}
 use native.Mathlib.Omega.{arith}
 use lib.Dec.{leb→le}
 use lib.ListN.{length, length-append}
@@ -9,7 +9,6 @@ use Rattle.meaning.specs.Refusal.{value_limit, cell_limit, read, reading}
 use Rattle.meaning.specs.Line.{Line}
 use Rattle.meaning.specs.Known.{Known, fresh}
 use Rattle.meaning.specs.Meaning.{gadget, after}
-use Rattle.meaning.specs.Reply.{made}
 use Rattle.meaning.specs.Program.{joined}
 use Rattle.meaning.specs.Kept.{Kept, Keeps}
 use Rattle.meaning.proofs.Kept.{keeps-all}

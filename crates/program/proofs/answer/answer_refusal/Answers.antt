@@ -1,0 +1,14 @@
+-- The refusal's length says whether it has room.
+use native.Mathlib.Omega.{arith}
+use Rattle.program.proofs.Answering.{answered-room, answered-no-room}
+use Rattle.program.proofs.Lengths.{refusal-most}
+use Rattle.program.proofs.answer.answer_refusal.Goals as goal
+
+pub returns-then-output-refusal_length : goal.returns-then-output-refusal_length
+returns-then-output-refusal_length c =
+    answered-no-room (refusal-most c.args.number c.args.place (omega arith) (omega arith)) _ c.refusal_length.ensures c.if-output-refusal_length.true
+
+pub returns : goal.returns
+returns c =
+    answered-room (refusal-most c.args.number c.args.place (omega arith) (omega arith)) c.write_refusal.ensures
+    (omega (arith, c.refusal_length.ensures, c.if-output-refusal_length.false))

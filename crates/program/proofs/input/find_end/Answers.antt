@@ -1,0 +1,27 @@
+-- Before each line, `Seeking` holds: none of the lines before it is `end`.
+use native.Mathlib.Omega.{arith}
+use Rattle.meaning.specs.Text.{bytes}
+use Rattle.meaning.proofs.Results.{none-refused}
+use Rattle.program.specs.Input.{EndYield}
+use Rattle.program.proofs.Parting.{seeking-start, seeking-turn, seeking-found, seeking-end}
+use Rattle.program.proofs.input.find_end.Goals as goal
+
+pub loop-at-init : goal.loop-at-init
+loop-at-init c = seeking-start _
+
+pub loop-at-smaller : goal.loop-at-smaller
+loop-at-smaller c = omega (arith, c.line_end-end.ensures.low)
+
+pub returns-then-is_same : goal.returns-then-is_same
+unfolding bytes EndYield
+returns-then-is_same c =
+    seeking-found c.loop-at.invariant c.requires c.loop-at-test.true c.line_end-end.ensures c.is_same.ensures c.if-is_same.true
+
+pub loop-at-preserved : goal.loop-at-preserved
+unfolding bytes
+loop-at-preserved c =
+    seeking-turn c.loop-at.invariant c.requires c.loop-at-test.true c.line_end-end.ensures c.is_same.ensures c.if-is_same.false
+
+pub returns : goal.returns
+unfolding EndYield
+returns c = none-refused 2 (seeking-end c.loop-at.invariant c.loop-at-test.false)
