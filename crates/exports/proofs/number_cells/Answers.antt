@@ -1,0 +1,14 @@
+-- `exports::number_cells`: before each cell, those before it hold their own numbers.
+use Prim.Native.Nat.{◌-◌}
+use lib.ListN.{length}
+use borrow.Author.Rules.{rules}
+use Rattle.exports.proofs.Numbered.{Numbering, numbering-none, numbering-next, numbering-end}
+use Rattle.exports.proofs.number_cells.Goals as goal
+
+pub loop-i-init : goal.loop-i-init
+loop-i-init c = numbering-none c.args.cells.now
+
+pub loop-i-preserved : goal.loop-i-preserved
+loop-i-preserved c = numbering-next c.loop-i.invariant c.loop-i-test.true
+
+-- STRAY between loop-i-preserved and returns: same_length
