@@ -1,6 +1,5 @@
 -- `exports::digit_table_check`: what is written and returned is `check`'s reply.
 use Rattle.service.specs.Reply.{reply_meaning}
-use borrow.Author.Rules.{rules}
 use Rattle.exports.proofs.digit_table_check.Goals as goal
 
 pub returns : goal.returns

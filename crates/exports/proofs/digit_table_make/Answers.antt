@@ -2,7 +2,6 @@
 use mathlib.Core.Path.{ap₂}
 use Rattle.meaning.specs.Reply.{making}
 use Rattle.service.specs.Reply.{reply_meaning}
-use borrow.Author.Rules.{rules}
 use Rattle.exports.proofs.digit_table_make.Goals as goal
 
 pub returns : goal.returns

@@ -3,7 +3,6 @@ use mathlib.Core.Path.{sym, ap, ◌∙◌}
 use Rattle.reader.specs.Read.{answer_meaning}
 use Rattle.reader.specs.declared.reading.Answer.{Answer}
 use Rattle.exports.specs.Read.{numbers_after}
-use borrow.Author.Rules.{rules}
 use Rattle.exports.proofs.digit_table_read.Goals as goal
 
 pub returns-in-Read : goal.returns-in-Read

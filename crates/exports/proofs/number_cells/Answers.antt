@@ -1,8 +1,5 @@
 -- `exports::number_cells`: before each cell, those before it hold their own numbers.
-use Prim.Native.Nat.{◌-◌}
-use lib.ListN.{length}
-use borrow.Author.Rules.{rules}
-use Rattle.exports.proofs.Numbered.{Numbering, numbering-none, numbering-next, numbering-end}
+use Rattle.exports.proofs.Numbered.{numbering-none, numbering-next}
 use Rattle.exports.proofs.number_cells.Goals as goal
 
 pub loop-i-init : goal.loop-i-init

@@ -1,8 +1,7 @@
 -- `exports::number_cells`: before each cell, those before it hold their own numbers.
 use Prim.Native.Nat.{◌-◌}
 use lib.ListN.{length}
-use borrow.Author.Rules.{rules}
-use Rattle.exports.proofs.Numbered.{Numbering, numbering-none, numbering-next, numbering-end}
+use Rattle.exports.proofs.Numbered.{Numbering}
 use Rattle.exports.proofs.number_cells.Given as goal
 
 abbrev pub invariant-loop-i : goal.invariant-loop-i

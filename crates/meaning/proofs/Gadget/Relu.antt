@@ -1,5 +1,5 @@
 -- The law of a relu line: the group tells v and its sign, and the last row f·v ≡ y makes y the greater of 0 and v.
-use mathlib.Core.Path.{◌≡◌, refl, sym, ◌∙◌}
+use mathlib.Core.Path.{refl, sym, ◌∙◌}
 use mathlib.Core.List.{[], ◌∷◌}
 use mathlib.Core.Logic.{⊎_elim}
 use Prim.Native.Nat.{ℕ, zero, suc, ◌≤◌, ◌<◌}
@@ -7,7 +7,7 @@ use native.Mathlib.Omega.{arith}
 use lib.Dec.{T}
 use lib.ListN.{length, get_or}
 use lib.IntN.{ℤ, pos, ◌*ℤ◌}
-use lib.Signed.{◌≤ℤ◌, ≤ℤ_refl}
+use lib.Signed.{≤ℤ_refl}
 use Rattle.algebra.specs.Congruence.{Congruent}
 use Rattle.algebra.proofs.Integer.Linear.{linear}
 use Rattle.algebra.proofs.Integer.Ring.{var, lit, ◌⊗◌ as ◌⊠◌, ring}

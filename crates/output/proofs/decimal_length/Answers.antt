@@ -1,11 +1,7 @@
 -- One digit, two, or more: then `count` is one for the digits of `rest`, and one for each digit that was taken off.
-use mathlib.Core.Path.{◌≡◌}
-use Prim.Native.Nat.{◌+◌, ◌/◌, ◌<◌}
+use Prim.Native.Nat.{◌/◌}
 use native.Mathlib.Omega.{arith}
-use lib.ListN.{length}
 use borrow.Author.Rules.{rules}
-use Rattle.meaning.specs.Machine.{past_u64}
-use Rattle.meaning.specs.Text.{decimal_of}
 use Rattle.meaning.proofs.Decimal.{length-short, length-long, some-digit, decimal-of-64}
 use Rattle.output.proofs.decimal_length.Goals as goal
 

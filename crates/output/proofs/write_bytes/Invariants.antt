@@ -1,9 +1,7 @@
 -- Before each byte, `Copying` holds of those that are written.
 use Prim.Native.Nat.{◌-◌}
-use native.Mathlib.Omega.{arith}
 use lib.ListN.{length}
-use Rattle.output.proofs.Writing.{Copying, copying-start, copying-turn, copying-end, copying-length}
-use borrow.Author.Rules.{rules}
+use Rattle.output.proofs.Writing.{Copying}
 use Rattle.output.proofs.write_bytes.Given as goal
 
 abbrev pub invariant-loop-i : goal.invariant-loop-i

@@ -1,12 +1,11 @@
 -- One digit or two are written as they are. Of more, before each digit, `Filling` holds of the part and of what is left of n.
 use mathlib.Core.Path.{◌≡◌}
-use Prim.Native.Nat.{ℕ, ◌+◌, ◌/◌}
+use Prim.Native.Nat.{◌+◌, ◌/◌}
 use lib.ListN.{length, length-set}
 use Rattle.meaning.specs.Text.{decimal_of}
 use native.Mathlib.Omega.{arith}
-use borrow.Author.Rules.{rules}
 use Rattle.meaning.proofs.Decimal.{some-digit, length-short, length-long}
-use Rattle.output.proofs.Filling.{Filling, filling-start, filling-turn, filling-end, one_written, two_digits, two-written}
+use Rattle.output.proofs.Filling.{filling-start, filling-turn, filling-end, one_written, two_digits, two-written}
 use Rattle.output.proofs.write_decimal.Goals as goal
 use Rattle.output.proofs.write_decimal.Goals.{Then-n-lt100}
 

@@ -1,11 +1,8 @@
 -- The byte is written after the digits.
 use Prim.Native.Nat.{◌<◌}
-use native.Mathlib.Omega.{arith}
 use lib.ListN.{length}
 use Rattle.meaning.specs.Text.{decimal_of}
-use Rattle.output.proofs.Writing.{byte-room, byte_inside, written_byte}
-use borrow.Author.Rules.{rules}
-use Rattle.output.proofs.write_field.Goals as goal
+use Rattle.output.proofs.Writing.{byte-room}
 use Rattle.output.proofs.write_field.Goals.{Start}
 
 -- there is room for the byte after the digits

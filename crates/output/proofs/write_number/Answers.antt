@@ -2,13 +2,9 @@
 use mathlib.Core.Path.{◌≡◌, sym}
 use mathlib.Core.List.{[], ◌∷◌}
 use Prim.Native.Nat.{◌+◌}
-use native.Mathlib.Omega.{arith}
-use mir.Syntax.{w64}
-use mir.Val.{SFits}
-use borrow.Author.Rules.{rules}
 use Rattle.meaning.specs.Text.{decimal_of, number_text}
-use Rattle.output.proofs.Signed.{signed-text, plain-text, size-most}
-use Rattle.output.proofs.Writing.{Halves, first-room, rest-starts, rest-room, whole_room, written-whole}
+use Rattle.output.proofs.Signed.{signed-text, plain-text}
+use Rattle.output.proofs.Writing.{Halves, first-room, rest-room, written-whole}
 use Rattle.output.proofs.write_number.Goals as goal
 use Rattle.output.proofs.write_number.Goals.{Else-is_negative, Then-is_negative}
 

@@ -1,10 +1,7 @@
 -- `number::prime::first_divisor`: no entry before place i divides n.
 use mathlib.Core.Logic.{◌≢◌}
 use Prim.Native.Nat.{ℕ, ◌+◌, ◌-◌, ◌%◌, ◌≤◌, ◌<◌}
-use native.Mathlib.Omega.{arith}
 use lib.ListN.{length, get_or}
-use borrow.Author.Rules.{rules}
-use borrow.Author.Count.{below_more}
 use Rattle.primes.proofs.first_divisor.Given as goal
 
 abbrev pub invariant-loop-i : goal.invariant-loop-i

@@ -1,12 +1,7 @@
 -- `number::prime::is_listed`: no entry before place i is n.
-use mathlib.Core.Path.{sym}
-use mathlib.Core.Bool.{false≢true}
 use mathlib.Core.Logic.{◌≢◌}
 use Prim.Native.Nat.{ℕ, ◌-◌, ◌≤◌, ◌<◌}
-use native.Mathlib.Omega.{arith}
 use lib.ListN.{length, get_or}
-use borrow.Author.Rules.{rules}
-use borrow.Author.Count.{below_more}
 use Rattle.primes.proofs.is_listed.Given as goal
 
 abbrev pub invariant-loop-i : goal.invariant-loop-i

@@ -1,10 +1,8 @@
 -- `number::prime::is_odd_prime`: a prime that is known passes. Below 256 the table decides. Else a divisor from the table does, and
 -- where there is none the trial by odd numbers.
-use mathlib.Core.Path.{◌≡◌}
 use Prim.Native.Nat.{◌<◌}
 use native.Mathlib.Omega.{arith}
 use native.Mathlib.Nat.{zero-add}
-use borrow.Author.Rules.{rules}
 use Rattle.primes.specs.Table.{table_length}
 use Rattle.primes.proofs.OddPrime.{odd-prime-passes, odd-prime-low, odd-prime-fails}
 use Rattle.primes.proofs.PrimeTable.{entry-prime, entry-below, listed-decides}

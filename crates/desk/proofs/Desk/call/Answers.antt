@@ -1,7 +1,6 @@
 -- `desk::Desk::call`: 19, then 20, then the check that is counted.
 use mathlib.Core.Path.{sym, ap, ◌∙◌}
 use mathlib.Core.Bool.{not}
-use borrow.Author.Rules.{rules}
 use Rattle.meaning.specs.Desk.{full_count, check_of}
 use Rattle.desk.proofs.Calling.{tested-agrees, call-disagrees, call-full, call-counted, in-plain-words}
 use Rattle.desk.proofs.Desk.call.Goals as goal

@@ -1,9 +1,7 @@
 -- `number::inverse::euclid`: the second remainder falls at each call, and each call keeps what `EuclidStep` says.
-use mathlib.Core.Path.{◌≡◌}
-use Prim.Native.Nat.{ℕ, ◌%◌, ◌<◌}
+use Prim.Native.Nat.{◌%◌, ◌<◌}
 use native.Mathlib.Omega.{arith}
 use native.Mathlib.Nat.{mod-lt, pos_of_ne-zero}
-use borrow.Author.Rules.{rules}
 use Rattle.number.proofs.Euclid.{euclid-step, euclid-end}
 use Rattle.number.proofs.inverse.+euclid.Goals as goal
 

@@ -1,7 +1,6 @@
 -- `number::inverse::inverse_of`: p - 1 is its own inverse; for another t Euclid's algorithm starts from p and t.
 use Rattle.number.proofs.Euclid.{euclid-start, own-inverse}
 use native.Mathlib.Omega.{arith}
-use borrow.Author.Rules.{rules}
 use Rattle.number.proofs.inverse.inverse_of.Goals as goal
 
 pub returns-then-t-p : goal.returns-then-t-p

@@ -4,10 +4,9 @@ use mathlib.Core.Path.{◌≡◌, sym, ap, ◌∙◌}
 use Prim.Native.Nat.{◌%◌, ◌^◌, ◌≤◌, ◌<◌}
 use native.Mathlib.Omega.{arith}
 use native.Mathlib.Nat.{pow-zero, pow-le-pow_right}
-use borrow.Author.Rules.{rules}
 use Rattle.meaning.specs.Machine.{past_u32}
 use Rattle.number.proofs.Word.{wide-product}
-use Rattle.number.proofs.CappedPower.{capped-of, capped-above, low-power, power-one, PowerLeft, left-start, left_end, base_above, product-above, left-turn}
+use Rattle.number.proofs.CappedPower.{capped-of, capped-above, low-power, power-one, left-start, left_end, base_above, product-above, left-turn}
 use Rattle.number.proofs.power.capped_power.Goals as goal
 use Rattle.number.proofs.power.capped_power.Goals.{Joined-k-eq0, Joined-n-eq1, then-k-eq0, else-k-eq0, then-n-eq1, else-n-eq1}
 

@@ -2,7 +2,6 @@
 use Prim.Native.Nat.{◌*◌}
 use native.Mathlib.Omega.{arith}
 use lib.IntN.{pos, negsuc}
-use borrow.Author.Rules.{rules}
 use Rattle.algebra.proofs.Integer.Order.{positive_part-negation, negative_part-negation}
 use Rattle.algebra.proofs.Integer.Linear.{linear}
 use Rattle.number.proofs.Remainder.{remainder_by}

@@ -1,9 +1,6 @@
 -- `number::residue::product`: the product of two u32 fits a u64.
 use mathlib.Core.Path.{sym}
-use native.Mathlib.Omega.{arith}
 use native.Mathlib.Nat.{mod-lt}
-use borrow.Author.Rules.{rules}
-use Rattle.number.proofs.Word.{wide-product}
 use Rattle.number.proofs.Remainder.{remainder-positive}
 use Rattle.number.proofs.residue.product.Goals as goal
 

@@ -1,7 +1,6 @@
 -- `number::residue::remainder_of`: by the sign, from the remainder of the magnitude.
 use mathlib.Core.Path.{sym, ap, ◌∙◌}
 use Prim.Native.Nat.{◌<◌}
-use native.Mathlib.Omega.{arith}
 use native.Mathlib.Numerals.{add-one}
 use native.Mathlib.Nat.{mod-lt}
 use lib.Signed.{mag}

@@ -1,6 +1,5 @@
 -- `number::residue::signed_value`: the test is the definition's, and both arms are below 2 ^ 32 in absolute value.
 use Prim.Native.Nat.{◌-◌, ◌/◌}
-use borrow.Author.Rules.{rules}
 use borrow.Author.Tests.{le-leb, lt-leb}
 use native.Mathlib.Omega.{arith}
 use lib.IntN.{pos, ◌-ℤ◌}

@@ -2,7 +2,6 @@
 use mathlib.Core.Path.{ap}
 use native.Mathlib.Omega.{arith}
 use lib.IntN.{pos}
-use borrow.Author.Rules.{rules}
 use Rattle.number.proofs.Remainder.{remainder_by}
 use Rattle.number.proofs.residue.sum.Goals as goal
 

@@ -1,8 +1,5 @@
 -- `number::root::above_root`: a bound that is doubled stays above 0, and the last one, 2 ^ 32, is above the root of every u64.
-use Prim.Native.Nat.{◌-◌, ◌*◌, ◌≤◌}
 use native.Mathlib.Omega.{arith}
-use borrow.Author.Rules.{rules}
-use Rattle.meaning.specs.Machine.{past_u32}
 use Rattle.number.proofs.Word.{wide-product}
 use Rattle.number.proofs.root.above_root.Goals as goal
 

@@ -1,11 +1,6 @@
 -- `number::root::square_root`: the square of low is at most n and that of high above it, until high is the next number after low.
-use mathlib.Core.Path.{◌≡◌}
-use Prim.Native.Nat.{suc, ◌-◌, ◌*◌, ◌≤◌, ◌<◌}
-use native.Mathlib.Omega.{arith}
-use borrow.Author.Rules.{rules}
+use Prim.Native.Nat.{◌-◌, ◌*◌, ◌≤◌, ◌<◌}
 use Rattle.meaning.specs.Machine.{past_u32}
-use Rattle.number.proofs.Word.{wide-product}
-use Rattle.algebra.proofs.Root.{root-unique}
 use Rattle.number.proofs.root.square_root.Given as goal
 
 abbrev pub invariant-loop-high : goal.invariant-loop-high

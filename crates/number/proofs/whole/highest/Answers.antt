@@ -1,5 +1,4 @@
 -- `number::whole::highest`: half of p - 1.
-use borrow.Author.Rules.{rules}
 use Rattle.meaning.specs.Number.{half, highest}
 use Rattle.number.proofs.whole.highest.Goals as goal
 

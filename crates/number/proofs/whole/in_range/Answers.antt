@@ -1,6 +1,5 @@
 -- `number::whole::in_range`: the test is that of the definition, by its two ends.
 use mathlib.Core.Path.{◌∙◌}
-use borrow.Author.Rules.{rules}
 use Rattle.meaning.specs.Number.{in_range}
 use Rattle.number.proofs.whole.in_range.Goals as goal
 

@@ -3,7 +3,6 @@ use mathlib.Core.Path.{◌∙◌, ap}
 use native.Mathlib.Omega.{arith}
 use Prim.Native.Nat.{ℕ, ◌-◌, ◌/◌}
 use lib.IntN.{pos, neg_ℤ}
-use borrow.Author.Rules.{rules}
 use Rattle.meaning.specs.Machine.{past_u32}
 use Rattle.meaning.specs.Number.{half, lowest, highest}
 use Rattle.number.specs.Bounded.{Bounded}

@@ -1,9 +1,6 @@
 -- `service::checking::all_below`: what the cells say is taken together from the first on.
-use Prim.Native.Nat.{◌-◌}
-use lib.ListN.{length}
-use borrow.Author.Rules.{rules}
 use Rattle.meaning.specs.Reply.{is_cell}
-use Rattle.service.proofs.Scan.{Together, together-none, together-next, together-end}
+use Rattle.service.proofs.Scan.{together-next, together-end}
 use Rattle.service.proofs.checking.all_below.Goals as goal
 
 pub loop-i-preserved : goal.loop-i-preserved

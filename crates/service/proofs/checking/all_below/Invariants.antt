@@ -1,9 +1,8 @@
 -- `service::checking::all_below`: what the cells say is taken together from the first on.
 use Prim.Native.Nat.{◌-◌}
 use lib.ListN.{length}
-use borrow.Author.Rules.{rules}
 use Rattle.meaning.specs.Reply.{is_cell}
-use Rattle.service.proofs.Scan.{Together, together-none, together-next, together-end}
+use Rattle.service.proofs.Scan.{Together}
 use Rattle.service.proofs.checking.all_below.Given as goal
 
 abbrev pub invariant-loop-i : goal.invariant-loop-i

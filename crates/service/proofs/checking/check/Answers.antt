@@ -3,7 +3,6 @@ use mathlib.Core.Path.{◌∙◌}
 use Rattle.service.specs.Reply.{reply_meaning}
 use Rattle.service.proofs.ReadList.{survey-refused, survey-counted}
 use Rattle.service.proofs.Checked.{check-refused, check-read}
-use borrow.Author.Rules.{rules}
 use Rattle.service.proofs.checking.check.Goals as goal
 
 pub check_table-requires : goal.check_table-requires

@@ -5,7 +5,6 @@ use Rattle.service.specs.Reply.{reply_meaning}
 use Rattle.service.specs.Walk.{ListRead}
 use Rattle.service.proofs.ReadList.{prime-by, cells-by}
 use Rattle.service.proofs.Checked.{large-found, none-large, all-below, checked-wrong-length, checked-cell, checked-rows}
-use borrow.Author.Rules.{rules}
 use Rattle.service.proofs.checking.check_table.Goals as goal
 use Rattle.service.proofs.checking.check_table.Goals.{After-cell_number, Else-table-cell_number}
 

@@ -1,12 +1,9 @@
 -- `service::checking::first_large`: where not all cells are below p, they are looked at from the first on.
 use mathlib.Core.Path.{sym, ap, ◌∙◌}
-use Prim.Native.Nat.{◌-◌, ◌<◌}
-use lib.ListN.{length}
-use Rattle.meaning.specs.Reply.{is_cell, refusal_at}
+use Rattle.meaning.specs.Reply.{refusal_at}
 use Rattle.service.specs.Check.{cells_meaning}
-use Rattle.service.proofs.Scan.{Scanned, all_none, scanned-none, scan-inside, scan-here, scan-next}
+use Rattle.service.proofs.Scan.{all_none, scanned-none, scan-inside, scan-here, scan-next}
 use Rattle.service.proofs.Checked.{cell-large, cell_below}
-use borrow.Author.Rules.{rules}
 use Rattle.service.proofs.checking.first_large.Goals as goal
 
 pub returns-then-all_below : goal.returns-then-all_below

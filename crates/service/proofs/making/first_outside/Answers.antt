@@ -1,14 +1,11 @@
 -- `service::making::first_outside`: the inputs are looked at from the first on.
 use mathlib.Core.Path.{◌≡◌, sym, ap, ◌∙◌}
-use Prim.Native.Nat.{◌-◌}
 use lib.IntN.{pos}
-use lib.ListN.{length, get_or}
-use borrow.Author.Tests.{not-true, not-false}
+use lib.ListN.{get_or}
 use Rattle.meaning.specs.Number.{in_range}
 use Rattle.meaning.specs.Reply.{refusal_at}
 use Rattle.service.specs.Make.{inputs_meaning}
-use Rattle.service.proofs.Scan.{Scanned, scanned-none, scan-end, scan-here, scan-next}
-use borrow.Author.Rules.{rules}
+use Rattle.service.proofs.Scan.{scan-end, scan-here, scan-next}
 use Rattle.service.proofs.making.first_outside.Goals as goal
 use Rattle.service.proofs.making.first_outside.Goals.{After-in_range}
 

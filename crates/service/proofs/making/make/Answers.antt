@@ -3,7 +3,6 @@ use mathlib.Core.Path.{◌∙◌}
 use Rattle.service.specs.Reply.{reply_meaning}
 use Rattle.service.proofs.ReadList.{survey-refused, survey-counted}
 use Rattle.service.proofs.Made.{make-refused, make-read, makes-by}
-use borrow.Author.Rules.{rules}
 use Rattle.service.proofs.making.make.Goals as goal
 
 pub make_table-requires : goal.make_table-requires

@@ -5,7 +5,6 @@ use Rattle.service.specs.Reply.{reply_meaning}
 use Rattle.service.specs.Walk.{ListRead}
 use Rattle.service.proofs.ReadList.{prime-by, cells-by, inputs-by}
 use Rattle.service.proofs.Made.{outside-found, none-outside, column-of, made-wrong-length, made-wrong-count, made-outside, made-worked}
-use borrow.Author.Rules.{rules}
 use Rattle.service.proofs.making.make_table.Goals as goal
 use Rattle.service.proofs.making.make_table.Goals.{After-cell_number, Else-inputs-counts, Else-table-cell_number}
 

@@ -3,7 +3,6 @@ use mathlib.Core.Path.{ap, ◌∙◌}
 use Rattle.meaning.specs.Reply.{reply, making}
 use Rattle.service.specs.Reply.{reply_meaning}
 use Rattle.service.proofs.Made.{false-made, write-given, true-made}
-use borrow.Author.Rules.{rules}
 use Rattle.service.proofs.making.make_true.Goals as goal
 
 pub returns-in-FalseAt : goal.returns-in-FalseAt

@@ -1,9 +1,7 @@
 -- `service::showing::stretch_of`: the walk to the line, with what holds before each line as the invariant.
-use mathlib.Core.Path.{refl}
 use Prim.Native.Nat.{◌-◌}
 use lib.ListN.{length}
-use Rattle.service.proofs.Shown.{Showing, showing-first, showing-end, showing-line, showing-next, at-line}
-use borrow.Author.Rules.{rules}
+use Rattle.service.proofs.Shown.{Showing}
 use Rattle.service.proofs.showing.stretch_of.Given as goal
 
 abbrev pub invariant-loop-at : goal.invariant-loop-at

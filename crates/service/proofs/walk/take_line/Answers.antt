@@ -1,8 +1,6 @@
 -- `service::walk::take_line`: the one place where a line of a list that was read is parsed and counted.
 use mathlib.Core.Path.{◌≡◌, refl, ◌∙◌}
-use borrow.Author.Rules.{rules}
 use Rattle.lines.specs.declared.Parsed.TheVariants.{Line}
-use Rattle.service.specs.Walk.{AtLine, Took}
 use Rattle.service.proofs.ReadList.{read-ended}
 use Rattle.service.proofs.Standing.{line-is-there, took}
 use Rattle.service.proofs.walk.take_line.Goals as goal

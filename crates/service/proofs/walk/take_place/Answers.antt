@@ -1,6 +1,5 @@
 -- `service::walk::take_place`: one place is written where the line makes a value, and none else.
 use Rattle.service.proofs.Places.{place-taken, place-not-taken}
-use borrow.Author.Rules.{rules}
 use Rattle.service.proofs.walk.take_place.Goals as goal
 
 pub returns-then-at-next : goal.returns-then-at-next

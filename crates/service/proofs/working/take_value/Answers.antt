@@ -2,7 +2,6 @@
 use mathlib.Core.Path.{sym, ap, ◌∙◌}
 use Rattle.service.specs.Make.{with_value, is_true}
 use Rattle.groups.specs.declared.value.Worked.{Worked}
-use borrow.Author.Rules.{rules}
 use Rattle.service.proofs.working.take_value.Goals as goal
 
 pub returns-in-Value : goal.returns-in-Value

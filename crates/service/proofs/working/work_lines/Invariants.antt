@@ -1,13 +1,7 @@
 -- `service::working::work_lines`: the walk that works each line, with what holds before each line as the invariant.
-use mathlib.Core.Path.{refl, sym, ap, ◌∙◌}
-use Prim.Native.Nat.{◌-◌, ◌≤◌}
+use Prim.Native.Nat.{◌-◌}
 use lib.ListN.{length}
-use borrow.Author.Tests.{not-true, not-false}
-use Rattle.service.specs.Make.{is_true}
-use Rattle.service.proofs.ReadList.{read_short}
-use Rattle.service.proofs.Worked.{WorkingOn, working-first, working-end, working-false, working-next, value-inside, at-line, values-given}
-use Rattle.meaning.specs.Refusal.{text_limit}
-use borrow.Author.Rules.{rules}
+use Rattle.service.proofs.Worked.{WorkingOn}
 use Rattle.service.proofs.working.work_lines.Given as goal
 
 abbrev pub invariant-loop-at : goal.invariant-loop-at

@@ -1,9 +1,8 @@
 -- `service::writing::write_lines`: the walk that writes each line's cells, with what holds before each line as the invariant.
-use mathlib.Core.Path.{refl, sym, ◌∙◌}
-use Prim.Native.Nat.{◌-◌, ◌≤◌}
+use mathlib.Core.Path.{refl}
+use Prim.Native.Nat.{◌≤◌}
 use lib.ListN.{length}
-use Rattle.service.proofs.Written.{Writing, writing-first, table-long, writing-end, writing-next, at-line, first-inside, cells-given, made-stand, next}
-use borrow.Author.Rules.{rules}
+use Rattle.service.proofs.Written.{writing-first, writing-end, writing-next, at-line, first-inside, cells-given, made-stand, next}
 use Rattle.service.proofs.writing.write_lines.Goals as goal
 use Rattle.service.proofs.writing.write_lines.Goals.{After-cell_number-first}
 

@@ -1,9 +1,7 @@
 -- `service::writing::write_lines`: the walk that writes each line's cells, with what holds before each line as the invariant.
-use mathlib.Core.Path.{refl, sym, ◌∙◌}
-use Prim.Native.Nat.{◌-◌, ◌≤◌}
+use Prim.Native.Nat.{◌-◌}
 use lib.ListN.{length}
-use Rattle.service.proofs.Written.{Writing, writing-first, table-long, writing-end, writing-next, at-line, first-inside, cells-given, made-stand, next}
-use borrow.Author.Rules.{rules}
+use Rattle.service.proofs.Written.{Writing}
 use Rattle.service.proofs.writing.write_lines.Given as goal
 
 abbrev pub invariant-loop-at : goal.invariant-loop-at

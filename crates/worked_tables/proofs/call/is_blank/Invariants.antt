@@ -1,7 +1,6 @@
 -- `worked_tables::call::is_blank`: each turn takes the next index, and nothing has to hold from turn to turn.
 use Prim.Native.Nat.{◌-◌}
 use lib.ListN.{length}
-use borrow.Author.Rules.{rules}
 use Rattle.worked_tables.proofs.call.is_blank.Given as goal
 
 abbrev pub invariant-loop-i : goal.invariant-loop-i
