@@ -12,6 +12,10 @@ halves : (s : Start)
     → Halves (refusal_text (reply s.args.number s.args.place)) (bytes "refused\t") (pair_text s.args.number s.args.place) s.args.part.now
 halves s = record { parts = refusal-parts s.args.number s.args.place; room = s.requires }
 
+pub returns : goal.returns
+unfolding bytes
+returns c = written-whole (halves (goal.at.returns c).Start) c.write_bytes-at.ensures c.write_pair.ensures
+
 pub write_bytes-at-requires : goal.write_bytes-at-requires
 unfolding bytes
 write_bytes-at-requires c = first-room (halves (goal.at.write_bytes-at-requires c).Start)
@@ -19,7 +23,3 @@ write_bytes-at-requires c = first-room (halves (goal.at.write_bytes-at-requires 
 pub write_pair-requires : goal.write_pair-requires
 unfolding bytes
 write_pair-requires c = rest-room (halves (goal.at.write_pair-requires c).Start) c.write_bytes-at.ensures
-
-pub returns : goal.returns
-unfolding bytes
-returns c = written-whole (halves (goal.at.returns c).Start) c.write_bytes-at.ensures c.write_pair.ensures

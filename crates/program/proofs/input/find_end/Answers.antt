@@ -1,5 +1,4 @@
 -- Before each line, `Seeking` holds: none of the lines before it is `end`.
-use native.Mathlib.Omega.{arith}
 use Rattle.meaning.specs.Text.{bytes}
 use Rattle.meaning.proofs.Results.{none-refused}
 use Rattle.program.specs.Input.{EndYield}
@@ -8,9 +7,6 @@ use Rattle.program.proofs.input.find_end.Goals as goal
 
 pub loop-at-init : goal.loop-at-init
 loop-at-init c = seeking-start _
-
-pub loop-at-smaller : goal.loop-at-smaller
-loop-at-smaller c = omega (arith, c.line_end-end.ensures.low)
 
 pub returns-then-is_same : goal.returns-then-is_same
 unfolding bytes EndYield
