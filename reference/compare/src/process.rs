@@ -47,8 +47,8 @@ impl Program {
             return Ok(Program { path });
         }
         Err(format!(
-            "{} is not there: run `rt check digit_table` in the repository, or name the program by \
-             --program or DIGIT_TABLE_PROGRAM",
+            "{} is not there: run `tools/build digit_table` in the repository, or name the program \
+             by --program or DIGIT_TABLE_PROGRAM",
             path.display()
         ))
     }
