@@ -1,5 +1,5 @@
 //! Links the static library of the service, `libexports.a`, from the folder that `DIGIT_TABLE_LIBRARY` names, or else from where
-//! `rt staticlib exports` writes it in this repository. It is not built here: that takes the Rattle toolchain.
+//! `tools/build exports` writes it in this repository. It is not built here: that takes the Rattle toolchain.
 
 use std::env;
 use std::path::PathBuf;
@@ -11,7 +11,7 @@ fn main() {
     println!("cargo:rerun-if-changed={}", library.display());
     if !library.is_file() {
         panic!(
-            "{} is not there: run `rt staticlib exports` in the repository, or set \
+            "{} is not there: run `tools/build exports` in the repository, or set \
              DIGIT_TABLE_LIBRARY to the folder of libexports.a",
             library.display()
         );
@@ -20,7 +20,7 @@ fn main() {
     println!("cargo:rustc-link-lib=static=exports");
 }
 
-/// Where `rt staticlib exports` writes the library.
+/// Where `tools/build exports` writes the library.
 fn in_repository() -> PathBuf {
     let here = env::var_os("CARGO_MANIFEST_DIR").expect("cargo says where this crate is");
     PathBuf::from(here).join("../../target/staticlib")
