@@ -18,12 +18,11 @@ use Rattle.lines.proofs.numbers_from.Goals as goal
 use Rattle.lines.proofs.numbers_from.Goals.{In-Of}
 
 pub loop-count-init : goal.loop-count-init
-loop-count-init c =
-    let start = c in (
-      in-line start.args.text.now start.requires.0 start.args.from start.requires.1,
-      search rules,
-      reading-start _ _ start.requires.2,
-    )
+loop-count-init c = (
+  in-line c.args.text.now c.requires.0 c.args.from c.requires.1,
+  search rules,
+  reading-start _ _ c.requires.2,
+)
 
 pub returns-in_default : goal.returns-in_default
 unfolding NumbersYield fields_of
@@ -84,8 +83,7 @@ loop-count-smaller c = omega (arith, (ends (goal.at.loop-count-smaller c).In-Of)
 pub loop-count-preserved : goal.loop-count-preserved
 unfolding fields_of
 loop-count-preserved c =
-    let at-yield = c in
-    let s = at-yield.args in
+    let s = c.args in
     let line = up_to s.text.now s.from in
     let l = place (goal.at.loop-count-preserved c).In-Of in
     let end = c.in-Of.end in

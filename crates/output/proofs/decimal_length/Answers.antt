@@ -15,9 +15,7 @@ returns-then-n-lt100 c =
 
 pub overflow_add-count : goal.overflow_add-count
 overflow_add-count c =
-    let at-loop = c in
-    let s = at-loop in
-    omega (arith, decimal-of-64 s.args.n at-loop.loop-rest.invariant.0, some-digit at-loop.loop-rest.rest)
+    omega (arith, decimal-of-64 c.args.n c.loop-rest.invariant.0, some-digit c.loop-rest.rest)
 
 pub loop-rest-preserved : goal.loop-rest-preserved
 loop-rest-preserved c = (search rules, omega (arith, length-long c.loop-rest.rest c.loop-rest-test.true))

@@ -17,16 +17,13 @@ size_small c = let fits : SFits w64 c.args.z.0 = search rules in size-most fits 
 
 pub overflow_add-result : goal.overflow_add-result
 overflow_add-result c =
-    let measured = c in
     let small = size_small (goal.at.overflow_add-result c).After-magnitude-size in
-    record { fits = omega (arith, c.decimal_length.ensures, decimal-of-64 (measured.magnitude-size.result + 1) (omega arith)) }
+    record { fits = omega (arith, c.decimal_length.ensures, decimal-of-64 (c.magnitude-size.result + 1) (omega arith)) }
 
 pub returns-then-is_negative : goal.returns-then-is_negative
 returns-then-is_negative c =
-    let at_test = c in
-    rw (signed-text at_test.args.z.0 at_test.magnitude-size.ensures at_test.is_negative.ensures c.if-is_negative.true) (omega (arith, c.decimal_length.ensures))
+    rw (signed-text c.args.z.0 c.magnitude-size.ensures c.is_negative.ensures c.if-is_negative.true) (omega (arith, c.decimal_length.ensures))
 
 pub returns : goal.returns
 returns c =
-    let at_test = c in
-    c.decimal_length-2.ensures ∙ ap length (sym (plain-text at_test.args.z.0 at_test.magnitude-size.ensures at_test.is_negative.ensures c.if-is_negative.false))
+    c.decimal_length-2.ensures ∙ ap length (sym (plain-text c.args.z.0 c.magnitude-size.ensures c.is_negative.ensures c.if-is_negative.false))

@@ -10,11 +10,10 @@ use Rattle.output.proofs.write_number.Goals.{Else-is_negative, Then-is_negative}
 
 -- a sign, and then the size
 halves : (c : Then-is_negative)
-    → let measured = c in
-    let a = measured.args in Halves (number_text a.z.0) (45 ∷ []) (decimal_of (measured.magnitude-size.result + 1)) a.part.now
+    → let c = c in
+    let a = c.args in Halves (number_text a.z.0) (45 ∷ []) (decimal_of (c.magnitude-size.result + 1)) a.part.now
 halves c =
-    let measured = c in
-    record { parts = sym (signed-text measured.args.z.0 measured.magnitude-size.ensures c.is_negative.ensures c.if-is_negative.true); room = measured.requires }
+    record { parts = sym (signed-text c.args.z.0 c.magnitude-size.ensures c.is_negative.ensures c.if-is_negative.true); room = c.requires }
 
 plain : (c : Else-is_negative) → decimal_of c.magnitude-size.result ≡ number_text c.args.z.0
 plain c = sym (plain-text c.args.z.0 c.magnitude-size.ensures c.is_negative.ensures c.if-is_negative.false)

@@ -39,20 +39,17 @@ below d s root n h l k q = let m : 2 * root ≤ root * root = mul-le-mul (omega 
 
 pub returns-then-first_divisor-lt8 : goal.returns-then-first_divisor-lt8
 returns-then-first_divisor-lt8 c =
-    let at_test = c in
-    let at-root = at_test in
-    let now = at_test.loop-d in
+    let now = c.loop-d in
     let found = c.first_divisor in
     let step = step_small found.result c.if-first_divisor-lt8.true in
     odd-prime-fails _ _ (omega (arith, now.invariant.0))
-    (below now.d _ at-root.square_root-root.result _ now.invariant.0 at_test.loop-d-test.true step.1 (square (goal.at.returns-then-first_divisor-lt8 c).After-square_root-root))
+    (below now.d _ c.square_root-root.result _ now.invariant.0 c.loop-d-test.true step.1 (square (goal.at.returns-then-first_divisor-lt8 c).After-square_root-root))
     (found.ensures.divides c.if-first_divisor-lt8.true)
 
 pub loop-d-preserved : goal.loop-d-preserved
 loop-d-preserved c =
-    let at_test = c in
-    let now = at_test.loop-d in
-    let n = at_test.args.n in
+    let now = c.loop-d in
+    let n = c.args.n in
     let found = c.first_divisor in
     let more : (k : ℕ) → table_end ≤ k → Tried k → k < now.d + 30 → n % k ≢ 0 = λ k h t l. elim (dec_lt k now.d) [
       | yes e ↦ now.invariant.2 k h t e
@@ -66,14 +63,13 @@ loop-d-preserved c =
 pub returns : goal.returns
 returns c =
     let now = c.loop-d in
-    let at-root = c in
-    let n = at-root.args.n in
-    let p = at-root.requires in
+    let n = c.args.n in
+    let p = c.requires in
     let under : (k : ℕ) → Tried k → k * k ≤ n → k < now.d = λ k t l. elim (dec_lt k now.d) [
       | yes h ↦ h
       | no h ↦
           let odd = t.0 in
-          let m : suc at-root.square_root-root.result ≤ k = omega (arith, now.invariant.1) in
+          let m : suc c.square_root-root.result ≤ k = omega (arith, now.invariant.1) in
           absurd (omega (arith, mul-le-mul m m, next (goal.at.returns c).After-square_root-root))
     ] in
     odd-prime-passes n p.0 (prime-by-table n p.0 p.1 (λ k h t l. now.invariant.2 k h t (under k t l)))

@@ -20,11 +20,9 @@ overflow_add-refused c = search rules
 pub returns-then-reply-eq0 : goal.returns-then-reply-eq0
 unfolding desk_meaning
 returns-then-reply-eq0 c =
-    let S = c in
-    raise-accepted S.args.self S.args.reply c.if-reply-eq0.true
+    raise-accepted c.args.self c.args.reply c.if-reply-eq0.true
 
 pub returns-else-reply-eq0 : goal.returns-else-reply-eq0
 unfolding desk_meaning
 returns-else-reply-eq0 c =
-    let S = c in
-    raise-refused S.args.self S.args.reply c.if-reply-eq0.false
+    raise-refused c.args.self c.args.reply c.if-reply-eq0.false

@@ -41,7 +41,7 @@ power c =
 top-is : (c : Else-most-c)
     → let a = c.args in
     c.in-Of.part * a.b - c.in-Of.part ≡ top_part a.b a.k
-top-is c = let start = c in top-part start.requires.1 start.requires.2 (part c.before)
+top-is c = top-part c.requires.1 c.requires.2 (part c.before)
 
 top_small : (c : Else-most-c) → let a = c.args in top_part a.b a.k ≤ greatest
 top_small c = omega (arith, (power c).within, top-is c, c.requires.0.most)

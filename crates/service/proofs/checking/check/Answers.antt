@@ -12,12 +12,10 @@ check_table-requires c =
 pub returns-in-NotRead : goal.returns-in-NotRead
 unfolding reply_meaning
 returns-in-NotRead c =
-    let S = c in
-    check-refused S.args.list.now S.args.table.now _ _ (survey-refused _ _ c.survey-found.ensures.yields _ _ c.in-NotRead.is)
+    check-refused c.args.list.now c.args.table.now _ _ (survey-refused _ _ c.survey-found.ensures.yields _ _ c.in-NotRead.is)
 
 pub returns-in-Counted : goal.returns-in-Counted
 unfolding reply_meaning
 returns-in-Counted c =
-    let S = c in
-    let l = (survey-counted S.args.list.now _ c.survey-found.ensures.yields c.survey-found.ensures.prime _ _ c.in-Counted.is).listed in
-    c.check_table.ensures l ∙ check-read S.args.list.now S.args.table.now l
+    let l = (survey-counted c.args.list.now _ c.survey-found.ensures.yields c.survey-found.ensures.prime _ _ c.in-Counted.is).listed in
+    c.check_table.ensures l ∙ check-read c.args.list.now c.args.table.now l

@@ -11,8 +11,7 @@ use Rattle.service.proofs.checking.check_rows.Goals as goal
 
 pub loop-at-init : goal.loop-at-init
 loop-at-init c =
-    let S = c in
-    rw c.counts_of-counts.ensures (checking-first S.args.list.now S.args.table.now S.args.p _ _ refl refl S.requires)
+    rw c.counts_of-counts.ensures (checking-first c.args.list.now c.args.table.now c.args.p _ _ refl refl c.requires)
 
 pub line_rows-rows-requires : goal.line_rows-rows-requires
 line_rows-rows-requires c =

@@ -20,33 +20,26 @@ long c l = c.if-table-cell_number.false ∙ c.cell_number.ensures ∙ cells-by c
 pub returns-then-table-cell_number : goal.returns-then-table-cell_number
 unfolding reply_meaning
 returns-then-table-cell_number c l =
-    let S = c in
-    checked-wrong-length l.last l.lines S.args.table.now (λ e. c.if-table-cell_number.true (e ∙ sym (cells_are (goal.at.returns-then-table-cell_number c).After-cell_number l)))
+    checked-wrong-length l.last l.lines c.args.table.now (λ e. c.if-table-cell_number.true (e ∙ sym (cells_are (goal.at.returns-then-table-cell_number c).After-cell_number l)))
 
 pub check_rows-requires : goal.check_rows-requires
 check_rows-requires c =
-    let found = c in
-    let S = found in
     record {
-      listed = S.requires.listed;
-      prime = S.requires.prime;
-      long = sym (long (goal.at.check_rows-requires c).Else-table-cell_number S.requires.listed);
-      below = all-below S.args.p S.args.table.now (none-large S.args.table.now S.args.p _ found.first_large-found.ensures c.in-AllBelow.is);
+      listed = c.requires.listed;
+      prime = c.requires.prime;
+      long = sym (long (goal.at.check_rows-requires c).Else-table-cell_number c.requires.listed);
+      below = all-below c.args.p c.args.table.now (none-large c.args.table.now c.args.p _ c.first_large-found.ensures c.in-AllBelow.is);
     }
 
 pub returns-in-Large : goal.returns-in-Large
 unfolding reply_meaning
 returns-in-Large c l =
-    let found = c in
-    let S = found in
-    let large = large-found S.args.table.now S.args.p _ found.first_large-found.ensures _ c.in-Large.is in
+    let large = large-found c.args.table.now c.args.p _ c.first_large-found.ensures _ c.in-Large.is in
     rw c.cell_number-in-Large.ensures
-    (checked-cell l.last l.lines S.args.table.now (long (goal.at.returns-in-Large c).Else-table-cell_number l) _ (rw (← prime-by S.requires l) large))
+    (checked-cell l.last l.lines c.args.table.now (long (goal.at.returns-in-Large c).Else-table-cell_number l) _ (rw (← prime-by c.requires l) large))
 
 pub returns-in-AllBelow : goal.returns-in-AllBelow
 returns-in-AllBelow c l =
-    let found = c in
-    let S = found in
-    let None-found = none-large S.args.table.now S.args.p _ found.first_large-found.ensures c.in-AllBelow.is in
+    let None-found = none-large c.args.table.now c.args.p _ c.first_large-found.ensures c.in-AllBelow.is in
     c.check_rows.ensures l
-    ∙ checked-rows l.last l.lines S.args.table.now (long (goal.at.returns-in-AllBelow c).Else-table-cell_number l) (rw (← prime-by S.requires l) None-found)
+    ∙ checked-rows l.last l.lines c.args.table.now (long (goal.at.returns-in-AllBelow c).Else-table-cell_number l) (rw (← prime-by c.requires l) None-found)

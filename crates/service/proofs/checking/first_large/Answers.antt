@@ -17,15 +17,12 @@ loop-i-init c =
 
 pub loop-i-preserved : goal.loop-i-preserved
 loop-i-preserved c =
-    let at-loop = c in
-    let at_test = at-loop in
-    let scanned = at-loop.loop-i.invariant in
+    let scanned = c.loop-i.invariant in
     let next = scan-next _ _ _ _ scanned.1 scanned.0 (cell_below _ _ c.loop-i-test.true) in
-    (scan-inside _ _ _ _ next (sym at_test.all_below.ensures ∙ at_test.if-all_below.false), next)
+    (scan-inside _ _ _ _ next (sym c.all_below.ensures ∙ c.if-all_below.false), next)
 
 pub returns : goal.returns
 unfolding cells_meaning refusal_at
 returns c =
-    let at-cell = c in
-    let scanned = at-cell.loop-i.invariant in
-    rw c.nth_cell.ensures (ap (refusal_at 14) (scan-here _ _ _ _ scanned.1 scanned.0 (cell-large _ _ at-cell.loop-i-test.false)))
+    let scanned = c.loop-i.invariant in
+    rw c.nth_cell.ensures (ap (refusal_at 14) (scan-here _ _ _ _ scanned.1 scanned.0 (cell-large _ _ c.loop-i-test.false)))

@@ -18,16 +18,14 @@ tested c = sym (rw c.whole_at.ensures at c.in_range.ensures)
 pub returns-then-not-in_range : goal.returns-then-not-in_range
 unfolding inputs_meaning refusal_at
 returns-then-not-in_range c =
-    let at_test = c in
-    let a = at_test.args in
-    ap (refusal_at 17) (scan-here (in_range a.p) (pos 0) a.inputs.now _ at_test.loop-i.invariant at_test.loop-i-test.true
+    let a = c.args in
+    ap (refusal_at 17) (scan-here (in_range a.p) (pos 0) a.inputs.now _ c.loop-i.invariant c.loop-i-test.true
     (tested (goal.at.returns-then-not-in_range c).After-in_range ∙ c.if-not-in_range.true))
 
 pub loop-i-preserved : goal.loop-i-preserved
 loop-i-preserved c =
-    let at_test = c in
-    let a = at_test.args in
-    scan-next (in_range a.p) (pos 0) a.inputs.now _ at_test.loop-i.invariant at_test.loop-i-test.true
+    let a = c.args in
+    scan-next (in_range a.p) (pos 0) a.inputs.now _ c.loop-i.invariant c.loop-i-test.true
     (tested (goal.at.loop-i-preserved c).After-in_range ∙ c.if-not-in_range.false)
 
 pub returns : goal.returns

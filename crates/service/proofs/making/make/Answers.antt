@@ -12,13 +12,11 @@ make_table-requires c =
 pub returns-in-NotRead : goal.returns-in-NotRead
 unfolding reply_meaning
 returns-in-NotRead c =
-    let S = c in
-    makes-by (make-refused S.args.list.now S.args.inputs.now S.args.table.now _ _
+    makes-by (make-refused c.args.list.now c.args.inputs.now c.args.table.now _ _
     (survey-refused _ _ c.survey-found.ensures.yields _ _ c.in-NotRead.is))
 
 pub returns-in-Counted : goal.returns-in-Counted
 unfolding reply_meaning
 returns-in-Counted c =
-    let S = c in
-    let l = (survey-counted S.args.list.now _ c.survey-found.ensures.yields c.survey-found.ensures.prime _ _ c.in-Counted.is).listed in
-    makes-by (c.make_table.ensures l ∙ make-read S.args.list.now S.args.inputs.now S.args.table.now l)
+    let l = (survey-counted c.args.list.now _ c.survey-found.ensures.yields c.survey-found.ensures.prime _ _ c.in-Counted.is).listed in
+    makes-by (c.make_table.ensures l ∙ make-read c.args.list.now c.args.inputs.now c.args.table.now l)

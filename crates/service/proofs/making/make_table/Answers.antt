@@ -24,46 +24,34 @@ so-many c l = c.if-inputs-counts.false ∙ inputs-by c.requires l
 pub returns-then-table-cell_number : goal.returns-then-table-cell_number
 unfolding reply_meaning
 returns-then-table-cell_number c l =
-    let S = c in
-    made-wrong-length l.last l.lines S.args.inputs.now S.args.table.now (λ e. c.if-table-cell_number.true (e ∙ sym (cells_are (goal.at.returns-then-table-cell_number c).After-cell_number l)))
+    made-wrong-length l.last l.lines c.args.inputs.now c.args.table.now (λ e. c.if-table-cell_number.true (e ∙ sym (cells_are (goal.at.returns-then-table-cell_number c).After-cell_number l)))
 
 pub returns-then-inputs-counts : goal.returns-then-inputs-counts
 unfolding reply_meaning
 returns-then-inputs-counts c l =
-    let S = c in
-    made-wrong-count l.last l.lines S.args.inputs.now S.args.table.now (long (goal.at.returns-then-inputs-counts c).Else-table-cell_number l)
-    (λ e. c.if-inputs-counts.true (e ∙ sym (inputs-by S.requires l)))
+    made-wrong-count l.last l.lines c.args.inputs.now c.args.table.now (long (goal.at.returns-then-inputs-counts c).Else-table-cell_number l)
+    (λ e. c.if-inputs-counts.true (e ∙ sym (inputs-by c.requires l)))
 
 pub returns-in-Outside : goal.returns-in-Outside
 unfolding reply_meaning
 returns-in-Outside c l =
-    let found = c in
-    let counted = found in
-    let S = counted in
-    let outside = outside-found S.args.inputs.now S.args.p _ found.first_outside-found.ensures _ c.in-Outside.is in
-    made-outside l.last l.lines S.args.inputs.now S.args.table.now (long (goal.at.returns-in-Outside c).Else-table-cell_number l) (so-many (goal.at.returns-in-Outside c).Else-inputs-counts l) _
-    (rw (← prime-by S.requires l) outside)
+    let outside = outside-found c.args.inputs.now c.args.p _ c.first_outside-found.ensures _ c.in-Outside.is in
+    made-outside l.last l.lines c.args.inputs.now c.args.table.now (long (goal.at.returns-in-Outside c).Else-table-cell_number l) (so-many (goal.at.returns-in-Outside c).Else-inputs-counts l) _
+    (rw (← prime-by c.requires l) outside)
 
 pub make_true-requires : goal.make_true-requires
 make_true-requires c =
-    let found = c in
-    let counted = found in
-    let S = counted in
-    let l = S.requires.listed in
-    let None-found = none-outside S.args.inputs.now S.args.p _ found.first_outside-found.ensures c.in_default.is in (
-      record { listed = l; column = column-of l.last S.args.inputs.now (so-many (goal.at.make_true-requires c).Else-inputs-counts l) (rw (← prime-by S.requires l) None-found) },
-      S.requires.prime,
+    let l = c.requires.listed in
+    let None-found = none-outside c.args.inputs.now c.args.p _ c.first_outside-found.ensures c.in_default.is in (
+      record { listed = l; column = column-of l.last c.args.inputs.now (so-many (goal.at.make_true-requires c).Else-inputs-counts l) (rw (← prime-by c.requires l) None-found) },
+      c.requires.prime,
       long (goal.at.make_true-requires c).Else-table-cell_number l,
     )
 
 pub returns : goal.returns
 unfolding reply_meaning
 returns c l =
-    let made = c in
-    let found = made in
-    let counted = found in
-    let S = counted in
-    let None-found = none-outside S.args.inputs.now S.args.p _ found.first_outside-found.ensures c.in_default.is in
-    made.make_true.ensures l
-    ∙ made-worked l.last l.lines S.args.inputs.now S.args.table.now (long (goal.at.returns c).Else-table-cell_number l) (so-many (goal.at.returns c).Else-inputs-counts l)
-    (rw (← prime-by S.requires l) None-found)
+    let None-found = none-outside c.args.inputs.now c.args.p _ c.first_outside-found.ensures c.in_default.is in
+    c.make_true.ensures l
+    ∙ made-worked l.last l.lines c.args.inputs.now c.args.table.now (long (goal.at.returns c).Else-table-cell_number l) (so-many (goal.at.returns c).Else-inputs-counts l)
+    (rw (← prime-by c.requires l) None-found)

@@ -11,16 +11,14 @@ returns-in-FalseAt c l = false-made l.lines l.last c.args.inputs.now _ _ (c.work
 
 pub write_lines-requires : goal.write_lines-requires
 write_lines-requires c =
-    let S = c in
     let done = c.work_lines-worked.ensures in
-    write-given S.args.list.now S.args.table.now S.args.p S.args.inputs.now _ S.requires.0 S.requires.1 S.requires.2 done.long _ (done.yields S.requires.0.listed) c.in_default.is
+    write-given c.args.list.now c.args.table.now c.args.p c.args.inputs.now _ c.requires.0 c.requires.1 c.requires.2 done.long _ (done.yields c.requires.0.listed) c.in_default.is
 
 pub returns : goal.returns
 unfolding reply_meaning
 returns c l =
-    let S = c in
     let done = c.work_lines-worked.ensures in
     let worked = c.in_default.is in
-    let given = write-given S.args.list.now S.args.table.now S.args.p S.args.inputs.now _ S.requires.0 S.requires.1 S.requires.2 done.long _ (done.yields S.requires.0.listed) worked in
+    let given = write-given c.args.list.now c.args.table.now c.args.p c.args.inputs.now _ c.requires.0 c.requires.1 c.requires.2 done.long _ (done.yields c.requires.0.listed) worked in
     ap (making (reply 0 0)) (c.write_lines.ensures given)
-    ∙ true-made S.args.list.now S.args.table.now S.args.p S.args.inputs.now _ S.requires.0 S.requires.1 S.requires.2 done.long _ (done.yields S.requires.0.listed) worked l _
+    ∙ true-made c.args.list.now c.args.table.now c.args.p c.args.inputs.now _ c.requires.0 c.requires.1 c.requires.2 done.long _ (done.yields c.requires.0.listed) worked l _

@@ -6,15 +6,13 @@ use Rattle.service.proofs.showing.stretch_of.Goals as goal
 
 pub loop-at-init : goal.loop-at-init
 loop-at-init c =
-    let S = c in
-    rw c.counts_of-counts.ensures (showing-first S.args.list.now S.args.line _ refl S.requires)
+    rw c.counts_of-counts.ensures (showing-first c.args.list.now c.args.line _ refl c.requires)
 
 pub returns-then-n-line : goal.returns-then-n-line
 returns-then-n-line c =
-    let here = c in
-    let w = here.loop-at.invariant in
-    let took = here.take_line-taken.ensures.yields (at-line w here.loop-at-test.true) in
-    showing-line w _ _ took.left_is took.next here.if-n-line.true
+    let w = c.loop-at.invariant in
+    let took = c.take_line-taken.ensures.yields (at-line w c.loop-at-test.true) in
+    showing-line w _ _ took.left_is took.next c.if-n-line.true
 
 pub loop-at-preserved : goal.loop-at-preserved
 loop-at-preserved c =

@@ -8,9 +8,8 @@ use Rattle.service.proofs.walk.take_line.Goals.{in-Line, in_default}
 
 pub line_of-requires : goal.line_of-requires
 line_of-requires c =
-    let S = c in
-    let l = S.requires.0.listed in
-    (read-ended _ l.lines l.last l.is_read, S.requires.0.inside, S.requires.1)
+    let l = c.requires.0.listed in
+    (read-ended _ l.lines l.last l.is_read, c.requires.0.inside, c.requires.1)
 
 pub returns-clause-yields : goal.returns-clause-yields
 returns-clause-yields c a = elim c.match-line_of.branch [

@@ -7,21 +7,17 @@ use Rattle.service.proofs.working.take_value.Goals as goal
 pub returns-in-Value : goal.returns-in-Value
 unfolding with_value is_true
 returns-in-Value c =
-    let written = c in
-    let S = written in
     let is = c.in-Value.is in
-    (sym (ap is_true is), written.set_whole.ensures ∙ sym (ap (λ (w : Worked). with_value S.args.values.now S.args.at w) is))
+    (sym (ap is_true is), c.set_whole.ensures ∙ sym (ap (λ (w : Worked). with_value c.args.values.now c.args.at w) is))
 
 pub returns-in-NoValue : goal.returns-in-NoValue
 unfolding with_value is_true
 returns-in-NoValue c =
-    let S = c in
     let is = c.in-NoValue.is in
-    (sym (ap is_true is), sym (ap (λ (w : Worked). with_value S.args.values.now S.args.at w) is))
+    (sym (ap is_true is), sym (ap (λ (w : Worked). with_value c.args.values.now c.args.at w) is))
 
 pub returns-in-False : goal.returns-in-False
 unfolding with_value is_true
 returns-in-False c =
-    let S = c in
     let is = c.in-False.is in
-    (sym (ap is_true is), sym (ap (λ (w : Worked). with_value S.args.values.now S.args.at w) is))
+    (sym (ap is_true is), sym (ap (λ (w : Worked). with_value c.args.values.now c.args.at w) is))

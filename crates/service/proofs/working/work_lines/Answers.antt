@@ -6,8 +6,7 @@ use Rattle.service.proofs.working.work_lines.Goals as goal
 
 pub loop-at-init : goal.loop-at-init
 loop-at-init c =
-    let S = c in
-    rw c.counts_of-counts.ensures (working-first S.args.list.now S.args.inputs.now _ S.args.values.now refl S.requires.1 S.requires.0)
+    rw c.counts_of-counts.ensures (working-first c.args.list.now c.args.inputs.now _ c.args.values.now refl c.requires.1 c.requires.0)
 
 pub line_works-worked-requires : goal.line_works-worked-requires
 line_works-worked-requires c =

@@ -8,36 +8,29 @@ use Rattle.service.proofs.writing.write_lines.Goals.{After-cell_number-first}
 
 pub loop-at-init : goal.loop-at-init
 loop-at-init c =
-    let S = c in
-    rw c.counts_of-counts.ensures (writing-first S.args.list.now S.args.p S.args.values.now S.args.table.now _ refl S.requires)
+    rw c.counts_of-counts.ensures (writing-first c.args.list.now c.args.p c.args.values.now c.args.table.now _ refl c.requires)
 
 -- the line's first cell is one of the table's
 first : (c : After-cell_number-first) → c.cell_number-first.result ≤ length c.loop-at.table
 first c =
-    let took = c in
-    let w = took.loop-at.invariant in
-    let inside = took.loop-at-test.true in
-    rw c.cell_number-first.ensures (first-inside w inside (took.take_line-line.ensures.yields (at-line w inside)))
+    let w = c.loop-at.invariant in
+    let inside = c.loop-at-test.true in
+    rw c.cell_number-first.ensures (first-inside w inside (c.take_line-line.ensures.yields (at-line w inside)))
 
 pub line_cells-requires : goal.line_cells-requires
 line_cells-requires c =
-    let at-cell = c in
-    let taken = at-cell in
-    let w = taken.loop-at.invariant in
-    let inside = taken.loop-at-test.true in
-    rw at-cell.cell_number-first.ensures (cells-given w inside (taken.take_line-line.ensures.yields (at-line w inside)))
+    let w = c.loop-at.invariant in
+    let inside = c.loop-at-test.true in
+    rw c.cell_number-first.ensures (cells-given w inside (c.take_line-line.ensures.yields (at-line w inside)))
 
 pub loop-at-preserved : goal.loop-at-preserved
 loop-at-preserved c =
-    let lent = c in
-    let at-cell = lent in
-    let taken = at-cell in
-    let w = taken.loop-at.invariant in
-    let inside = taken.loop-at-test.true in
-    let took = taken.take_line-line.ensures.yields (at-line w inside) in
-    let yields = rw at-cell.cell_number-first.ensures at lent.line_cells.ensures in
+    let w = c.loop-at.invariant in
+    let inside = c.loop-at-test.true in
+    let took = c.take_line-line.ensures.yields (at-line w inside) in
+    let yields = rw c.cell_number-first.ensures at c.line_cells.ensures in
     let written = yields (cells-given w inside took) (next w _ _ took.left_is took.kept) (made-stand w _ _ took.left_is took.kept) in
-    rw at-cell.cell_number-first.ensures (writing-next w _ _ took.left_is took.kept _ _ written took.next took.long)
+    rw c.cell_number-first.ensures (writing-next w _ _ took.left_is took.kept _ _ written took.next took.long)
 
 pub returns : goal.returns
 returns c = writing-end c.loop-at.invariant c.loop-at-test.false

@@ -18,7 +18,7 @@ use Rattle.table.proofs.max.max_cells.Goals as goal
 use Rattle.table.proofs.max.max_cells.Goals.{After-larger-y}
 
 small : (c : After-larger-y) → Bounded value_bound c.larger-y.result.0
-small c = let s = c in rw c.larger-y.ensures (larger-bounded s.requires.3 s.requires.4)
+small c = rw c.larger-y.ensures (larger-bounded c.requires.3 c.requires.4)
 
 pub whole_difference-over_u-requires : goal.whole_difference-over_u-requires
 whole_difference-over_u-requires c =
@@ -29,13 +29,12 @@ whole_difference-over_v-requires c =
     difference-fits _ _ (small (goal.at.whole_difference-over_v-requires c).After-larger-y) c.requires.4 tt
 
 pub two_groups-requires : goal.two_groups-requires
-two_groups-requires c =
-    let s = c in (
-      s.requires.1,
-      search rules,
-      rw c.whole_difference-over_u.ensures (bounded-more (bounded-difference (small (goal.at.two_groups-requires c).After-larger-y) s.requires.3) (lit≤ tt)),
-      rw c.whole_difference-over_v.ensures (bounded-more (bounded-difference (small (goal.at.two_groups-requires c).After-larger-y) s.requires.4) (lit≤ tt)),
-    )
+two_groups-requires c = (
+  c.requires.1,
+  search rules,
+  rw c.whole_difference-over_u.ensures (bounded-more (bounded-difference (small (goal.at.two_groups-requires c).After-larger-y) c.requires.3) (lit≤ tt)),
+  rw c.whole_difference-over_v.ensures (bounded-more (bounded-difference (small (goal.at.two_groups-requires c).After-larger-y) c.requires.4) (lit≤ tt)),
+)
 
 pub returns : goal.returns
 unfolding max_cells

@@ -16,4 +16,4 @@ max_cells-requires c =
     search rules
 
 pub returns : goal.returns
-returns c known = let last = c in max-cells-yield last.two_values-read.ensures last.max_cells.ensures
+returns c known = max-cells-yield c.two_values-read.ensures c.max_cells.ensures

@@ -16,4 +16,4 @@ root_cells-requires c =
     search rules
 
 pub returns : goal.returns
-returns c known = let last = c in root-cells-yield last.one_value-read.ensures last.root_cells.ensures
+returns c known = root-cells-yield c.one_value-read.ensures c.root_cells.ensures
