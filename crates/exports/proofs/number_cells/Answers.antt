@@ -7,5 +7,3 @@ loop-i-init c = numbering-none c.args.cells.now
 
 pub loop-i-preserved : goal.loop-i-preserved
 loop-i-preserved c = numbering-next c.loop-i.invariant c.loop-i-test.true
-
--- STRAY between loop-i-preserved and returns: same_length
