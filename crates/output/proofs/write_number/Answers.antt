@@ -10,8 +10,7 @@ use Rattle.output.proofs.write_number.Goals.{Else-is_negative, Then-is_negative}
 
 -- a sign, and then the size
 halves : (c : Then-is_negative)
-    → let c = c in
-    let a = c.args in Halves (number_text a.z.0) (45 ∷ []) (decimal_of (c.magnitude-size.result + 1)) a.part.now
+    → let a = c.args in Halves (number_text a.z.0) (45 ∷ []) (decimal_of (c.magnitude-size.result + 1)) a.part.now
 halves c =
     record { parts = sym (signed-text c.args.z.0 c.magnitude-size.ensures c.is_negative.ensures c.if-is_negative.true); room = c.requires }
 
