@@ -81,6 +81,7 @@ impl Desk {
     }
 
     // heard and one other count are one more.
+    #[tactic(auto, unfolding(crate::specs::Desk::desk_meaning, service::specs::Reply::reply_meaning, meaning::specs::Desk::raised, meaning::specs::Desk::is_accepted))]
     fn raised(self, reply: Reply) -> Desk
         requires { Agrees self × (self.heard ≡ full_count → ⊥) }
         ensures { desk_meaning result ≡ raised_desk (desk_meaning self) (reply_meaning reply) }

@@ -187,3 +187,11 @@ module _ (list t : List ℕ) (line : ℕ) where
     where
       taken : take (length t - 0) numbered ≡ up_from 0 (length t)
       taken = rw (sub-zero (length t), is) (take-up 0 n (length t) most)
+
+-- ---- the same of a table that is too long, as the check applies it
+
+pub nothing_shown : (list t : List ℕ) (line : ℕ) → cell_limit < length t → shown list t line ≡ []
+nothing_shown list t line long = shown-too-long list t line long
+
+pub shown_from_nothing : (list t : List ℕ) (line : ℕ) → cell_limit < length t → shown_from list t line ≡ 0
+shown_from_nothing list t line long = sym (too-long-shown list t line long).starts

@@ -111,6 +111,7 @@ pub extern "C" fn digit_table_desk_call(
 // Shows a line: how many cells the part of the table has, and its first cell, which is written; both 0 where the part is empty.
 // `show` is asked for the part of a table whose cells are their own numbers, so that the part tells where it starts. FORMAT 9.9, 9.10, 9.20
 #[unsafe(no_mangle)]
+#[tactic(auto, using(crate::proofs::Shown::nothing_shown, crate::proofs::Shown::shown_from_nothing))]
 pub extern "C" fn digit_table_show(
     list: &[u8],
     table: &[u32],

@@ -14,7 +14,7 @@ use lib.Seq.{length-take-le}
 use mir.Syntax.{w64}
 use mir.Val.{to_z, of_z}
 use mir.ValLaws.{to_z-of_z}
-use Rattle.meaning.specs.Text.{fields_of, number}
+use Rattle.meaning.specs.Text.{is_ended, fields_of, number}
 use Rattle.meaning.specs.Word.{sum, words, kind_of, most_numbers}
 use Rattle.meaning.specs.Line.{word_among, numbers_of, assemble, line_of}
 use Rattle.meaning.proofs.Results.{none-refused, some-value, refused_none}
@@ -33,7 +33,7 @@ use Rattle.text.specs.Place.{index_of, Found, end_of, up_to, line_at, field_at, 
 use Rattle.lines.specs.Parsed.{parsed_meaning, count_meaning, NumbersYield, worded_by, WordedAs, alone_among, FieldsYield, LineRead, NextAfter, Stored, leading_numbers, leading}
 use Rattle.text.proofs.Places.{parts_after, parts_none, parts_more, fields-from, fields-found}
 use Rattle.text.proofs.Numbers.{number_small, small-fits}
-use Rattle.text.proofs.Ends.{InLine, cut-length, before-end, place-next, place-later, same_line, ends-line, line-cut}
+use Rattle.text.proofs.Ends.{InLine, in-line, cut-length, before-end, place-next, place-later, same_line, ends-line, line-cut}
 use Rattle.lines.proofs.Lines.{line_word, line-no-word, leading-word, leading-no-word, only_one, number-alone, none-alone, many-alone, word-no-number}
 
 take-one : (ns : List ℤ) → 0 < length ns → take 1 ns ≡ get_or ns 0 (pos 0) ∷ []
@@ -197,3 +197,13 @@ module _ (text : List ℕ) (at : ℕ) where
         let is : number (line_at text at) ≡ some (get_or after 0 (pos 0)) = yields.1 ∙ rw q in
         let end : next - 1 ≡ end_of text at = omega (arith, yields.2) in
         rw (to_z-of_z w64 (get_or after 0 (pos 0)) (small-fits (get_or after 0 (pos 0)) (number_small (line_at text at) is))) (is, rw end l.found)
+
+-- ---- the same as the check applies them: `number_of` finds one number alone, or another count
+
+pub one_alone : (text : List ℕ) (at count next : ℕ) (after : List ℤ) (f : Fields) → FieldsYield text at after f → f ≡ Alone count next → count ≡ 1
+    → is_ended text ≡ true → at < length text → WholeYield text at (Of (to_z w64 (of_z w64 (get_or after 0 (pos 0)))) (next - 1))
+one_alone text at count next after f yields is one ended h = reads-one text at after count next (rw is at yields) one (in-line text ended at h)
+
+pub many_alone : (text : List ℕ) (at count next : ℕ) (after : List ℤ) (f : Fields) → FieldsYield text at after f → f ≡ Alone count next → (count ≡ 1 → ⊥)
+    → WholeYield text at NoNumber
+many_alone text at count next after f yields is many = reads-many text at after count next (rw is at yields) many

@@ -111,6 +111,7 @@ pub fn line_of(text: &[u8], at: usize, numbers: &mut [i64]) -> Parsed
 }
 
 // The number that the whole line at `at` spells, and the place where the line ends.
+#[tactic(auto, using(crate::proofs::LineFields::one_alone, crate::proofs::LineFields::many_alone))]
 pub fn number_of(text: &[u8], at: usize) -> Number
     requires { (is_ended text.now ≡ true) × (at < length text.now) }
     ensures { WholeYield text.now at result }

@@ -9,14 +9,14 @@ use Prim.Native.Nat.{ℕ, suc, ◌+◌, ◌*◌, ◌-◌, ◌^◌, ◌≤◌, �
 use native.Mathlib.Decide.{dec_lt}
 use native.Mathlib.Nat.{pow-suc, pow-le-pow_right}
 use native.Mathlib.Omega.{arith}
-use lib.ListN.{get_or, take}
-use Rattle.meaning.specs.Text.{is_digit, largest}
+use lib.ListN.{length, get_or, take}
+use Rattle.meaning.specs.Text.{is_ended, is_digit, largest}
 use Rattle.meaning.proofs.Results.{none-refused}
 use Rattle.text.specs.declared.Size.TheVariants.{Plain, NoSize}
 use Rattle.text.specs.Number.{plain_size, SizeRead}
-use Rattle.text.specs.Place.{field_at}
+use Rattle.text.specs.Place.{end_of, up_to, field_at}
 use Rattle.text.proofs.Places.{Searched, search-past, search-stop}
-use Rattle.text.proofs.Ends.{InLine, cut-length, cut-byte, before-end, place-next, field-ends}
+use Rattle.text.proofs.Ends.{InLine, in-line, cut-length, cut-byte, before-end, place-next, field-ends}
 use Rattle.text.proofs.Numbers.{digit-bounds, digit-is, digit-above, digits_after, digits-end, digits-not, digits-next, digits-over, size-empty, size_low, size-digits}
 
 -- ---- how many digits a number has
@@ -144,3 +144,12 @@ module _ {text : List ℕ} {at end n i : ℕ} (s : Sizing text at end n i) where
       let h = before-end s.place no_end in
       let byte = cut-byte s.place h in
       none_left (digits-not (take end text) i n (omega (arith, cut-length s.place, h)) (rw byte no_digit) (rw byte no-tab))
+
+-- ---- the same as the check applies them: a number that starts at 0 or below, and one with an eleventh digit
+
+pub starts_low : (text : List ℕ) (at : ℕ) → is_ended text ≡ true → at < length text → get_or text at 0 ≤ 48 → SizeRead (up_to text at) at NoSize
+starts_low text at ended h low = size-starts-low (in-line text ended at h) low
+
+pub has_most : (text : List ℕ) (at n i byte : ℕ) → Sizing text at (end_of text at) n i → byte ≡ get_or text i 0 → is_digit byte ≡ true → 10 ≤ i - at
+    → SizeRead (up_to text at) at NoSize
+has_most text at n i byte sizing same digit full = sizing-most sizing (rw same at digit) full

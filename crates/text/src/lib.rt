@@ -84,6 +84,7 @@ fn is_end(byte: u8) -> bool
 // The size that the field at `at` spells: digits without a leading zero. Each byte is read once. No byte is held to the text's end, as the
 // line's end, which is no digit, comes before it; and the size is held to the limit once: ten digits are room enough for every size that is
 // small, and an eleventh is refused.
+#[tactic(auto, using(crate::proofs::Sizing::starts_low, crate::proofs::Sizing::has_most))]
 fn size_from(text: &[u8], at: usize) -> Size
     requires { (is_ended text.now ≡ true) × (at < length text.now) }
     ensures { SizeRead (up_to text.now at) at result }

@@ -1,23 +1,11 @@
 -- A line that is one number: each way out is one law of `LineFields`.
 use Rattle.lines.specs.Parsed.{FieldsYield}
-use Rattle.text.proofs.Ends.{in-line}
-use Rattle.lines.proofs.LineFields.{reads-no-number, alone-next, reads-many, reads-one}
+use Rattle.lines.proofs.LineFields.{reads-no-number, alone-next}
 use Rattle.lines.proofs.number_of.Goals as goal
 
 pub overflow_sub-result : goal.overflow_sub-result
 overflow_sub-result c =
     alone-next c.args.text.now c.args.at _ _ _ (rw c.in-Alone.is at c.fields_of-fields.ensures.yields)
-
-pub returns-then-count-eq1 : goal.returns-then-count-eq1
-returns-then-count-eq1 c =
-    let yields = rw c.in-Alone.is at c.fields_of-fields.ensures.yields in
-    reads-one c.args.text.now c.args.at _ _ _ yields c.if-count-eq1.true
-    (in-line c.args.text.now c.requires.0 c.args.at c.requires.1)
-
-pub returns-else-count-eq1 : goal.returns-else-count-eq1
-returns-else-count-eq1 c =
-    let yields = rw c.in-Alone.is at c.fields_of-fields.ensures.yields in
-    reads-many c.args.text.now c.args.at _ _ _ yields c.if-count-eq1.false
 
 pub returns-in-Worded : goal.returns-in-Worded
 unfolding FieldsYield
