@@ -17,7 +17,7 @@ use Rattle.algebra.proofs.Test.{left, right, not-false, either, every, every-at,
 use Rattle.algebra.proofs.Prime.{prime-by-trial, prime-no-remainder}
 use Rattle.primes.specs.Table.{primes, wheel, InTable, FirstDivisor, table_end, table_length}
 use Rattle.algebra.proofs.PrimeDivisor.{prime-by-prime-roots}
-use Rattle.primes.proofs.OddPrime.{odd-prime-passes}
+use Rattle.primes.proofs.OddPrime.{odd-prime-passes, odd-prime-fails}
 
 -- ---- a number in a list
 
@@ -91,6 +91,25 @@ listed-decides n true h l w = let p = w.found refl in odd-prime-passes n h (rw p
 listed-decides n false h l w = sym (not-false (odd_prime n) (λ t.
     let p = prime-listed n (odd-prime n t).prime l in
     w.absent refl p.0 p.1 p.2))
+
+-- ---- the same as the check applies them
+
+pub table_decides : (n : ℕ) (r : Bool) → 3 ≤ n → n < table_end → InTable n primes r → r ≡ odd_prime n
+table_decides n r h l w = listed-decides n r h l w
+
+-- a prime of the table divides n
+pub record TableDivides (n : ℕ) : Type 0 where
+  pub place : ℕ
+  pub listed : place < table_length
+  pub divides : n % get_or primes place 0 ≡ 0
+
+pub divisor_found : (n place : ℕ) → FirstDivisor n 0 primes place → place < table_length → TableDivides n
+divisor_found n place f l = record { place = place; listed = l; divides = rw zero-add at (f.divides l) }
+
+-- and is not n itself
+pub table_divides : (n : ℕ) → table_end ≤ n → TableDivides n → false ≡ odd_prime n
+table_divides n h d =
+    odd-prime-fails n _ (entry-prime d.place d.listed).above-one (omega (arith, entry-below d.place d.listed)) d.divides
 
 -- ---- the trial by the table and by the odd numbers above it
 

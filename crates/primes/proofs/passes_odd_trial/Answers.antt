@@ -1,4 +1,4 @@
--- `number::prime::passes_odd_trial`: d is a multiple of 30, and no number from 256 on and below d that has no factor 2, 3 or 5 divides n.
+-- `primes::passes_odd_trial`: d is a multiple of 30, and no number from 256 on and below d that has no factor 2, 3 or 5 divides n.
 use mathlib.Core.Logic.{◌≢◌}
 use Prim.Native.Nat.{ℕ, suc, ◌+◌, ◌*◌, ◌%◌, ◌≤◌, ◌<◌}
 use native.Mathlib.Omega.{arith}
