@@ -155,3 +155,7 @@ module _ (input : List ℕ) where
         pub list-given : {end lines : ℕ} → x ≡ At end lines → ListGiven input end lines
         unfolding EndYield
         list-given e = record { short = short; ended = ended; ends = subst (EndYield input) e found }
+
+-- what a longer input is answered, as the check applies it
+pub too_long : (input : List ℕ) → text_limit < length input → respond input ≡ refusal_text (reply 1 0)
+too_long input h = sym (respond-long input h)

@@ -13,6 +13,7 @@ use input::{Ending, find_end};
 use text::is_ended;
 
 // The public call: for every input the program's answer, where it has room in the output. FORMAT 9.16, 11.11
+#[tactic(auto, using(crate::proofs::Responding::too_long))]
 pub fn respond(input: &[u8], output: &mut [u8]) -> usize
     ensures { Answered (response_to input.now) output.old output.new result }
 {

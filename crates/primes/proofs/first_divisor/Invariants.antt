@@ -1,4 +1,4 @@
--- `number::prime::first_divisor`: no entry before place i divides n.
+-- `primes::first_divisor`: no entry before place i divides n.
 use mathlib.Core.Logic.{◌≢◌}
 use Prim.Native.Nat.{ℕ, ◌+◌, ◌-◌, ◌%◌, ◌≤◌, ◌<◌}
 use lib.ListN.{length, get_or}

@@ -1,4 +1,4 @@
--- `number::prime::is_listed`: no entry before place i is n.
+-- `primes::is_listed`: no entry before place i is n.
 use mathlib.Core.Logic.{◌≢◌}
 use Prim.Native.Nat.{ℕ, ◌-◌, ◌≤◌, ◌<◌}
 use lib.ListN.{length, get_or}
