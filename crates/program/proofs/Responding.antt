@@ -1,5 +1,5 @@
 -- The answer to an input with a line `end`, by what was found in it.
-use mathlib.Core.Path.{◌≡◌, sym, ap, subst, ◌∙◌}
+use mathlib.Core.Path.{◌≡◌, refl, sym, ap, subst, ◌∙◌}
 use mathlib.Core.Bool.{Bool, true, false}
 use mathlib.Core.List.{List, []}
 use mathlib.Core.Option.{none, some}
@@ -10,7 +10,9 @@ use lib.IntN.{ℤ}
 use lib.ListN.{length, take, drop, replicate, length-drop, length-replicate}
 use lib.Seq.{take_all, length-take-le}
 use Rattle.meaning.specs.Text.{lines_of, is_ended, number}
-use Rattle.meaning.specs.Line.{numbers_of}
+use Rattle.meaning.specs.Line.{Line, numbers_of}
+use Rattle.meaning.specs.Known.{Known}
+use Rattle.rules.specs.Ready.{greatest}
 use Rattle.meaning.specs.Refusal.{on_some, refused, read, on_reading, reading, text_limit, value_limit}
 use Rattle.meaning.specs.Reply.{reply, first_fail, made, make_reply}
 use Rattle.meaning.specs.Program.{refusal_text, making_text, Parts, parts_of, joined, is_some, or_none, answer_parts, on_parts, respond}
@@ -159,3 +161,30 @@ module _ (input : List ℕ) where
 -- what a longer input is answered, as the check applies it
 pub too_long : (input : List ℕ) → text_limit < length input → respond input ≡ refusal_text (reply 1 0)
 too_long input h = sym (respond-long input h)
+
+-- the answers after a list that is read and lines that are all numbers, as the check applies them: by all that is known of the input's parts
+module _ (input : List ℕ) (end : ℕ) (parts : Parts) (ls : List Line) (last : Known) (stored : List ℤ) (count : ℕ)
+    (are : parts_of (lines_of input) ≡ some parts) (short : length input ≤ text_limit) (ended : is_ended input ≡ true)
+    (inside : end + 4 ≤ length input) (listed : take end input ≡ joined parts.list) (left : lines_from input (end + 4) ≡ parts.inputs)
+    (is_read : reading (take end input) ≡ read ls last) (p-most : last.p ≤ greatest)
+    (yields : InputsYield (lines_from input (end + 4)) stored (Numbers count)) where
+  the-list : ListGiven input end (length parts.list)
+  the-list =
+      record {
+        short = short;
+        ended = ended;
+        ends = record { parts = parts; are = are; inside = inside; listed = listed; counted = refl; left = left };
+      }
+
+  abbrev the-lines : ListRead (take end input)
+  the-lines = record { lines = ls; last = last; is_read = is_read; p-most = p-most }
+
+  the-numbers : NumbersRead (lines_from input (end + 4)) stored count
+  the-numbers = inputs-numbers (lines_from input (end + 4)) stored yields refl
+
+  pub too_many_inputs : value_limit < count → on_parts (parts_of (lines_of input)) ≡ refusal_text (reply 16 0)
+  too_many_inputs h = sym (too_many the-list the-lines the-numbers h)
+
+  pub inputs_answered : (cells : ℕ) → count ≤ value_limit → last.cells ≡ cells
+      → on_parts (parts_of (lines_of input)) ≡ making_text (make_reply (take (end - 0) input) (take (count - 0) stored) (replicate cells 0))
+  inputs_answered cells h e = sym (made-answer the-list the-lines the-numbers cells h e)

@@ -70,6 +70,7 @@ fn answer_within(
 }
 
 // The list before `end` is read, and has so many cells. More inputs than a list can have values are a wrong count of inputs.
+#[tactic(auto, using(crate::proofs::Responding::too_many_inputs, crate::proofs::Responding::inputs_answered))]
 fn answer_inputs(output: &mut [u8], input: &[u8], end: usize, lines: usize, cells: usize) -> usize
     requires { InputsGiven input.now end lines cells }
     ensures { Answered (on_parts (parts_of (lines_of input.now))) output.old output.new result }

@@ -110,6 +110,21 @@ bytes-here {codes} {counts} {numbers} {i} {at} {l} found e =
     let rest = text_of (left_at codes counts numbers (i + 1) l.end) in
     ap (λ (gs : List Given). length (text_of gs)) found.is ∙ omega (arith, length-append line (10 ∷ rest))
 
+-- the same in two parts, as the check applies them: the bytes of what is left by its first line, and the size of a line that was taken
+pub line_then : (codes counts : List ℕ) (numbers : List ℤ) (i at code start end : ℕ)
+    → left_at codes counts numbers i at ≡ given (word_with code) (from_to numbers start end) ∷ left_at codes counts numbers (i + 1) end
+    → length (text_of (left_at codes counts numbers i at))
+    ≡ suc (length (given_text (given (word_with code) (from_to numbers start end)))) + length (text_of (left_at codes counts numbers (i + 1) end))
+unfolding text_of
+line_then codes counts numbers i at code start end is =
+    let line = given_text (given (word_with code) (from_to numbers start end)) in
+    let rest = text_of (left_at codes counts numbers (i + 1) end) in
+    ap (λ (gs : List Given). length (text_of gs)) is ∙ omega (arith, length-append line (10 ∷ rest))
+
+pub line_size : (line : List ℕ) (count : ℕ) (after : List ℤ) (w : Word) (size : ℕ) → ReadableYield line count after (Line w size) → size ≡ suc (length line)
+unfolding ReadableYield
+line_size line count after w size yields = yields.2
+
 -- ---- the walk
 
 -- where the walk stands before line n, whose numbers start at `at`: at line 0, or after it, in a walk over the lines from line 1 on

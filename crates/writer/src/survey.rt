@@ -61,6 +61,7 @@ fn advance(
 }
 
 // What reading these lines finds. FORMAT 9.26, 10.1
+#[tactic(auto, using(crate::proofs::Surveying::line_then, crate::proofs::Surveying::line_size), unfolding(crate::specs::Survey::FoundYield))]
 pub fn survey_given(words: &[u8], counts: &[usize], numbers: &[i64]) -> Found
     requires { 0 < length words.now }
     ensures { FoundYield (text_of (lines_given words.now counts.now numbers.now)) result }

@@ -41,10 +41,6 @@ returns-in-Refused c =
 pub overflow_add-total : goal.overflow_add-total
 overflow_add-total c = omega (arith, c.loop-n.invariant.few, (size_is (goal.at.overflow_add-total c).In-Line).1)
 
-pub returns-then-total-gt-TEXT_LIMIT : goal.returns-then-total-gt-TEXT_LIMIT
-unfolding FoundYield
-returns-then-total-gt-TEXT_LIMIT c = omega (arith, c.if-total-gt-TEXT_LIMIT.true, bytes-are (goal.at.returns-then-total-gt-TEXT_LIMIT c).In-Line)
-
 pub loop-n-preserved : goal.loop-n-preserved
 loop-n-preserved c =
     let taken = c.line_given.ensures in
@@ -53,7 +49,7 @@ loop-n-preserved c =
     record {
       inside = found.inside;
       taken-long = taken.long;
-      few = omega (arith, c.if-total-gt-TEXT_LIMIT.false);
+      few = omega arith;
       bytes = bytes-are (goal.at.loop-n-preserved c).In-Line;
       stands =
           standing-next found (taken_is taken (line-count found) c.in-Line.is) answer.first answer.later c.loop-n.invariant.stands c.in-Next.is taken.long;
