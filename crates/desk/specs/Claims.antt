@@ -1,9 +1,10 @@
 -- What is claimed of the code, as types: after any number of calls the counts still mean what they say.
-use Rattle.std.specs.Prelude.{◌<◌, ◌^◌, ◌≡◌, not, List, map, length}
+use Rattle.std.specs.Prelude.{◌<◌, ◌^◌, ◌≡◌, not, List, map, length, Result, Err}
 use Rattle.meaning.specs.Desk.{full_count, Call, check_of}
 use Rattle.meaning.specs.Claims.{how_many, passes}
 use Rattle.service.specs.Reply.{reply_meaning}
-use Rattle.service.specs.declared.reply.Reply.{Reply}
+use Rattle.refusal.specs.declared.refused.Refusal.TheVariants.{DeskFull}
+use Rattle.refusal.specs.declared.refused.Refused.{Refused}
 use Rattle.desk.specs.declared.Desk.{Desk}
 use Rattle.desk.specs.Desk.{Fresh, Agrees}
 use Rattle.desk.specs.Run.{Run, calls_of, replies_of, desk_of}
@@ -23,8 +24,8 @@ abbrev pub EveryListRuns : Type 0
 EveryListRuns = (d : Desk) (calls : List Call) → (run : Run d) × (calls_of run ≡ calls)
 
 -- the reply of a full desk. FORMAT 10.20
-unfoldable pub full_reply : Call → Reply
-full_reply c = record { number = 20; place = 0 }
+abbrev pub full_reply : Call → Result (Unit {0}) Refused
+full_reply c = Err (record { refusal = DeskFull; place = 0 })
 
 -- at the full count: every further call is refused 20, 0 and nothing moves. FORMAT 9.15
 abbrev pub CodeStaysFull : Type 0

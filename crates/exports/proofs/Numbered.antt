@@ -45,11 +45,11 @@ unfolding up_from
 numbering-none before = record { long = refl; inside = omega arith; numbered = refl }
 
 module _ {before cells : List ℕ} {i : ℕ} (w : Numbering before cells i) where
-  pub numbering-next : i < length cells → Numbering before (set cells i i) (i + 1)
+  pub numbering-next : i < length before → Numbering before (set cells i i) (i + 1)
   numbering-next h = record {
     long = length-set cells i i ∙ w.long;
     inside = let same = w.long in omega arith;
-    numbered = rw (add-one i, take-suc-set cells i i h) (ap (λ (r : List ℕ). r ++ (i ∷ [])) w.numbered ∙ sym (up-one-more 0 i ∙ last));
+    numbered = rw (add-one i, take-suc-set cells i i (omega (arith, w.long))) (ap (λ (r : List ℕ). r ++ (i ∷ [])) w.numbered ∙ sym (up-one-more 0 i ∙ last));
   }
     where
       last : up_from 0 i ++ ((0 + i) ∷ []) ≡ up_from 0 i ++ (i ∷ [])

@@ -16,6 +16,6 @@ abbrev pub numbers : (number place p values cells rows : ℕ) → Numbers
 numbers n at p v c r = record { number = n; place = at; p = p; values = v; cells = c; rows = r }
 
 -- a read list has number 0; a refused one changes none of the four places lent for p and the counts. FORMAT 9.19
-unfoldable pub numbers_after : (p values cells rows : ℕ) → Answer → Numbers
+abbrev pub numbers_after : (p values cells rows : ℕ) → Answer → Numbers
 numbers_after p' v' c' r' (counts p v c r) = numbers 0 0 p v c r
 numbers_after p' v' c' r' (refusal r) = numbers r.number r.place p' v' c' r'

@@ -10,13 +10,15 @@ ghost use Rattle.meaning.specs.Reply.{reply, making, writing, read_reply, check_
 ghost use Rattle.meaning.specs.Write.{lines_given};
 ghost use Rattle.meaning.specs.Program.{respond as response_to};
 ghost use Rattle.meaning.specs.Desk.{counted, called, desk_call};
+ghost use Rattle.refusal.specs.Refusal.{answered};
 ghost use Rattle.program.specs.Answered.{Answered};
 ghost use Rattle.exports.specs.Read.{numbers, numbers_after};
 ghost use Rattle.exports.specs.Show.{up_from};
 
 use desk::Desk;
 use program::respond;
-use service::{Answer, check, make, read, show};
+use refusal::Refused;
+use service::{check, make, read, show};
 use writer::write;
 
 // A list of more cells is refused. FORMAT 4.7
@@ -36,20 +38,16 @@ pub extern "C" fn digit_table_read(
     ensures { numbers result place.new p.new values.new cells.new rows.new
         ≡ numbers_after p.old values.old cells.old rows.old (read_reply list.now) }
 {
-    let answer = read(list);
-    match answer {
-        Answer::Read(prime, made, laid, stated) => {
+    match read(list) {
+        Ok(summary) => {
             *place = 0;
-            *p = prime;
-            *values = made;
-            *cells = laid;
-            *rows = stated;
+            *p = summary.p;
+            *values = summary.values;
+            *cells = summary.cells;
+            *rows = summary.rows;
             0
         }
-        Answer::Refused(number, at) => {
-            *place = at;
-            number
-        }
+        Err(refused) => tell(Err(refused), place),
     }
 }
 
@@ -58,9 +56,7 @@ pub extern "C" fn digit_table_read(
 pub extern "C" fn digit_table_check(list: &[u8], table: &[u32], place: &mut usize) -> u32
     ensures { reply result place.new ≡ check_reply list.now table.now }
 {
-    let checked = check(list, table);
-    *place = checked.place;
-    checked.number
+    tell(check(list, table).and(Ok(0)), place)
 }
 
 // Makes the table of a column of inputs. The place is written, and the table where the number is 0. FORMAT 9.7, 9.8, 9.18
@@ -74,9 +70,7 @@ pub extern "C" fn digit_table_make(
     ensures { making (reply result place.new) table.new
         ≡ make_reply list.now inputs.now table.old }
 {
-    let made = make(list, inputs, table);
-    *place = made.place;
-    made.number
+    tell(make(list, inputs, table).and(Ok(0)), place)
 }
 
 // Calls a desk, lent as its three counts; all 0 is a fresh one. The place is written, and the counts are those after the call.
@@ -93,19 +87,16 @@ pub extern "C" fn digit_table_desk_call(
     ensures { called (counted heard.new accepted.new refused.new) (reply result place.new)
         ≡ desk_call (counted heard.old accepted.old refused.old) list.now table.now }
 {
-    let desk = Desk {
+    let mut desk = Desk {
         heard: *heard,
         accepted: *accepted,
         refused: *refused,
     };
-    let call = desk.call(list, table);
-    let after = call.desk;
-    *heard = after.heard;
-    *accepted = after.accepted;
-    *refused = after.refused;
-    let replied = call.reply;
-    *place = replied.place;
-    replied.number
+    let called = desk.call(list, table);
+    *heard = desk.heard;
+    *accepted = desk.accepted;
+    *refused = desk.refused;
+    tell(called.and(Ok(0)), place)
 }
 
 // Shows a line: how many cells the part of the table has, and its first cell, which is written; both 0 where the part is empty.
@@ -157,25 +148,30 @@ pub extern "C" fn digit_table_write(
     ensures { writing (reply result place.new) buffer.new
         ≡ write_reply (lines_given words.now counts.now numbers.now) buffer.old }
 {
-    let written = write(words, counts, numbers, buffer);
-    *place = written.place;
-    written.number
+    tell(write(words, counts, numbers, buffer), place)
+}
+
+// An answer as a number, which is returned, and a place, which is written. FORMAT 9.3, 9.18
+fn tell(answer: Result<usize, Refused>, place: &mut usize) -> u32
+    ensures { reply result place.new ≡ answered answer }
+{
+    match answer {
+        Ok(at) => {
+            *place = at;
+            0
+        }
+        Err(refused) => {
+            *place = refused.place;
+            u32::from(refused.refusal)
+        }
+    }
 }
 
 // The first cell of a part, and 0 where it is empty.
 fn first_of(part: &[u32]) -> usize
     ensures { result ≡ get_or part.now 0 0 }
 {
-    if part.len() == 0 {
-        return 0;
-    }
-    wide(part[0])
-}
-
-fn wide(cell: u32) -> usize
-    ensures { result ≡ cell }
-{
-    cell as usize
+    part.first().map_or(0, |&cell| cell as usize)
 }
 
 // Each cell holds its own number.
@@ -183,9 +179,7 @@ fn number_cells(cells: &mut [u32])
     requires { length cells.old ≤ cell_limit }
     ensures { cells.new ≡ up_from 0 (length cells.old) }
 {
-    let mut i: usize = 0;
-    while i < cells.len() {
-        cells[i] = i as u32;
-        i += 1;
+    for (i, cell) in cells.iter_mut().enumerate() {
+        *cell = i as u32;
     }
 }

@@ -6,7 +6,7 @@ use native.Mathlib.Omega.{arith}
 use lib.ListN.{length, take, drop, set, length-append}
 use borrow.Rule.Slice.PartMut.{put_mid}
 use Rattle.output.specs.Written.{Written}
-use Rattle.output.proofs.Writing.{Halves, rest-starts, rest-room, whole_room, written-whole, written-length, written_byte}
+use Rattle.output.proofs.Writing.{Halves, rest-starts, rest-room, written-whole, written-length, written_byte}
 use Rattle.given_lines.proofs.Texts.{Parts, parts-of, parts-length}
 
 -- the part, which was `before`, holds the text up to `at`
@@ -61,9 +61,6 @@ module _ {text before part : List ℕ} {at : ℕ} {left : List ℕ} (b : Begun t
     next-room = rest-room with-next b.written
 
     module _ {last : List ℕ} {m : ℕ} (w : Written next (take (length part - at) (drop at part)) last m) where
-      pub next-ends : at + m ≤ length before
-      next-ends = whole_room with-next b.written w
-
       pub begun-next : Begun text before (put_mid at (length part - at) part last) (at + m) rest
       begun-next = begun-with-next (written-whole with-next b.written w)
 

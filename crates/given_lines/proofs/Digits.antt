@@ -2,7 +2,7 @@
 use mathlib.Core.Path.{◌≡◌, refl, sym, ap, ◌∙◌}
 use mathlib.Core.Bool.{Bool, true, false, ◌&&◌}
 use mathlib.Core.List.{◌∷◌}
-use Prim.Native.Nat.{ℕ, suc, ◌-◌, ◌≤◌, ◌<◌}
+use Prim.Native.Nat.{ℕ, suc, ◌-◌, ◌/◌, ◌≤◌, ◌<◌}
 use native.Mathlib.Omega.{arith}
 use borrow.Author.Tests.{le-leb, ltb-true, ltb-false}
 use mir.Syntax.{w64}
@@ -15,9 +15,8 @@ use Rattle.algebra.proofs.Test.{≡-test, left, right, le_z-iff, le_z-false}
 use Rattle.algebra.proofs.Integer.Order.{integer}
 use Rattle.meaning.specs.Number.{between}
 use Rattle.meaning.specs.Text.{largest, decimal_of, number_text}
-use Rattle.meaning.proofs.Decimal.{length-short, some-digit}
-use Rattle.output.proofs.Filling.{two_digits}
-use Rattle.given_lines.specs.declared.line.FieldBytes.TheVariants.{Of, TooLarge}
+use Rattle.meaning.proofs.Decimal.{length-short, length-long, some-digit}
+use Rattle.std.specs.Prelude.{Some, None}
 use Rattle.given_lines.specs.Line.{MoreBytesYield}
 use Rattle.given_lines.proofs.Lengths.{number-most}
 
@@ -29,9 +28,6 @@ below-limit (negsuc m) n t = absurd (≡-test false t)
 
 pub not-below-limit : (m n : ℕ) → (non_neg (pos m) && ltb (nat_abs (pos m)) n) ≡ false → n ≤ m
 not-below-limit m n f = ltb-false m n f
-
-pub from-zero-on : {z : ℤ} → z ≡ pos (nat_abs z) → pos 0 ≤ℤ z
-from-zero-on {z} e = rw e (omega integer)
 
 -- it is written by its size alone
 pub plain-number : (z : ℤ) → z ≡ pos (nat_abs z) → number_text z ≡ decimal_of (nat_abs z)
@@ -56,8 +52,7 @@ negation-of (negsuc n) short =
 
 -- ---- how many bytes more than two a number and its tab have
 
-pub digit-bytes : (z : ℤ) → (non_neg z && ltb (nat_abs z) 10) ≡ true → MoreBytesYield z (Of 0)
-unfolding MoreBytesYield
+pub digit-bytes : (z : ℤ) → (non_neg z && ltb (nat_abs z) 10) ≡ true → MoreBytesYield z (Some 0)
 digit-bytes z t =
     let below = below-limit z 10 t in
     (le-leb (nat_abs z) largest (omega (arith, below.1)), ap length (plain-number z below.0) ∙ length-short (nat_abs z) below.1, omega arith)
@@ -71,10 +66,13 @@ module _ (z : ℤ) (short : between (neg_ℤ (pos 99)) z (pos 99) ≡ true) wher
   unfolding between
   short-high = (le_z-iff z (pos 99)).0 (right (le_z (neg_ℤ (pos 99)) z) (le_z z (pos 99)) (≡-test _ short))
 
+two_digits : (n : ℕ) → 10 ≤ n → n < 100 → length (decimal_of n) ≡ 2
+two_digits n h k = omega (arith, length-long n h, length-short (n / 10) (omega arith))
+
 -- two digits, or a sign and one digit
 pub one_more : (z : ℤ) → (non_neg z && ltb (nat_abs z) 10) ≡ false → between (neg_ℤ (pos 99)) z (pos 99) ≡ true → le_z (neg_ℤ (pos 9)) z ≡ true
-    → MoreBytesYield z (Of 1)
-unfolding MoreBytesYield number_text
+    → MoreBytesYield z (Some 1)
+unfolding number_text
 one_more (pos n) long short down =
     let high = short-high (pos n) short in
     let few : n ≤ 99 = omega integer in
@@ -85,8 +83,8 @@ one_more (negsuc n) long short down =
     (le-leb (suc n) largest (omega arith), ap suc (length-short (suc n) (omega arith)), omega arith)
 
 -- a sign and two digits
-pub two-more : (z : ℤ) → between (neg_ℤ (pos 99)) z (pos 99) ≡ true → le_z (neg_ℤ (pos 9)) z ≡ false → MoreBytesYield z (Of 2)
-unfolding MoreBytesYield number_text
+pub two-more : (z : ℤ) → between (neg_ℤ (pos 99)) z (pos 99) ≡ true → le_z (neg_ℤ (pos 9)) z ≡ false → MoreBytesYield z (Some 2)
+unfolding number_text
 two-more (pos n) short down = absurd (≡-test _ (sym down))
 two-more (negsuc n) short down =
     let low = short-low (negsuc n) short in
@@ -102,12 +100,10 @@ some_byte (negsuc n) = omega arith
 
 module _ (z : ℤ) {r : Bool} (tested : r ≡ leb (nat_abs z) largest) where
   -- any number, by its length
-  pub more-sized : r ≡ true → SFits w64 z → {n : ℕ} → n ≡ length (number_text z) → (1 ≤ n) × MoreBytesYield z (Of (n - 1))
-  unfolding MoreBytesYield
+  pub more-sized : r ≡ true → SFits w64 z → {n : ℕ} → n ≡ length (number_text z) → (1 ≤ n) × MoreBytesYield z (Some (n - 1))
   more-sized t fits e =
       let some = some_byte z in
       (omega arith, (sym tested ∙ t, omega arith, omega (arith, number-most fits)))
 
-  pub more-large : r ≡ false → MoreBytesYield z TooLarge
-  unfolding MoreBytesYield
+  pub more-large : r ≡ false → MoreBytesYield z None
   more-large t = sym tested ∙ t

@@ -14,13 +14,12 @@ use Rattle.meaning.specs.Machine.{past_i64}
 use Rattle.meaning.specs.Text.{number_text}
 use Rattle.meaning.specs.Word.{Word}
 use Rattle.meaning.specs.Refusal.{text_limit}
-use Rattle.meaning.specs.Write.{given, word_text, fields_text, text_of, lines_given}
+use Rattle.meaning.specs.Write.{Given, given, word_text, fields_text, text_of}
 use Rattle.meaning.proofs.Decimal.{decimal-most}
-use Rattle.given_lines.specs.declared.given.GivenLine.{GivenLine}
-use Rattle.given_lines.specs.declared.measure.Length.TheVariants.{Of, TooLong}
-use Rattle.given_lines.specs.Given.{line_text, left_at, LineFound}
+use Rattle.std.specs.Prelude.{Some, None}
+use Rattle.given_lines.specs.Given.{line_text}
 use Rattle.given_lines.specs.Measure.{LengthYield}
-use Rattle.given_lines.proofs.Texts.{parts-of, parts-length, word-most, fields_ended, line-parts, field-parts, end-parts, found_text, lines-parts, no_lines}
+use Rattle.given_lines.proofs.Texts.{parts-of, parts-length, word-most, fields_ended, line-parts, field-parts, end-parts, lines-parts, no_lines}
 
 -- ---- the length of a number
 
@@ -53,42 +52,35 @@ module _ {word : Option Word} {numbers : List ℤ} {before total i : ℕ} (m : M
     sum = omega (arith, m.sum, parts-length (field-parts numbers i h));
   }
 
-  pub line-over : text_limit < total → LengthYield (before + length (line_text (given word numbers))) TooLong
-  unfolding LengthYield
+  pub line-over : text_limit < total → LengthYield (before + length (line_text (given word numbers))) None
   line-over h = omega (arith, m.sum, parts-length (parts-of (fields_text (drop i numbers)) (10 ∷ [])))
 
-  pub line-end : length numbers ≤ i → total ≤ text_limit → LengthYield (before + length (line_text (given word numbers))) (Of total)
-  unfolding LengthYield
+  pub line-end : length numbers ≤ i → total ≤ text_limit → LengthYield (before + length (line_text (given word numbers))) (Some total)
   line-end h few =
       let all : before + length (line_text (given word numbers)) ≡ total = omega (arith, m.sum, parts-length (end-parts numbers i h)) in
       (sym all, omega arith)
 
 -- ---- a list
 
--- the bytes up to line i are counted, whose numbers start at `at`
-pub record MeasuringText (codes counts : List ℕ) (numbers : List ℤ) (total at i : ℕ) : Type 0 where
-  pub inside : at ≤ length numbers
+-- the bytes of the lines so far are counted, and these lines are left
+pub record MeasuringText (all left : List Given) (total : ℕ) : Type 0 where
   pub few : total ≤ text_limit
-  pub sum : length (text_of (lines_given codes counts numbers)) ≡ total + length (text_of (left_at codes counts numbers i at))
+  pub sum : length (text_of all) ≡ total + length (text_of left)
 
-pub text-start : (codes counts : List ℕ) (numbers : List ℤ) → MeasuringText codes counts numbers 0 0 0
-text-start codes counts numbers = record { inside = omega arith; few = omega arith; sum = omega arith }
+pub text-start : (all : List Given) → MeasuringText all all 0
+text-start all = record { few = omega arith; sum = omega arith }
 
-module _ {codes counts : List ℕ} {numbers : List ℤ} {total at i : ℕ} (m : MeasuringText codes counts numbers total at i) where
-  module _ {l : GivenLine} (found : LineFound codes counts numbers i at l) where
-    sum-with-line : length (text_of (lines_given codes counts numbers)) ≡ total + length (found_text numbers l) + length (text_of (left_at codes counts numbers (i + 1) l.end))
-    sum-with-line = omega (arith, m.sum, parts-length (lines-parts found))
+module _ {all left later : List Given} {g : Given} {total : ℕ} (m : MeasuringText all left total) where
+  sum-with-line : left ≡ g ∷ later → length (text_of all) ≡ total + length (line_text g) + length (text_of later)
+  sum-with-line is = omega (arith, m.sum, parts-length (lines-parts is))
 
-    pub text-turn : {longer : ℕ} → LengthYield (total + length (found_text numbers l)) (Of longer) → MeasuringText codes counts numbers longer l.end (i + 1)
-    unfolding LengthYield
-    text-turn y = record { inside = found.inside; few = omega (arith, y.0, y.1); sum = omega (arith, sum-with-line, y.0) }
+  pub text-turn : left ≡ g ∷ later → {longer : ℕ} → LengthYield (total + length (line_text g)) (Some longer) → MeasuringText all later longer
+  text-turn is y = record { few = omega (arith, y.0, y.1); sum = omega (arith, sum-with-line is, y.0) }
 
-    pub text-over : LengthYield (total + length (found_text numbers l)) TooLong → LengthYield (length (text_of (lines_given codes counts numbers))) TooLong
-    unfolding LengthYield
-    text-over y = omega (arith, sum-with-line)
+  pub text-over : left ≡ g ∷ later → LengthYield (total + length (line_text g)) None → LengthYield (length (text_of all)) None
+  text-over is y = omega (arith, sum-with-line is)
 
-  pub text-end : length codes ≤ i → LengthYield (length (text_of (lines_given codes counts numbers))) (Of total)
-  unfolding LengthYield
-  text-end h =
-      let all : length (text_of (lines_given codes counts numbers)) ≡ total = omega (arith, m.sum, ap length (no_lines codes counts numbers i at h)) in
-      (sym all, omega (arith, m.few))
+pub text-end : {all left : List Given} {total : ℕ} → MeasuringText all left total → left ≡ [] → LengthYield (length (text_of all)) (Some total)
+text-end {all} {left} {total} m none =
+    let whole : length (text_of all) ≡ total = omega (arith, m.sum, ap length (no_lines none)) in
+    (sym whole, omega (arith, m.few))

@@ -1,5 +1,5 @@
 -- A tab and a number as they are written: a single digit at once, a sign and then its digits, and any other number after the tab.
-use mathlib.Core.Path.{◌≡◌, refl, sym, ap, subst, ◌∙◌}
+use mathlib.Core.Path.{◌≡◌, sym, ap, subst, ◌∙◌}
 use mathlib.Core.Bool.{true, ◌&&◌}
 use mathlib.Core.List.{List, [], ◌∷◌}
 use Prim.Native.Nat.{ℕ, ◌+◌, ◌≤◌, ◌<◌}
@@ -17,10 +17,6 @@ use Rattle.given_lines.proofs.Digits.{below-limit, plain-number}
 module _ (z : ℤ) (before : List ℕ) (room : length (9 ∷ number_text z) ≤ length before) where
   pub tab-written : Written (9 ∷ []) before (set before 0 9) 1
   tab-written = written_byte 9 (nothing_written before) (omega arith)
-
-  -- the tab, and then the number
-  pub tab-halves : Halves (9 ∷ number_text z) (9 ∷ []) (number_text z) before
-  tab-halves = record { parts = refl; room = room }
 
   -- a single digit
   module _ (single : (non_neg z && ltb (nat_abs z) 10) ≡ true) {size : ℕ} (sized : size ≡ nat_abs z) where

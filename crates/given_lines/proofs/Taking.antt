@@ -1,6 +1,6 @@
--- A given line taken for the reader's steps: the numbers that are taken one by one, and the line that its text spells, by the word, the count and the
--- sizes of the numbers.
-use mathlib.Core.Path.{◌≡◌, refl, sym, ap, subst, ◌∙◌}
+-- A given line as the reader's steps ask for it: the bytes of its numbers, counted one by one, and the line that its text spells, by the word, the count
+-- and the sizes of the numbers.
+use mathlib.Core.Path.{◌≡◌, refl, sym, ap, ◌∙◌}
 use mathlib.Core.Bool.{Bool, true, false, cond, ◌&&◌}
 use mathlib.Core.List.{List, [], ◌∷◌, map}
 use mathlib.Core.Option.{Option, none, some}
@@ -8,12 +8,10 @@ use Prim.Native.Nat.{ℕ, suc, ◌+◌, ◌*◌, ◌≤◌, ◌<◌}
 use native.Mathlib.Omega.{arith}
 use native.Mathlib.Numerals.{add-one}
 use borrow.Author.Tests.{leb-true, leb-false}
-use lib.Dec.{leb, ltb}
-use lib.ListN.{length, get_or, take, drop, set, length-set, length-append, length-drop, drop_of_length-le}
-use lib.Seq.{drop-cons, take-suc, take_all, take-set-le, get_or-set_same}
-use lib.IntN.{ℤ, pos, negsuc, nat_abs}
-use lib.Signed.{mag, lt_z}
-use Rattle.number.proofs.Word.{below-zero, from_zero}
+use lib.Dec.{leb}
+use lib.ListN.{length, get_or, drop, length-append, length-drop, drop_of_length-le}
+use lib.Seq.{drop-cons}
+use lib.IntN.{ℤ, pos, nat_abs}
 use Rattle.meaning.specs.Text.{largest, number, number_text}
 use Rattle.meaning.specs.Word.{Word, kind_of, most_numbers}
 use Rattle.meaning.specs.Line.{cons_number, numbers_of, assemble, line_of}
@@ -22,104 +20,59 @@ use Rattle.meaning.specs.Write.{given, word_text, fields_text, given_text}
 use Rattle.meaning.proofs.NumberText.{number_read, number-over}
 use Rattle.meaning.proofs.Write.{given-line}
 use Rattle.lines.proofs.Lines.{count-over}
-use Rattle.given_lines.specs.declared.line.FieldBytes.{FieldBytes}
-use Rattle.given_lines.specs.declared.line.FieldBytes.TheVariants.{Of, TooLarge}
-use Rattle.given_lines.specs.Line.{all_sized, most_field, MoreBytesYield, FieldBytesYield, Stand, NumbersTaken}
+use Rattle.std.specs.Prelude.{Some, None}
+use Rattle.given_lines.specs.Line.{all_sized, most_field, MoreBytesYield, FieldBytesYield}
 
--- ---- the size of a number, by its magnitude
+-- ---- counting the bytes of the numbers
 
-pub sized-below : (z : ℤ) {size : ℕ} → size ≡ mag z → lt_z z (pos 0) ≡ true → ltb size largest ≡ leb (nat_abs z) largest
-sized-below (pos n) e below = absurd (omega (arith, (below-zero (pos n) below).1))
-sized-below (negsuc n) e below = rw e refl
+-- the first i numbers have sizes that are allowed; their bytes are counted, and two for each that is left
+pub record Counting (numbers : List ℤ) (total i : ℕ) : Type 0 where
+  pub within : i ≤ length numbers
+  pub sized : all_sized numbers ≡ all_sized (drop i numbers)
+  pub counted : length (fields_text numbers) + 2 * length (drop i numbers) ≡ total + length (fields_text (drop i numbers))
+  pub few : total ≤ most_field * i + 2 * length (drop i numbers)
 
-pub sized-from : (z : ℤ) {size : ℕ} → size ≡ mag z → lt_z z (pos 0) ≡ false → leb size largest ≡ leb (nat_abs z) largest
-sized-from z {size} e from = rw (e, from_zero z from) refl
-
--- ---- taking the numbers
-
--- the first i numbers are taken and have sizes that are allowed; their bytes are counted, and two for each that is left
-pub record Taking (from numbers : List ℤ) (total i : ℕ) : Type 0 where
-  pub within : i ≤ length from
-  pub stand : take i numbers ≡ take i from
-  pub long : length numbers ≡ most_numbers
-  pub sized : all_sized from ≡ all_sized (drop i from)
-  pub counted : length (fields_text from) + 2 * length (drop i from) ≡ total + length (fields_text (drop i from))
-  pub few : total ≤ most_field * i + 2 * length (drop i from)
-
-pub taking-start : (from numbers : List ℤ) → length numbers ≡ most_numbers → Taking from numbers (2 * length from) 0
-taking-start from numbers h = record { within = omega arith; stand = refl; long = h; sized = refl; counted = omega arith; few = omega arith }
+pub counting-start : (numbers : List ℤ) → Counting numbers (2 * length numbers) 0
+counting-start numbers = record { within = omega arith; sized = refl; counted = omega arith; few = omega arith }
 
 -- the numbers from i on are number i and those after it
-module _ (from : List ℤ) (i : ℕ) (h : i < length from) where
-  numbers-next : drop i from ≡ get_or from i (pos 0) ∷ drop (i + 1) from
-  numbers-next = drop-cons from i (pos 0) h ∙ ap (λ (j : ℕ). get_or from i (pos 0) ∷ drop j from) (sym (add-one i))
+module _ (numbers : List ℤ) (i : ℕ) (h : i < length numbers) where
+  numbers-next : drop i numbers ≡ get_or numbers i (pos 0) ∷ drop (i + 1) numbers
+  numbers-next = drop-cons numbers i (pos 0) h ∙ ap (λ (j : ℕ). get_or numbers i (pos 0) ∷ drop j numbers) (sym (add-one i))
 
-  sized-next : {b : Bool} → leb (nat_abs (get_or from i (pos 0))) largest ≡ b → all_sized (drop i from) ≡ (b && all_sized (drop (i + 1) from))
+  sized-next : {b : Bool} → leb (nat_abs (get_or numbers i (pos 0))) largest ≡ b → all_sized (drop i numbers) ≡ (b && all_sized (drop (i + 1) numbers))
   unfolding all_sized all
-  sized-next e = ap all_sized numbers-next ∙ ap (λ (b : Bool). b && all_sized (drop (i + 1) from)) e
+  sized-next e = ap all_sized numbers-next ∙ ap (λ (b : Bool). b && all_sized (drop (i + 1) numbers)) e
 
-  fields-next : length (fields_text (drop i from)) ≡ 1 + length (number_text (get_or from i (pos 0))) + length (fields_text (drop (i + 1) from))
+  fields-next : length (fields_text (drop i numbers)) ≡ 1 + length (number_text (get_or numbers i (pos 0))) + length (fields_text (drop (i + 1) numbers))
   unfolding fields_text
   fields-next =
-      let x = get_or from i (pos 0) in
-      let rest = fields_text (drop (i + 1) from) in
+      let x = get_or numbers i (pos 0) in
+      let rest = fields_text (drop (i + 1) numbers) in
       ap (λ (ns : List ℤ). length (fields_text ns)) numbers-next ∙ omega (arith, length-append (number_text x) rest)
 
-module _ {from numbers : List ℤ} {total i : ℕ} (t : Taking from numbers total i) where
-  module _ (h : i < length from) where
-    pub taking-stopped : MoreBytesYield (get_or from i (pos 0)) TooLarge → {after : List ℤ} → length after ≡ most_numbers → NumbersTaken from after TooLarge
-    unfolding FieldBytesYield MoreBytesYield Stand
-    taking-stopped large long = record { yields = t.sized ∙ sized-next from i h large; stand = tt; long = long }
+module _ {numbers : List ℤ} {total i : ℕ} (t : Counting numbers total i) where
+  module _ (h : i < length numbers) where
+    pub counting-stopped : MoreBytesYield (get_or numbers i (pos 0)) None → FieldBytesYield numbers None
+    counting-stopped large = t.sized ∙ sized-next numbers i h large
 
-    pub taking-next : length from ≤ most_numbers → (n : ℕ) → MoreBytesYield (get_or from i (pos 0)) (Of n) → {next : ℕ} → next ≡ total + n
-        → Taking from (set numbers i (get_or from i (pos 0))) next (i + 1)
-    unfolding MoreBytesYield
-    taking-next few n (small, bytes, most) e =
-        let x = get_or from i (pos 0) in
-        let here : i < length numbers = omega (arith, t.long) in
-        let size = length-set numbers i x in
-        record {
-          within = omega arith;
-          stand =
-              rw (add-one i)
-              (take-suc (set numbers i x) i (pos 0) (omega (arith, size))
-              ∙ rw (get_or-set_same numbers i x (pos 0) here, take-set-le i numbers i x (omega arith), t.stand) (sym (take-suc from i (pos 0) h)));
-          long = size ∙ t.long;
-          sized = t.sized ∙ sized-next from i h small;
-          counted = omega (arith, t.counted, ap length (numbers-next from i h), fields-next from i h, bytes);
-          few = omega (arith, t.few, ap length (numbers-next from i h), most);
-        }
+    pub counting-next : (n : ℕ) → MoreBytesYield (get_or numbers i (pos 0)) (Some n) → {next : ℕ} → next ≡ total + n → Counting numbers next (i + 1)
+    counting-next n (small, bytes, most) e = record {
+      within = omega arith;
+      sized = t.sized ∙ sized-next numbers i h small;
+      counted = omega (arith, t.counted, ap length (numbers-next numbers i h), fields-next numbers i h, bytes);
+      few = omega (arith, t.few, ap length (numbers-next numbers i h), most);
+    }
 
   -- what is counted stays small
-  pub taking-few : length from ≤ most_numbers → total ≤ most_field * most_numbers
-  taking-few h = omega (arith, t.few, t.within, length-drop i from)
+  pub counting-few : length numbers ≤ most_numbers → total ≤ most_field * most_numbers
+  counting-few h = omega (arith, t.few, t.within, length-drop i numbers)
 
-  pub taking-end : length from ≤ i → NumbersTaken from numbers (Of total)
-  unfolding all_sized all FieldBytesYield Stand fields_text
-  taking-end h =
-      let last : i ≡ length from = omega (arith, t.within) in
-      let none = drop_of_length-le from h in
-      record {
-        yields = (t.sized ∙ rw none refl, omega (arith, rw none at t.counted), omega (arith, ap length none, t.few));
-        stand = rw (← last) (t.stand ∙ take_all i from h);
-        long = t.long;
-      }
-
--- ---- numbers that are taken
-
-module _ {from after : List ℤ} {r : FieldBytes} (taken : NumbersTaken from after r) where
-  pub too_large : r ≡ TooLarge → all_sized from ≡ false
-  unfolding FieldBytesYield
-  too_large q = subst (FieldBytesYield from) q taken.yields
-
-  module _ {n : ℕ} (q : r ≡ Of n) where
-    pub all-taken : (all_sized from ≡ true) × (n ≡ length (fields_text from)) × (n ≤ most_field * length from)
-    unfolding FieldBytesYield
-    all-taken = subst (FieldBytesYield from) q taken.yields
-
-    pub taken-stand : take (length from) after ≡ from
-    unfolding Stand
-    taken-stand = subst (Stand from after) q taken.stand
+  pub counting-end : length numbers ≤ i → FieldBytesYield numbers (Some total)
+  unfolding all_sized all fields_text
+  counting-end h =
+      let none = drop_of_length-le numbers h in
+      (t.sized ∙ rw none refl, omega (arith, rw none at t.counted), omega (arith, ap length none, t.few, t.within))
 
 -- ---- the line that the text of a given line spells
 

@@ -4,7 +4,7 @@ use mathlib.Core.Path.{◌≡◌, refl, sym, ap, ◌∙◌}
 use mathlib.Core.Bool.{true}
 use mathlib.Core.List.{List, [], ◌∷◌, ◌++◌, append_assoc}
 use mathlib.Core.Option.{Option, none, some}
-use Prim.Native.Nat.{ℕ, zero, suc, ◌+◌, ◌≤◌, ◌<◌}
+use Prim.Native.Nat.{ℕ, suc, ◌+◌, ◌≤◌, ◌<◌}
 use native.Mathlib.Omega.{arith}
 use native.Mathlib.Numerals.{add-one}
 use borrow.Author.Tests.{leb-true}
@@ -15,10 +15,9 @@ use lib.IntN.{ℤ, pos}
 use Rattle.meaning.specs.Text.{bytes, number_text, is_ended}
 use Rattle.meaning.specs.Word.{Word, kind_of, words}
 use Rattle.meaning.specs.Refusal.{all}
-use Rattle.meaning.specs.Write.{Given, given, element_at, word_with, word_text, fields_text, given_text, text_of, lines_given}
+use Rattle.meaning.specs.Write.{Given, given, word_text, fields_text, given_text, text_of}
 use Rattle.meaning.proofs.Words.{every-word}
-use Rattle.given_lines.specs.declared.given.GivenLine.{GivenLine}
-use Rattle.given_lines.specs.Given.{line_text, from_to, left_at, LineFound}
+use Rattle.given_lines.specs.Given.{line_text}
 
 -- ---- a text in two parts
 
@@ -32,29 +31,6 @@ pub parts-length : {text first rest : List ℕ} → Parts text first rest → le
 parts-length {first = first} {rest = rest} p = ap length p.joined ∙ length-append first rest
 
 -- ---- a word
-
-element-past : {A : Type 0} (xs : List A) (i : ℕ) → length xs ≤ i → element_at xs i ≡ none
-unfolding element_at
-element-past [] i h = refl
-element-past (x ∷ xs) zero h = absurd (omega arith)
-element-past (x ∷ xs) (suc i) h = element-past xs i (omega arith)
-
--- none of the numbers below k, one after another, as the last arm of a `match` has it
-abbrev pub NoneBelow : (k n : ℕ) → Type 0
-NoneBelow zero n = Unit {0}
-NoneBelow (suc k) n = NoneBelow k n × (n ≡ k → ⊥)
-
-not-below : (k n : ℕ) → NoneBelow k n → k ≤ n
-not-below zero n h = omega arith
-not-below (suc k) n h = omega (arith, not-below k n h.0, h.1)
-
-pub no_word : (code : ℕ) → NoneBelow 8 code → word_with code ≡ none
-unfolding word_with words
-no_word code h = element-past words code (not-below 8 code h)
-
-pub no-word-text : (code : ℕ) → NoneBelow 8 code → word_text (word_with code) ≡ []
-unfolding word_text
-no-word-text code h = ap word_text (no_word code h)
 
 pub word-most : (w : Option Word) → length (word_text w) ≤ 5
 unfolding word_text all words kind_of bytes
@@ -86,29 +62,13 @@ module _ (ns : List ℤ) (i : ℕ) where
 
 -- ---- a list
 
--- the line that was found between these numbers
-abbrev found_line : List ℤ → GivenLine → Given
-found_line numbers l = given (word_with l.code) (from_to numbers l.start l.end)
-
-abbrev pub found_text : List ℤ → GivenLine → List ℕ
-found_text numbers l = line_text (found_line numbers l)
-
-pub lines-parts : {codes counts : List ℕ} {numbers : List ℤ} {i at : ℕ} {l : GivenLine} → LineFound codes counts numbers i at l
-    → Parts (text_of (left_at codes counts numbers i at)) (found_text numbers l) (text_of (left_at codes counts numbers (i + 1) l.end))
+pub lines-parts : {gs : List Given} {g : Given} {later : List Given} → gs ≡ g ∷ later → Parts (text_of gs) (line_text g) (text_of later)
 unfolding text_of
-lines-parts {codes} {counts} {numbers} {i} {at} {l} found = record {
-  joined =
-      ap text_of found.is
-      ∙ sym (append_assoc (given_text (found_line numbers l)) (10 ∷ []) (text_of (left_at codes counts numbers (i + 1) l.end)));
-}
+lines-parts {g = g} {later = later} is = record { joined = ap text_of is ∙ sym (append_assoc (given_text g) (10 ∷ []) (text_of later)) }
 
-pub none_left : (codes counts : List ℕ) (numbers : List ℤ) (i at : ℕ) → length codes ≤ i → left_at codes counts numbers i at ≡ []
-unfolding lines_given
-none_left codes counts numbers i at h = rw (drop_of_length-le codes h)
-
-pub no_lines : (codes counts : List ℕ) (numbers : List ℤ) (i at : ℕ) → length codes ≤ i → text_of (left_at codes counts numbers i at) ≡ []
+pub no_lines : {gs : List Given} → gs ≡ [] → text_of gs ≡ []
 unfolding text_of
-no_lines codes counts numbers i at h = ap text_of (none_left codes counts numbers i at h)
+no_lines is = ap text_of is
 
 -- ---- the text of a list is ended
 

@@ -1,22 +1,35 @@
--- A line out of the three rows: what `line_at` finds, and what is left after it.
-use Rattle.std.specs.Prelude.{ℕ, ◌+◌, ◌-◌, ◌≤◌, ◌≡◌, List, [], ◌∷◌, ◌++◌, length, take, drop, ℤ}
-use Rattle.meaning.specs.Write.{Given, given, given_text, word_with, lines_given}
+-- Lines out of the three rows: which they are, and how one is taken.
+use Rattle.std.specs.Prelude.{ℕ, ◌≡◌, Option as Answer, Some, None, List, [], ◌∷◌, ◌++◌}
+use Rattle.std.proofs.Math.Option.{Option, none, some}
+use Rattle.meaning.specs.Word.{Word}
+use Rattle.meaning.specs.Write.{given, given_text, lines_given}
+use Rattle.meaning.specs.Write.{Given as Meant}
+use Rattle.text.specs.Word.{word_of}
+use Rattle.text.specs.declared.Word.{Word as Known}
+use Rattle.given_lines.specs.declared.given.Given.{Given}
 use Rattle.given_lines.specs.declared.given.GivenLine.{GivenLine}
+use Rattle.given_lines.specs.declared.given.Lines.{Lines}
 
 -- a line's bytes, and the one that ends it. FORMAT 2.9
-abbrev pub line_text : Given → List ℕ
+abbrev pub line_text : Meant → List ℕ
 line_text g = given_text g ++ 10 ∷ []
 
--- the numbers from one place up to another
-abbrev pub from_to : List ℤ → (start end : ℕ) → List ℤ
-from_to numbers start end = take (end - start) (drop start numbers)
+-- the word of a line, if its code is one's
+abbrev pub word_meaning : Answer Known → Option Word
+word_meaning (Some w) = some (word_of w)
+word_meaning None = none
 
--- the lines from line i on, whose numbers start at `at`
-abbrev pub left_at : (codes counts : List ℕ) (numbers : List ℤ) (i at : ℕ) → List Given
-left_at codes counts numbers i at = lines_given (drop i codes) (drop i counts) (drop at numbers)
+-- a line, and the lines of three rows. FORMAT 9.23, 9.25
+abbrev pub line_meaning : GivenLine → Meant
+line_meaning l = given (word_meaning l.word) l.numbers.now
 
--- line i is the one with this code and the numbers between these places, and the lines after it go on where it ends. FORMAT 9.25
-pub record LineFound (codes counts : List ℕ) (numbers : List ℤ) (i at : ℕ) (l : GivenLine) : Type 0 where
-  pub starts : l.start ≤ l.end
-  pub inside : l.end ≤ length numbers
-  pub is : left_at codes counts numbers i at ≡ given (word_with l.code) (from_to numbers l.start l.end) ∷ left_at codes counts numbers (i + 1) l.end
+abbrev pub lines_of : Given → List Meant
+lines_of g = lines_given g.words.now g.counts.now g.numbers.now
+
+abbrev pub lines_left : Lines → List Meant
+lines_left l = lines_of l.left
+
+-- the first line is given, or none is left now or later
+abbrev pub GivesLine : Lines → Answer GivenLine → Lines → Type 0
+GivesLine old (Some line) new = lines_left old ≡ line_meaning line ∷ lines_left new
+GivesLine old None new = (lines_left old ≡ []) × (lines_left new ≡ [])

@@ -1,16 +1,15 @@
-// Lines as they are given, by words and numbers in three rows. Each is taken out of the rows by `line_at`. `line_given` has it as the reader's steps
-// ask for it, and counts the bytes of its text; `text_length` measures the text of all lines, and `write_text` writes it. What the lines mean as a list
-// is not asked here.
+// Lines as they are given, by words and numbers in three rows (`Given`), of which `lines` takes one after another. `line_given` reads one as the reader's
+// steps ask for it, and counts the bytes of its text; `text_length` measures the text of all lines, and `write_text` writes it. What the lines mean as a
+// list is not asked here.
 #![tactic(auto)]
 
 mod given;
 mod line;
 mod measure;
 mod short;
-mod word;
 mod writing;
 
-pub use given::{GivenLine, line_at};
+pub use given::{Given, GivenLine, Lines};
 pub use line::{Readable, line_given};
-pub use measure::{Length, TEXT_LIMIT, text_length};
+pub use measure::{TEXT_LIMIT, text_length};
 pub use writing::write_text;

@@ -5,31 +5,26 @@ ghost use Rattle.std.specs.Int.Signed.{le_z, lt_z};
 ghost use Rattle.meaning.specs.Number.{between};
 
 use number::Whole;
-use number::whole::{is_at_most, is_negative, negated, whole_of};
+use number::whole::{is_negative, negated};
 
 // Whether x is -low or more.
 pub fn is_down_to(x: Whole, low: u32) -> bool
     ensures { result ≡ le_z (neg_ℤ (pos low)) x.0 }
 {
-    is_at_most(negated(whole_of(low)), x)
+    negated(Whole::from(low)) <= x
 }
 
 // Whether x has at most two digits, with either sign.
+#[tactic(auto, unfolding(meaning::specs::Number::between))]
 pub fn is_short(x: Whole) -> bool
     ensures { result ≡ between (neg_ℤ (pos 99)) x.0 (pos 99) }
 {
-    if is_down_to(x, 99) {
-        return is_at_most(x, whole_of(99));
-    }
-    false
+    is_down_to(x, 99) && x <= Whole::from(99)
 }
 
 // Whether x is negative and has at most two digits.
 pub fn is_short_negative(x: Whole) -> bool
     ensures { result ≡ (le_z (neg_ℤ (pos 99)) x.0 && lt_z x.0 (pos 0)) }
 {
-    if is_down_to(x, 99) {
-        return is_negative(x);
-    }
-    false
+    is_down_to(x, 99) && is_negative(x)
 }

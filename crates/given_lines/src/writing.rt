@@ -2,16 +2,16 @@
 // that ends the line. FORMAT 2.9
 ghost use Rattle.std.specs.Prelude.{◌∷◌, ◌≤◌, length};
 ghost use Rattle.meaning.specs.Text.{number_text};
-ghost use Rattle.meaning.specs.Write.{given, word_with, text_of, lines_given};
+ghost use Rattle.meaning.specs.Write.{word_text, text_of};
 ghost use Rattle.output.specs.Written.{Written};
-ghost use Rattle.given_lines.specs.Given.{line_text};
+ghost use Rattle.given_lines.specs.Given.{word_meaning, line_text, line_meaning, lines_of};
 
-use super::given::line_at;
+use super::given::{Given, GivenLine};
 use super::short::is_short_negative;
-use super::word::write_word;
 use number::Whole;
 use number::whole::{is_below, negated, size_of, whole_at};
-use output::{write_decimal, write_number};
+use output::{write_bytes, write_decimal, write_number};
+use text::Word;
 
 const TAB: u8 = 9;
 
@@ -49,36 +49,40 @@ fn write_tabbed(part: &mut [u8], x: Whole) -> usize
     1 + write_signed(&mut part[1..], x)
 }
 
-// Writes a line with this word and these numbers.
-fn write_line(part: &mut [u8], code: u8, numbers: &[i64]) -> usize
-    requires { length (line_text (given (word_with code) numbers.now)) ≤ length part.old }
-    ensures { Written (line_text (given (word_with code) numbers.now)) part.old part.new result }
+// Writes a word, and nothing where there is none.
+#[tactic(auto, unfolding(meaning::specs::Write::word_text))]
+fn write_word(part: &mut [u8], word: Option<Word>) -> usize
+    requires { length (word_text (word_meaning word)) ≤ length part.old }
+    ensures { Written (word_text (word_meaning word)) part.old part.new result }
 {
-    let mut at = write_word(part, code);
-    let mut i: usize = 0;
-    while i < numbers.len() {
-        at += write_tabbed(&mut part[at..], whole_at(numbers, i));
-        i += 1;
+    match word {
+        Some(word) => write_bytes(part, word.spelling()),
+        None => 0,
+    }
+}
+
+// Writes a line.
+fn write_line(part: &mut [u8], line: GivenLine<'_>) -> usize
+    requires { length (line_text (line_meaning line)) ≤ length part.old }
+    ensures { Written (line_text (line_meaning line.entry)) part.old part.new result }
+{
+    let mut at = write_word(part, line.word);
+    // By index: a whole number is read out of lent memory at its place (`whole_at`), a rule of the project.
+    for i in 0..line.numbers.len() {
+        at += write_tabbed(&mut part[at..], whole_at(line.numbers, i));
     }
     part[at] = LINE_END;
     at + 1
 }
 
 // Writes all lines. FORMAT 9.27
-pub fn write_text(part: &mut [u8], words: &[u8], counts: &[usize], numbers: &[i64]) -> usize
-    requires { length (text_of (lines_given words.now counts.now numbers.now)) ≤ length part.old }
-    ensures { Written (text_of (lines_given words.now counts.now numbers.now)) part.old part.new result }
+pub fn write_text(part: &mut [u8], given: Given<'_>) -> usize
+    requires { length (text_of (lines_of given)) ≤ length part.old }
+    ensures { Written (text_of (lines_of given.entry)) part.old part.new result }
 {
     let mut written: usize = 0;
-    let mut at: usize = 0;
-    let mut i: usize = 0;
-    while i < words.len() {
-        let line = line_at(words, counts, numbers, i, at);
-        let start = line.start;
-        let end = line.end;
-        written += write_line(&mut part[written..], line.code, &numbers[start..end]);
-        at = end;
-        i += 1;
+    for line in given.lines() {
+        written += write_line(&mut part[written..], line);
     }
     written
 }

@@ -2,11 +2,7 @@
 --
 -- whole numbers and machine words
 pub mod Whole
-pub mod SignPower
--- the numbers of a line
-pub mod ReadValues
--- working a line
-pub mod WorksAnswer
+pub mod GroupNumbers
 -- writing its cells
 pub mod CellsGroup
 pub mod CellsSign

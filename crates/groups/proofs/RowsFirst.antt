@@ -8,7 +8,9 @@ use native.Mathlib.Nat.{add-zero}
 use native.Mathlib.Omega.{arith}
 use lib.ListN.{length}
 use Rattle.meaning.specs.Reply.{Reply, reply, first_fail, refusal_at}
-use Rattle.groups.specs.Rows.{first_of, first_refusal}
+use Rattle.std.specs.Prelude.{Result, Ok, Err}
+use Rattle.std.specs.Result.{result_and}
+use Rattle.groups.specs.Rows.{first_of, first_refusal, rows_meaning}
 
 -- a choice between two answers, and then a later one
 first_of-cond : (c : Bool) (a : Option ℕ) (n : ℕ) (b : Option ℕ) → cond c (first_of a b) (some n) ≡ first_of (cond c a (some n)) b
@@ -38,6 +40,12 @@ refusal-first r none later = refl
 refusal-first r (some i) later = refl
 
 -- ---- a check of rows
+
+-- the answer for some rows and then others is the first that fails
+pub rows-and : {r : Result (Unit {0}) ℕ} (a b : Result (Unit {0}) ℕ) → r ≡ result_and a b → rows_meaning r ≡ first_of (rows_meaning a) (rows_meaning b)
+unfolding first_of
+rows-and (Ok _) b e = rw e refl
+rows-and (Err i) b e = rw e refl
 
 -- a list with nothing in it
 pub first-none : {A : Type 0} (f : A → Bool) (n : ℕ) → none ≡ first_refusal f n []

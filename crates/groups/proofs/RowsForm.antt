@@ -5,15 +5,13 @@ use mathlib.Core.List.{List}
 use Prim.Native.Nat.{ℕ, ◌<◌}
 use native.Mathlib.Omega.{arith}
 use lib.Dec.{eqb}
-use lib.ListN.{length, get_or}
+use lib.ListN.{get_or}
 use lib.IntN.{ℤ, pos, ◌+ℤ◌, ◌-ℤ◌, ◌*ℤ◌, +ℤ_idr}
 use Rattle.algebra.specs.Congruence.{Congruent}
-use Rattle.algebra.specs.Digits.{Below}
 use Rattle.algebra.proofs.Congruence.{congruent-+, congruent--, congruent-*}
 use Rattle.algebra.proofs.Congruence.{residue-iff, remainder-iff, remainder-of-residue, remainder-below}
 use Rattle.meaning.specs.Number.{remainder}
 use Rattle.meaning.specs.Row.{Form, cell, constant, ◌⊕◌, ◌⊖◌, ◌⊗◌, eval, ◌≅◌, holds}
-use Rattle.meaning.proofs.Law.{below_at}
 use Rattle.groups.specs.Rows.{Leaves}
 
 -- what is the remainder of an operation on remainders is that of the operation on forms
@@ -23,18 +21,9 @@ by-congruence {p} {r} {z} {x} l e c = e ∙ (remainder-iff p z x (omega arith)).
 -- ---- cells and constants
 
 module _ (p : ℕ) (t : List ℕ) where
-  pub leaves-cell : (i : ℕ) → Below p t → i < length t → Leaves p t (get_or t i 0) (cell i)
+  pub leaves-cell : (i : ℕ) {r : ℕ} → get_or t i 0 < p → r ≡ get_or t i 0 → Leaves p t r (cell i)
   unfolding eval
-  leaves-cell i h k =
-      let l : get_or t i 0 < p = below_at p t i h k in
-      record { below = l; is = sym (remainder-of-residue p (get_or t i 0) l) }
-
-  pub leaves-read : (i : ℕ) {r : ℕ} → Below p t → i < length t → r ≡ get_or t i 0 → Leaves p t r (cell i)
-  leaves-read i h k e = rw e (leaves-cell i h k)
-
-  -- the same where the cell was counted from another
-  pub leaves_after : (i : ℕ) {n r : ℕ} → Below p t → i < length t → n ≡ i → r ≡ get_or t n 0 → Leaves p t r (cell i)
-  leaves_after i h k place e = leaves-read i h k (rw place at e)
+  leaves-cell i h e = rw e (record { below = h; is = sym (remainder-of-residue p (get_or t i 0) h) })
 
   pub leaves-constant : (n : ℕ) → n < p → Leaves p t n (constant (pos n))
   unfolding eval

@@ -1,7 +1,7 @@
 -- The rows of a digit group: the test of a digit, and the digits' value, from the lowest digit on.
 use mathlib.Core.Path.{◌≡◌, refl, sym, ap, ◌∙◌}
 use mathlib.Core.List.{List, [], ◌∷◌, ◌++◌}
-use mathlib.Core.Bool.{Bool, true, false, not, cond}
+use mathlib.Core.Bool.{Bool, true, false, cond}
 use mathlib.Core.Option.{Option, none, some}
 use Prim.Native.Nat.{ℕ, suc, ◌+◌, ◌-◌, ◌*◌, ◌^◌, ◌≤◌, ◌<◌}
 use native.Mathlib.Omega.{arith}
@@ -9,8 +9,10 @@ use native.Mathlib.Numerals.{add-one}
 use native.Mathlib.Nat.{add-zero, one-mul, mul-zero, mul-le-mul_right, pow-zero, pow-suc, pow-le-pow_right}
 use lib.ListN.{length, get_or}
 use lib.IntN.{ℤ, ◌-ℤ◌}
-use lib.Dec.{eqb, ltb}
-use borrow.Author.Tests.{lt-ltb, le-ltb, ltb-true, ltb-false, not-true, not-false}
+use lib.Dec.{eqb}
+use borrow.Author.Tests.{lt-ltb, le-ltb}
+use Rattle.std.specs.Ordering.{is_ge, nat_cmp}
+use Rattle.std.proofs.lemmas.Bool.Decides.{nat_tests}
 use Rattle.algebra.specs.Digits.{value}
 use Rattle.algebra.proofs.Congruence.{remainder-of-residue}
 use Rattle.meaning.specs.Number.{remainder}
@@ -29,12 +31,19 @@ pub record DigitRead (t : List ℕ) (at b i d : ℕ) : Type 0 where
   pub is : d ≡ get_or t (at + i) 0
   pub below : d < b
 
-module _ (t : List ℕ) (at b i : ℕ) {cell d : ℕ} {passes : Bool} (place : cell ≡ at + i) (read : d ≡ get_or t cell 0) (test : passes ≡ ltb d b) where
-  pub digit-read : not passes ≡ false → DigitRead t at b i d
-  digit-read e = record { is = rw place at read; below = ltb-true d b (sym test ∙ not-false passes e) }
+lt_from_not_ge : (a b : ℕ) → is_ge (nat_cmp a b) ≡ false → a < b
+lt_from_not_ge a b h = grind (arith, nat_tests)
 
-  pub digit-great : not passes ≡ true → b ≤ get_or t (at + i) 0
-  digit-great e = rw (rw place at read) at (ltb-false d b (sym test ∙ not-true passes e))
+ge_from_ge : (a b : ℕ) → is_ge (nat_cmp a b) ≡ true → b ≤ a
+ge_from_ge a b h = grind (arith, nat_tests)
+
+module _ (t : List ℕ) (at b i : ℕ) {cell d base : ℕ} {fails : Bool} (place : cell ≡ at + i) (read : d ≡ get_or t cell 0) (base-is : base ≡ b)
+    (test : fails ≡ is_ge (nat_cmp d base)) where
+  pub digit-read : fails ≡ false → DigitRead t at b i d
+  digit-read e = record { is = rw place at read; below = lt_from_not_ge d b (rw base-is at (sym test ∙ e)) }
+
+  pub digit-great : fails ≡ true → b ≤ get_or t (at + i) 0
+  digit-great e = rw (rw place at read) at (ge_from_ge d b (rw base-is at (sym test ∙ e)))
 
 -- ---- the rows of the digits from the one of number i on
 

@@ -6,7 +6,6 @@ use mathlib.Core.Option.{Option, none, some}
 use Prim.Native.Nat.{ℕ, zero, suc, ◌+◌, ◌-◌, ◌^◌, ◌≤◌, ◌<◌}
 use native.Mathlib.Omega.{arith}
 use native.Mathlib.Numerals.{add-one}
-use native.Mathlib.Nat.{pow-zero, pow-suc, pow-le-pow_right, one-le-pow, one-mul}
 use lib.Dec.{eqb}
 use lib.IntN.{ℤ, pos, neg_ℤ, ◌+ℤ◌, ◌-ℤ◌, ◌*ℤ◌}
 use Rattle.meaning.specs.Number.{remainder}
@@ -17,24 +16,14 @@ use Rattle.meaning.specs.Gadget.Sign.{sign_shift, sign_rows}
 use Rattle.meaning.proofs.RowCounts.{length-group_rows}
 use Rattle.groups.specs.Cells.{GroupOf}
 use Rattle.groups.specs.Rows.{Leaves, first_refusal, first_of}
-use Rattle.groups.proofs.SignPower.{part-power, rest-top}
+use Rattle.groups.proofs.GroupNumbers.{top_below}
 use Rattle.groups.proofs.RowsFirst.{first-none, first-row, first_rows}
 use Rattle.groups.proofs.RowsForm.{leaves-constant, leaves-own, leaves-⊖, leaves-⊗, row-test}
 
 -- ---- B
 
--- (b-1)·b^(i-1) is b^i less the power below it
-pub top_below : {b k : ℕ} → GroupOf b k (b ^ k) → (i : ℕ) → 1 ≤ i → i ≤ k → top_part b i < b ^ k
-top_below {b} {k} g i h l =
-    let base : 0 < b = omega (arith, g.base) in
-    let less : b ^ i ≤ b ^ k = pow-le-pow_right base l in
-    omega (arith, rest-top b i (b ^ i) base h refl, part-power b i (b ^ i) base h refl, one-le-pow (i - 1) b base, one-le-pow i b base)
-
-pub base-most : {b k c : ℕ} → GroupOf b k c → b ≤ c
-base-most {b} {k} {c} g =
-    let one : b ^ 1 ≡ b = pow-suc b 0 ∙ rw (pow-zero, one-mul) refl in
-    let l : b ^ 1 ≤ b ^ k = pow-le-pow_right (omega (arith, g.base)) g.some-digit in
-    omega (arith, g.power)
+pub leaves-top : (p : ℕ) (t : List ℕ) {b k r : ℕ} → GroupOf b k → b ^ k ≤ p → r ≡ top_part b k → Leaves p t r (constant (pos (top_part b k)))
+leaves-top p t {b} {k} g h e = leaves-own p t (top_part b k) (omega (arith, top_below g)) e
 
 -- a number that is moved up by B, as the group over it asks
 sign-shift : (x : ℤ) (n : ℕ) → x +ℤ pos n ≡ x -ℤ neg_ℤ (pos n)

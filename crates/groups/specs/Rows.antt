@@ -1,16 +1,14 @@
 -- How the answer of a check of rows is read, and what a remainder in a machine word stands for.
-use Rattle.std.specs.Prelude.{◌≡◌, Bool, List, ℕ, ◌<◌}
+use Rattle.std.specs.Prelude.{◌≡◌, Bool, List, ℕ, ◌<◌, Result, Ok, Err}
 use Rattle.std.proofs.Math.Option.{Option, none, some}
 use Rattle.meaning.specs.Number.{remainder}
 use Rattle.meaning.specs.Row.{Form, eval}
 use Rattle.meaning.specs.Reply.{Reply, reply, first_fail, refusal_at}
-use Rattle.groups.specs.declared.rows.Rows.{Rows}
-use Rattle.groups.specs.declared.rows.Rows.TheVariants.{AllHold, Fails}
 
 -- no refusal, or refusal 15 at the first row that fails
-unfoldable pub rows_meaning : Rows → Option Reply
-rows_meaning AllHold = none
-rows_meaning (Fails i) = some (reply 15 i)
+abbrev pub rows_meaning : Result (Unit {0}) ℕ → Option Reply
+rows_meaning (Ok _) = none
+rows_meaning (Err i) = some (reply 15 i)
 
 -- refusal 15 at the first of some rows that fails the test, where one does; places count from n
 abbrev pub first_refusal : {A : Type 0} → (A → Bool) → ℕ → List A → Option Reply

@@ -3,14 +3,15 @@
 //
 // A function that writes cells is lent the part of the table that starts at the first cell that it writes. It leaves the rest of the part
 // as it was. Checking writes nothing: the table is a shared slice.
+//
+// The part and p stay two parameters, and that b^k is at most p a clause: each call lends a further part, and a line's digits are read apart from
+// the table, so that a struct of them would be made anew at every call.
 #![tactic(auto)]
 
+pub mod cells;
+pub mod digits;
 pub mod group;
-pub mod named;
 pub mod numbers;
 pub mod rows;
 pub mod sign;
 pub mod value;
-
-pub use rows::Rows;
-pub use value::Worked;

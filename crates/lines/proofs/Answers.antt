@@ -14,9 +14,8 @@ use Rattle.meaning.specs.Line.{word_among, cons_number, numbers_of, assemble, li
 use Rattle.meaning.specs.Word.{Word as MeantWord}
 use Rattle.meaning.specs.Line.{Line as MeantLine}
 use Rattle.meaning.proofs.Results.{refused_none, value-some}
-use Rattle.text.specs.declared.Word.{Word}
-use Rattle.lines.specs.declared.Parsed.{Parsed}
-use Rattle.lines.specs.declared.Parsed.TheVariants.{Line, NoLine}
+use Rattle.std.specs.Prelude.{Option as Answer, Some, None}
+use Rattle.lines.specs.declared.Line.{Line}
 use Rattle.text.specs.Word.{word_of}
 use Rattle.lines.specs.Parsed.{parsed_meaning, count_meaning, LineRead, NextAfter}
 use Rattle.text.specs.Place.{end_of}
@@ -65,26 +64,26 @@ good-line line {l} q = good-fields (fields_of line) l q
 
 -- ---- what an answer says
 
-module _ {line : List ℕ} {before after : List ℤ} {r : Parsed} (read : LineRead line before after r) where
-  pub no-line-meaning : r ≡ NoLine → line_of line ≡ none
+module _ {line : List ℕ} {before after : List ℤ} {r : Answer Line} (read : LineRead line before after r) where
+  pub no-line-meaning : r ≡ None → line_of line ≡ none
   unfolding parsed_meaning
   no-line-meaning q = refused_none 3 _ (sym read.meaning ∙ rw q)
 
-  module _ {w : Word} {n next : ℕ} (q : r ≡ Line w n next) where
-    pub line-meaning : line_of line ≡ some (record { word = word_of w; numbers = take n after })
+  module _ {l : Line} (q : r ≡ Some l) where
+    pub line-meaning : line_of line ≡ some (record { word = word_of l.word; numbers = take l.count after })
     unfolding parsed_meaning
     line-meaning = value-some 3 _ (sym read.meaning ∙ rw q)
 
-    pub line-most : n ≤ most_numbers
+    pub line-most : l.count ≤ most_numbers
     unfolding count_meaning
     line-most = rw q at read.most
 
-    pub line-counted : (kind_of (word_of w)).is_counted (take n after) ≡ true
+    pub line-counted : (kind_of (word_of l.word)).is_counted (take l.count after) ≡ true
     line-counted = (good-line line line-meaning).counted
 
-    pub line_small : (i : ℕ) → i < n → nat_abs (get_or after i (pos 0)) ≤ largest
-    line_small i h = rw (get_or-take n after i (pos 0) h) at ((good-line line line-meaning).small i)
+    pub line_small : (i : ℕ) → i < l.count → nat_abs (get_or after i (pos 0)) ≤ largest
+    line_small i h = rw (get_or-take l.count after i (pos 0) h) at ((good-line line line-meaning).small i)
 
-pub line-next : (text : List ℕ) (at : ℕ) {r : Parsed} → NextAfter text at r → {w : Word} {n next : ℕ} → r ≡ Line w n next → next ≡ end_of text at + 1
+pub line-next : (text : List ℕ) (at : ℕ) {r : Answer Line} → NextAfter text at r → {l : Line} → r ≡ Some l → l.next ≡ end_of text at + 1
 unfolding NextAfter
 line-next text at after q = rw q at after

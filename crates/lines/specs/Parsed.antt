@@ -1,6 +1,6 @@
 -- How the line reader's answer and the numbers that it wrote are read as a value of the definitions, and what it leaves in the numbers
 -- that were lent to it. Bytes that spell no line are refusal 3.
-use Rattle.std.specs.Prelude.{◌≡◌, ℕ, ◌+◌, ◌≤◌, Bool, true, false, cond, List, [], ◌∷◌, ◌++◌, eqb, ℤ, pos, length, get_or, take, drop}
+use Rattle.std.specs.Prelude.{◌≡◌, ℕ, ◌+◌, ◌≤◌, Bool, true, false, cond, List, [], ◌∷◌, ◌++◌, eqb, ℤ, pos, length, get_or, take, drop, Option as Answer, Some, None}
 use Rattle.std.proofs.Math.Option.{Option, none, some}
 use Rattle.meaning.specs.Text.{fields_of, number}
 use Rattle.meaning.specs.Word.{words, most_numbers, kind_of}
@@ -11,26 +11,23 @@ use Rattle.meaning.specs.Refusal.{Result, value, refused_by, or_refused}
 use Rattle.text.specs.Word.{word_of}
 use Rattle.text.specs.Place.{end_of, line_at, fields_from}
 use Rattle.text.specs.declared.Word.{Word}
-use Rattle.lines.specs.declared.NumberFields.{NumberFields}
-use Rattle.lines.specs.declared.NumberFields.TheVariants.{Numbers, NoNumbers}
+use Rattle.text.specs.declared.Field.{Field}
 use Rattle.lines.specs.declared.Fields.{Fields}
-use Rattle.lines.specs.declared.Fields.TheVariants.{Worded, Alone, NoFields}
-use Rattle.lines.specs.declared.Parsed.{Parsed}
-use Rattle.lines.specs.declared.Parsed.TheVariants.{Line, NoLine}
+use Rattle.lines.specs.declared.Line.{Line}
 
-unfoldable pub parsed_meaning : Parsed → List ℤ → Result Meant
-parsed_meaning (Line w n next) ns = value (record { word = word_of w; numbers = take n ns })
-parsed_meaning NoLine ns = refused_by 3
+unfoldable pub parsed_meaning : Answer Line → List ℤ → Result Meant
+parsed_meaning (Some l) ns = value (record { word = word_of l.word; numbers = take l.count ns })
+parsed_meaning None ns = refused_by 3
 
 -- how many numbers were written, by the answer
-unfoldable pub count_meaning : Parsed → ℕ
-count_meaning (Line w n next) = n
-count_meaning NoLine = 0
+unfoldable pub count_meaning : Answer Line → ℕ
+count_meaning (Some l) = l.count
+count_meaning None = 0
 
 -- the place in the answer is where the line after the one at `at` starts
-unfoldable pub NextAfter : List ℕ → ℕ → Parsed → Type 0
-NextAfter text at (Line w n next) = next ≡ end_of text at + 1
-NextAfter text at NoLine = Unit {0}
+unfoldable pub NextAfter : List ℕ → ℕ → Answer Line → Type 0
+NextAfter text at (Some l) = l.next ≡ end_of text at + 1
+NextAfter text at None = Unit {0}
 
 -- ---- the numbers that are left
 
@@ -60,14 +57,15 @@ pub record Stored (ns before after : List ℤ) : Type 0 where
 -- ---- what fields yield
 
 -- the numbers of the fields from `from` on, and where the line ends; or no word has such numbers
-unfoldable pub NumbersYield : List ℕ → ℕ → List ℤ → NumberFields → Type 0
-NumbersYield line from after (Numbers count end) = (numbers_of (fields_from line from) ≡ some (take count after)) × (count ≤ most_numbers) × (end ≡ length line)
-NumbersYield line from after NoNumbers = (w : MeantWord) → assemble (some w) (numbers_of (fields_from line from)) ≡ none
+unfoldable pub NumbersYield : List ℕ → ℕ → List ℤ → Answer (Field ℕ) → Type 0
+NumbersYield line from after (Some f) =
+    (numbers_of (fields_from line from) ≡ some (take f.value after)) × (f.value ≤ most_numbers) × (f.end ≡ length line)
+NumbersYield line from after None = (w : MeantWord) → assemble (some w) (numbers_of (fields_from line from)) ≡ none
 
 -- the answer for a word with so many numbers, by whether as many belong to it
 unfoldable pub worded_by : Bool → Word → ℕ → ℕ → Fields
-worded_by true w count next = Worded w count next
-worded_by false w count next = Alone 0 next
+worded_by true w count next = record { word = Some w; count = count; next = next }
+worded_by false w count next = record { word = None; count = 0; next = next }
 
 abbrev pub WordedAs : Word → (count next : ℕ) → Fields → Type 0
 WordedAs w count next f = (ns : List ℤ) → length ns ≡ count → f ≡ worded_by ((kind_of (word_of w)).is_counted ns) w count next
@@ -76,16 +74,21 @@ WordedAs w count next f = (ns : List ℤ) → length ns ≡ count → f ≡ word
 unfoldable pub alone_among : ℕ → List ℤ → Option ℤ
 alone_among count ns = cond (eqb count 1) (some (get_or ns 0 (pos 0))) none
 
+-- the line with this word and so many numbers stands at `at`; or no line does, and the number there is the one that stands alone
+unfoldable pub FieldsAre : List ℕ → ℕ → List ℤ → Answer Word → ℕ → Type 0
+FieldsAre text at after (Some w) count =
+    (line_of (line_at text at) ≡ some (record { word = word_of w; numbers = take count after })) × (number (line_at text at) ≡ none)
+    × (count ≤ most_numbers)
+FieldsAre text at after None count = (line_of (line_at text at) ≡ none) × (number (line_at text at) ≡ alone_among count after)
+
 -- the word and the numbers of the line at `at`, or the number that it is where one stands alone, and where the next line starts; or it is no
 -- line and no number
-unfoldable pub FieldsYield : List ℕ → ℕ → List ℤ → Fields → Type 0
-FieldsYield text at after (Worded w count next) = (line_of (line_at text at) ≡ some (record { word = word_of w; numbers = take count after }))
-    × (number (line_at text at) ≡ none) × (count ≤ most_numbers) × (next ≡ end_of text at + 1)
-FieldsYield text at after (Alone count next) = (line_of (line_at text at) ≡ none) × (number (line_at text at) ≡ alone_among count after) × (next ≡ end_of text at + 1)
-FieldsYield text at after NoFields = (line_of (line_at text at) ≡ none) × (number (line_at text at) ≡ none)
+unfoldable pub FieldsYield : List ℕ → ℕ → List ℤ → Answer Fields → Type 0
+FieldsYield text at after (Some f) = FieldsAre text at after f.word f.count × (f.next ≡ end_of text at + 1)
+FieldsYield text at after None = (line_of (line_at text at) ≡ none) × (number (line_at text at) ≡ none)
 
 -- the answer, with the numbers as they were left, is the line that the bytes spell
-pub record LineRead (line : List ℕ) (before after : List ℤ) (r : Parsed) : Type 0 where
+pub record LineRead (line : List ℕ) (before after : List ℤ) (r : Answer Line) : Type 0 where
   pub meaning : parsed_meaning r after ≡ or_refused 3 (line_of line)
   pub most : count_meaning r ≤ most_numbers
   pub left : Stored (leading line) before after

@@ -10,54 +10,48 @@ ghost use Rattle.text.specs.Number.{WholeYield};
 ghost use Rattle.text.specs.Place.{up_to, line_at, fields_from};
 ghost use Rattle.lines.specs.Parsed.{LineRead, NextAfter, NumbersYield, WordedAs, FieldsYield, Stored, leading_numbers, leading};
 
-use text::{MOST_NUMBERS, Number, Spelled, Word, is_count, number_at, word_at};
+use text::{Field, MOST_NUMBERS, Word, is_count, number_at, word_at};
 
-const TAB: u8 = 9;
-
-// How many numbers fields spell, and where their line ends.
-#[derive(Clone, Copy)]
-enum NumberFields {
-    Numbers(usize, usize),
-    NoNumbers,
-}
+const TAB: u8 = b'\t';
 
 // The fields of a line, and where the next line starts: a word and how many numbers it has; or how many numbers there are alone, which is none
-// where they follow a word that they do not belong to. Both have the same parts, so that the compiler keeps them in registers.
+// where they follow a word that they do not belong to.
 #[derive(Clone, Copy)]
-enum Fields {
-    Worded(Word, usize, usize),
-    Alone(usize, usize),
-    NoFields,
+struct Fields {
+    word: Option<Word>,
+    count: usize,
+    next: usize,
 }
 
 // A line's word, how many numbers follow it, and where the next line starts.
 #[derive(Clone, Copy)]
-pub enum Parsed {
-    Line(Word, usize, usize),
-    NoLine,
+pub struct Line {
+    pub word: Word,
+    pub count: usize,
+    pub next: usize,
 }
 
-// The numbers that the fields from the one at `from` up to the line's end spell: they are then the first in `numbers`. Where they spell none,
-// or are more than a line can have, `numbers` begins with those that were read before that was seen.
-fn numbers_from(text: &[u8], from: usize, numbers: &mut [i64]) -> NumberFields
+// How many numbers the fields from the one at `from` up to the line's end spell, and where that is: they are then the first in `numbers`. Where
+// they spell none, or are more than a line can have, `numbers` begins with those that were read before that was seen.
+fn numbers_from(text: &[u8], from: usize, numbers: &mut [i64]) -> Option<Field<usize>>
     requires { (is_ended text.now ≡ true) × (from < length text.now) × (length numbers.old ≡ most_numbers) }
     ensures yields { NumbersYield (up_to text.now from) from numbers.new result }
     ensures left { Stored (leading_numbers (fields_from (up_to text.now from) from)) numbers.old numbers.new }
 {
     let mut at = from;
-    let mut count: usize = 0;
-    while count < MOST_NUMBERS {
-        let Number::Of(n, end) = number_at(text, at) else {
-            return NumberFields::NoNumbers;
-        };
-        numbers[count] = n;
-        count += 1;
+    for count in 0..MOST_NUMBERS {
+        let number = number_at(text, at)?;
+        numbers[count] = number.value;
+        let end = number.end;
         if text[end] != TAB {
-            return NumberFields::Numbers(count, end);
+            return Some(Field {
+                value: count + 1,
+                end,
+            });
         }
         at = end + 1;
     }
-    NumberFields::NoNumbers
+    None
 }
 
 // A word with so many numbers, where as many belong to it, in a line that ends at `end`.
@@ -67,65 +61,73 @@ fn worded(word: Word, count: usize, end: usize) -> Fields
 {
     let next = end + 1;
     if is_count(word, count) {
-        return Fields::Worded(word, count, next);
+        return Fields {
+            word: Some(word),
+            count,
+            next,
+        };
     }
-    Fields::Alone(0, next)
+    Fields {
+        word: None,
+        count: 0,
+        next,
+    }
 }
 
 // The fields of the line at `at`, whose numbers are then the first in `numbers`. Lines and inputs are both read here: as `number_at` and
 // `numbers_from` are called at one place alone, the compiler puts all of them into this function, and a line costs one call.
-fn fields_of(text: &[u8], at: usize, numbers: &mut [i64]) -> Fields
+fn fields_of(text: &[u8], at: usize, numbers: &mut [i64]) -> Option<Fields>
     requires { (is_ended text.now ≡ true) × (at < length text.now) × (length numbers.old ≡ most_numbers) }
     ensures yields { FieldsYield text.now at numbers.new result }
     ensures left { Stored (leading (line_at text.now at)) numbers.old numbers.new }
 {
     let spelled = word_at(text, at);
     let mut from = at;
-    if let Spelled::Known(word, end) = spelled {
-        if text[end] != TAB {
-            return worded(word, 0, end);
+    if let Some(word) = spelled {
+        if text[word.end] != TAB {
+            return Some(worded(word.value, 0, word.end));
         }
-        from = end + 1;
+        from = word.end + 1;
     }
-    let NumberFields::Numbers(count, end) = numbers_from(text, from, numbers) else {
-        return Fields::NoFields;
-    };
+    let read = numbers_from(text, from, numbers)?;
     match spelled {
-        Spelled::Known(word, _) => worded(word, count, end),
-        Spelled::NoWord => Fields::Alone(count, end + 1),
+        Some(word) => Some(worded(word.value, read.value, read.end)),
+        None => Some(Fields {
+            word: None,
+            count: read.value,
+            next: read.end + 1,
+        }),
     }
 }
 
 // The line at `at`: its numbers are then the first in `numbers`. FORMAT 2.7, 10.3
-pub fn line_of(text: &[u8], at: usize, numbers: &mut [i64]) -> Parsed
+pub fn line_of(text: &[u8], at: usize, numbers: &mut [i64]) -> Option<Line>
     requires { (is_ended text.now ≡ true) × (at < length text.now) × (length numbers.old ≡ most_numbers) }
     ensures read { LineRead (line_at text.now at) numbers.old numbers.new result }
     ensures next { NextAfter text.now at result }
 {
-    let fields = fields_of(text, at, numbers);
-    match fields {
-        Fields::Worded(word, count, next) => Parsed::Line(word, count, next),
-        Fields::Alone(_, _) => Parsed::NoLine,
-        Fields::NoFields => Parsed::NoLine,
-    }
+    let fields = fields_of(text, at, numbers)?;
+    let word = fields.word?;
+    Some(Line {
+        word,
+        count: fields.count,
+        next: fields.next,
+    })
 }
 
 // The number that the whole line at `at` spells, and the place where the line ends.
-#[tactic(auto, using(crate::proofs::LineFields::one_alone, crate::proofs::LineFields::many_alone))]
-pub fn number_of(text: &[u8], at: usize) -> Number
+#[tactic(auto, using(crate::proofs::LineFields::no_number_there, crate::proofs::LineFields::past_line, crate::proofs::LineFields::word_there, crate::proofs::LineFields::many_there, crate::proofs::LineFields::one_there))]
+pub fn number_of(text: &[u8], at: usize) -> Option<Field<i64>>
     requires { (is_ended text.now ≡ true) × (at < length text.now) }
     ensures { WholeYield text.now at result }
 {
-    let mut numbers: [i64; 33] = [0; 33];
-    let fields = fields_of(text, at, &mut numbers);
-    match fields {
-        Fields::Alone(count, next) => {
-            if count == 1 {
-                return Number::Of(numbers[0], next - 1);
-            }
-            Number::NoNumber
-        }
-        Fields::Worded(_, _, _) => Number::NoNumber,
-        Fields::NoFields => Number::NoNumber,
+    let mut numbers = [0; MOST_NUMBERS];
+    let fields = fields_of(text, at, &mut numbers)?;
+    if fields.word.is_some() || fields.count != 1 {
+        return None;
     }
+    Some(Field {
+        value: numbers[0],
+        end: fields.next - 1,
+    })
 }

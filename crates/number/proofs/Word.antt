@@ -1,22 +1,19 @@
 -- Whole numbers in a machine word. A signed local holds bits, so a use of x reads `to_z w64 (of_z w64 x)`: `back` takes the bits away
 -- where x fits. What fits is said by the two parts of an integer, as algebra has them, so that `omega` decides it.
-use mathlib.Core.Path.{◌≡◌, refl, ap, ◌∙◌}
-use mathlib.Core.Bool.{Bool, true, false, not}
-use Prim.Native.Nat.{ℕ, suc, ◌+◌, ◌-◌, ◌*◌, ◌%◌, ◌≤◌, ◌<◌}
+use mathlib.Core.Path.{◌≡◌, refl}
+use mathlib.Core.Bool.{true, false, not}
+use Prim.Native.Nat.{ℕ, suc, ◌+◌, ◌-◌, ◌*◌, ◌≤◌, ◌<◌}
 use native.Mathlib.Omega.{arith}
-use native.Mathlib.Nat.{mul-le-mul, mod-lt}
-use lib.Dec.{T}
-use lib.IntN.{ℤ, pos, negsuc, neg_ℤ, nat_abs, ◌-ℤ◌}
-use lib.Signed.{mag, lt_z, le_z, non_neg, ◌≤ℤ◌, ◌<ℤ◌, lt_z_no}
+use native.Mathlib.Nat.{mul-le-mul}
+use lib.IntN.{ℤ, pos, negsuc}
+use lib.Signed.{mag, lt_z, non_neg, ◌≤ℤ◌, ◌<ℤ◌, lt_z_no}
 use borrow.Author.Tests.{le-ltb}
-use mir.Syntax.{w32, w64}
+use mir.Syntax.{w64}
 use mir.Val.{Fits, SFits, to_z, of_z}
 use mir.ValLaws.{to_z-of_z, to_z_pos}
 use Rattle.meaning.specs.Machine.{past_u32, past_i64}
 use Rattle.algebra.proofs.Test.{≡-test, false-test}
-use Rattle.algebra.proofs.Integer.Order.{positive_part, negative_part, minus, integer}
-use Rattle.algebra.proofs.Integer.Linear.{linear}
-use Rattle.algebra.proofs.Prime.{nat_abs-negation}
+use Rattle.algebra.proofs.Integer.Order.{positive_part, negative_part, integer}
 
 -- ---- bits
 
@@ -28,10 +25,6 @@ pub small : (n : ℕ) → n < past_i64 → to_z w64 n ≡ pos n
 small n h = to_z_pos w64 n h
 
 -- ---- what fits, by the two parts
-
-pub fits-parts : (z : ℤ) → SFits w64 z → (positive_part z < past_i64) × (negative_part z ≤ past_i64)
-fits-parts (pos n) h = (h.sfits, omega arith)
-fits-parts (negsuc n) h = (omega arith, omega (arith, h.sfits))
 
 pub parts-fit : (z : ℤ) → positive_part z < negative_part z + past_i64 → negative_part z ≤ positive_part z + past_i64 → SFits w64 z
 parts-fit (pos n) h k = record { sfits = omega arith }
@@ -57,22 +50,6 @@ negative {z} f e = below-zero z (rw (back f) at e)
 pub not_negative : {z : ℤ} → SFits w64 z → lt_z (to_z w64 (of_z w64 z)) (pos 0) ≡ false → z ≡ pos (mag z)
 not_negative {z} f e = from_zero z (rw (back f) at e)
 
--- a number that is not negative goes into a u64
-pub cast_fits : (z : ℤ) → SFits w64 z → pos 0 ≤ℤ z → T (non_neg z) × Fits w64 (nat_abs z)
-cast_fits (pos n) f h = (tt, record { fits = omega (arith, f.sfits) })
-cast_fits (negsuc n) f h = absurd (omega integer)
-
--- the order of two i64, as a test reads it from their bits
-pub test-≤ : {a b : ℤ} → SFits w64 a → SFits w64 b → (t : Bool) → le_z (to_z w64 (of_z w64 a)) (to_z w64 (of_z w64 b)) ≡ t → le_z a b ≡ t
-test-≤ fa fb t e = rw (back fa, back fb) at e
-
--- the distance of two numbers, either way
-pub distance-turned : (x y : ℤ) → nat_abs (y -ℤ x) ≡ nat_abs (x -ℤ y)
-distance-turned x y = ap nat_abs turned ∙ nat_abs-negation (x -ℤ y)
-  where
-    turned : y -ℤ x ≡ neg_ℤ (x -ℤ y)
-    turned = omega (linear, minus x y)
-
 -- ---- unsigned words
 
 -- the product of two u32 in a u64
@@ -81,7 +58,3 @@ wide-product {a} {b} h k =
     let l : a ≤ past_u32 - 1 = omega arith in
     let m : b ≤ past_u32 - 1 = omega arith in
     record { fits = omega (arith, mul-le-mul l m) }
-
--- a remainder by a u32
-pub remainder-fits : (n : ℕ) {p : ℕ} → 0 < p → p < past_u32 → Fits w32 (n % p)
-remainder-fits n {p} h k = record { fits = omega (arith, mod-lt n h) }

@@ -3,25 +3,31 @@
 ghost use Rattle.std.specs.Prelude.{◌≡◌, ◌+◌, ◌<◌};
 ghost use Rattle.meaning.specs.Machine.{past_u64};
 
-#[derive(Clone, Copy)]
+#[derive(Clone, Copy, PartialEq, Eq, PartialOrd, Ord)]
 pub struct Cell(pub(crate) usize);
 
-pub fn nth_cell(n: usize) -> Cell
-    ensures { result.0 ≡ n }
-{
-    Cell(n)
+impl From<usize> for Cell {
+    ghost from_gives = { λ n cell. cell.0 ≡ n };
+
+    fn from(n: usize) -> Cell {
+        Cell(n)
+    }
 }
 
-pub fn cell_number(at: Cell) -> usize
-    ensures { result ≡ at.0 }
-{
-    at.0
+impl From<Cell> for usize {
+    ghost from_gives = { λ cell n. n ≡ cell.0 };
+
+    fn from(cell: Cell) -> usize {
+        cell.0
+    }
 }
 
-// The cell that stands k cells after this one.
-pub fn cell_after(at: Cell, k: usize) -> Cell
-    requires { at.0 + k < past_u64 }
-    ensures { result.0 ≡ at.0 + k }
-{
-    Cell(at.0 + k)
+impl Cell {
+    // The cell that stands k cells after this one.
+    pub fn after(self, k: usize) -> Cell
+        requires { self.0 + k < past_u64 }
+        ensures { result.0 ≡ self.0 + k }
+    {
+        Cell(self.0 + k)
+    }
 }

@@ -13,6 +13,5 @@ pub mod root;
 pub mod whole;
 
 pub use cell::Cell;
-pub use power::Power;
 pub use residue::Residue;
 pub use whole::Whole;

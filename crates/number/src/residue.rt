@@ -8,8 +8,17 @@ use super::cell::Cell;
 use super::whole::{Whole, magnitude};
 
 // A remainder modulo p, below p.
-#[derive(Clone, Copy)]
+#[derive(Clone, Copy, PartialEq, Eq, PartialOrd, Ord)]
 pub struct Residue(pub(crate) u32);
+
+// A number below p is its own remainder.
+impl From<u32> for Residue {
+    ghost from_gives = { λ n residue. residue.0 ≡ n };
+
+    fn from(n: u32) -> Residue {
+        Residue(n)
+    }
+}
 
 // ---- cells of a lent table
 
@@ -18,8 +27,7 @@ pub fn residue_at(table: &[u32], at: Cell) -> Residue
     requires { at.0 < length table.now }
     ensures { result.0 ≡ get_or table.now at.0 0 }
 {
-    let place = at.0;
-    Residue(table[place])
+    Residue(table[at.0])
 }
 
 // Writes a remainder into a cell.
@@ -27,34 +35,13 @@ pub fn set_residue(table: &mut [u32], at: Cell, r: Residue)
     requires { at.0 < length table.old }
     ensures { table.new ≡ set table.old at.0 r.0 }
 {
-    let place = at.0;
-    table[place] = r.0;
-}
-
-// ---- tests
-
-pub fn is_zero(r: Residue) -> bool
-    ensures { result ≡ eqb r.0 0 }
-{
-    r.0 == 0
-}
-
-pub fn is_same(a: Residue, b: Residue) -> bool
-    ensures { result ≡ eqb a.0 b.0 }
-{
-    a.0 == b.0
-}
-
-// Whether r is below n: a digit in base n, or what a cell modulo n may hold.
-pub fn is_under(r: Residue, n: u32) -> bool
-    ensures { result ≡ ltb r.0 n }
-{
-    r.0 < n
+    table[at.0] = r.0;
 }
 
 // ---- the two readings
 
 // The whole number that r stands for: r where it is at most M = (p-1)/2, else r - p.
+#[tactic(auto, unfolding(meaning::specs::Number::signed, meaning::specs::Number::highest, meaning::specs::Number::half))]
 pub fn signed_value(r: Residue, p: u32) -> Whole
     requires { r.0 < p }
     ensures { result.0 ≡ signed p r.0 }
@@ -62,9 +49,9 @@ pub fn signed_value(r: Residue, p: u32) -> Whole
     let x = r.0;
     let half = (p - 1) / 2;
     if x <= half {
-        Whole(x as i64)
+        Whole(i64::from(x))
     } else {
-        Whole(x as i64 - p as i64)
+        Whole(i64::from(x) - i64::from(p))
     }
 }
 
@@ -73,10 +60,10 @@ fn reduced(n: u64, p: u32) -> u32
     requires { 0 < p }
     ensures { result ≡ n % p }
 {
-    if n < p as u64 {
+    if n < u64::from(p) {
         n as u32
     } else {
-        (n % p as u64) as u32
+        (n % u64::from(p)) as u32
     }
 }
 
@@ -94,13 +81,6 @@ pub fn remainder_of(x: Whole, p: u32) -> Residue
 }
 
 // ---- arithmetic
-
-// A number below p is its own remainder.
-pub fn own_residue(n: u32) -> Residue
-    ensures { result.0 ≡ n }
-{
-    Residue(n)
-}
 
 // The value of some digits and one more, which counts `part` times: below p it is its own remainder, and nothing is reduced.
 pub fn with_digit(value: Residue, digit: Residue, part: u32) -> Residue
@@ -140,6 +120,6 @@ pub fn product(a: Residue, b: Residue, p: u32) -> Residue
     requires { 0 < p }
     ensures { (result.0 < p) × (result.0 ≡ remainder p (pos a.0 *ℤ pos b.0)) }
 {
-    let exact = a.0 as u64 * b.0 as u64;
+    let exact = u64::from(a.0) * u64::from(b.0);
     Residue(reduced(exact, p))
 }

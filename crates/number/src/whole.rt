@@ -9,8 +9,17 @@ ghost use Rattle.meaning.specs.Machine.{past_i64};
 ghost use Rattle.meaning.specs.Number.{between, in_range, lowest, highest};
 
 // A whole number.
-#[derive(Clone, Copy)]
+#[derive(Clone, Copy, PartialEq, Eq, PartialOrd, Ord)]
 pub struct Whole(pub(crate) i64);
+
+// A count, as a whole number.
+impl From<u32> for Whole {
+    ghost from_gives = { λ n x. x.0 ≡ pos n };
+
+    fn from(n: u32) -> Whole {
+        Whole(i64::from(n))
+    }
+}
 
 // ---- numbers of a lent slice
 
@@ -26,17 +35,10 @@ pub fn set_whole(numbers: &mut [i64], at: usize, x: Whole)
     requires { at < length numbers.old }
     ensures { numbers.new ≡ set numbers.old at x.0 }
 {
-    let z = x.0;
-    numbers[at] = z;
+    numbers[at] = x.0;
 }
 
 // ---- counts as whole numbers, and back
-
-pub fn whole_of(n: u32) -> Whole
-    ensures { result.0 ≡ pos n }
-{
-    Whole(n as i64)
-}
 
 pub fn wide_whole(n: u64) -> Whole
     requires { n < past_i64 }
@@ -50,18 +52,14 @@ pub fn size_of(x: Whole) -> usize
     requires { pos 0 ≤ℤ x.0 }
     ensures { result ≡ nat_abs x.0 }
 {
-    let z = x.0;
-    z as usize
+    x.0 as usize
 }
 
 // The same where it may be negative: 0 where it is.
 pub fn natural(x: Whole) -> usize
     ensures { pos 0 ≤ℤ x.0 → result ≡ nat_abs x.0 }
 {
-    if x.0 < 0 {
-        return 0;
-    }
-    size_of(x)
+    usize::try_from(x.0).unwrap_or(0)
 }
 
 // ---- order
@@ -69,51 +67,31 @@ pub fn natural(x: Whole) -> usize
 pub fn is_negative(x: Whole) -> bool
     ensures { result ≡ lt_z x.0 (pos 0) }
 {
-    x.0 < 0
-}
-
-pub fn is_at_most(a: Whole, b: Whole) -> bool
-    ensures { result ≡ le_z a.0 b.0 }
-{
-    a.0 <= b.0
+    x.0.is_negative()
 }
 
 // Whether x is one of the n numbers from 0 on.
 pub fn is_below(x: Whole, n: usize) -> bool
     ensures { result ≡ non_neg x.0 && ltb (nat_abs x.0) n }
 {
-    let z = x.0;
-    if z < 0 {
-        return false;
-    }
-    (z as usize) < n
+    usize::try_from(x.0).is_ok_and(|i| i < n)
 }
 
-pub fn larger(a: Whole, b: Whole) -> Whole
-    ensures { result.0 ≡ larger a.0 b.0 }
-{
-    if a.0 <= b.0 { b } else { a }
-}
-
-pub fn smaller(a: Whole, b: Whole) -> Whole
-    ensures { result.0 ≡ smaller a.0 b.0 }
-{
-    if a.0 <= b.0 { a } else { b }
-}
-
+#[tactic(auto, unfolding(meaning::specs::Number::between))]
 pub fn within(low: Whole, x: Whole, high: Whole) -> bool
     ensures { result ≡ between low.0 x.0 high.0 }
 {
-    if low.0 <= x.0 { x.0 <= high.0 } else { false }
+    low <= x && x <= high
 }
 
 // ---- the range -M..M, M = (p-1)/2, of the whole numbers that remainders modulo p stand for
 
+#[tactic(auto, unfolding(meaning::specs::Number::half, meaning::specs::Number::highest))]
 pub fn highest(p: u32) -> Whole
     requires { 0 < p }
     ensures { result.0 ≡ highest p }
 {
-    whole_of((p - 1) / 2)
+    Whole::from((p - 1) / 2)
 }
 
 pub fn lowest(p: u32) -> Whole
@@ -123,13 +101,12 @@ pub fn lowest(p: u32) -> Whole
     negated(highest(p))
 }
 
+#[tactic(auto, unfolding(meaning::specs::Number::in_range))]
 pub fn in_range(x: Whole, p: u32) -> bool
     requires { 0 < p }
     ensures { result ≡ in_range p x.0 }
 {
-    let low = lowest(p);
-    let high = highest(p);
-    within(low, x, high)
+    within(lowest(p), x, highest(p))
 }
 
 // ---- arithmetic, where the result fits
@@ -138,8 +115,7 @@ pub fn negated(x: Whole) -> Whole
     requires { SFits w64 (neg_ℤ x.0) }
     ensures { result.0 ≡ neg_ℤ x.0 }
 {
-    let z = x.0;
-    Whole(-z)
+    Whole(-x.0)
 }
 
 pub fn whole_sum(a: Whole, b: Whole) -> Whole
@@ -168,13 +144,7 @@ pub fn distance(x: Whole, y: Whole) -> u64
     requires { SFits w64 (x.0 -ℤ y.0) × SFits w64 (y.0 -ℤ x.0) }
     ensures { result ≡ nat_abs (x.0 -ℤ y.0) }
 {
-    let a = x.0;
-    let b = y.0;
-    if a <= b {
-        (b - a) as u64
-    } else {
-        (a - b) as u64
-    }
+    x.0.abs_diff(y.0)
 }
 
 // What is left without the sign: n both of n and of -(n + 1), so that the lowest i64 has one too.

@@ -1,11 +1,10 @@
--- Writing a text into a part of the output: one text after another, a byte after a text, and bytes that are copied.
+-- Writing a text into a part of the output: one text after another, and a byte after a text.
 use mathlib.Core.Path.{◌≡◌, refl, sym, ap, subst, ◌∙◌}
 use mathlib.Core.List.{List, [], ◌∷◌, ◌++◌, append_assoc}
 use Prim.Native.Nat.{ℕ, suc, ◌+◌, ◌-◌, ◌≤◌, ◌<◌}
 use native.Mathlib.Omega.{arith}
-use native.Mathlib.Numerals.{add-one}
 use lib.ListN.{length, get_or, take, drop, set, length-append, length-drop}
-use lib.Seq.{length-take-le, take_all, take-suc, drop-cons, set_at}
+use lib.Seq.{length-take-le, drop-cons, set_at}
 use borrow.Rule.Slice.PartMut.{put_mid}
 use Rattle.meaning.proofs.Part.{written_after}
 use Rattle.output.specs.Written.{Written}
@@ -32,9 +31,6 @@ written-length {xs} {before} w h = ap length w.stands ∙ omega (arith, length-a
 
 pub nothing_written : (before : List ℕ) → Written [] before before 0
 nothing_written before = record { stands = refl; counted = refl }
-
-pub byte-room : (xs : List ℕ) (byte : ℕ) (before : List ℕ) → length (xs ++ byte ∷ []) ≤ length before → length xs < length before
-byte-room xs byte before h = omega (arith, length-append xs (byte ∷ []))
 
 module _ {xs before after : List ℕ} {n : ℕ} (byte : ℕ) (w : Written xs before after n) (h : length xs < length before) where
   pub byte_inside : n < length after
@@ -80,27 +76,3 @@ module _ {text xs ys before : List ℕ} (halves : Halves text xs ys before) wher
 
       pub written-whole : Written text before (put_mid n (length first - n) first last) (n + m)
       written-whole = subst (λ (t : List ℕ). Written t before (put_mid n (length first - n) first last) (n + m)) halves.parts (written_next w v)
-
--- ---- copying bytes
-
-pub record Copying (text before part : List ℕ) (i : ℕ) : Type 0 where
-  pub within : i ≤ length text
-  pub written : Written (take i text) before part i
-
-pub copying-start : (text before : List ℕ) → Copying text before before 0
-copying-start text before = record { within = omega arith; written = record { stands = refl; counted = refl } }
-
-module _ {text before part : List ℕ} {i : ℕ} (c : Copying text before part i) where
-  pub copying-turn : length text ≤ length before → i < length text → Copying text before (set part i (get_or text i 0)) (i + 1)
-  copying-turn room h =
-      let taken = length-take-le i text (omega arith) in
-      let more : take (i + 1) text ≡ take i text ++ get_or text i 0 ∷ [] = rw (add-one i) (take-suc text i 0 h) in
-      record { within = omega arith; written = rw more (written_byte (get_or text i 0) c.written (omega arith)) }
-
-  pub copying-end : length text ≤ i → Written text before part i
-  copying-end h =
-      let all : take i text ≡ text = take_all i text h in
-      rw all at c.written
-
-  pub copying-length : length text ≤ length before → length part ≡ length before
-  copying-length room = written-length c.written (omega (arith, length-take-le i text c.within, c.within))

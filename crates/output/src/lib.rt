@@ -6,68 +6,35 @@ ghost use Rattle.std.specs.Prelude.{◌≡◌, ◌≤◌, length};
 ghost use Rattle.meaning.specs.Text.{decimal_of, number_text};
 ghost use Rattle.output.specs.Written.{Written, field_text};
 
+use itoa::write_digits;
 use number::Whole;
 use number::whole::{is_negative, magnitude};
-
-const ZERO: u8 = 48;
 
 // Writes bytes as they are.
 pub fn write_bytes(part: &mut [u8], text: &[u8]) -> usize
     requires { length text.now ≤ length part.old }
     ensures { Written text.now part.old part.new result }
 {
-    let mut i: usize = 0;
-    while i < text.len() {
-        part[i] = text[i];
-        i += 1;
-    }
-    i
+    part[..text.len()].copy_from_slice(text);
+    text.len()
 }
 
 // ---- a number as it is written: its decimal digits, without a leading zero
 
-// How many digits it has. Most numbers have one or two, which need no division.
+// How many digits it has.
 pub fn decimal_length(n: u64) -> usize
     ensures { result ≡ length (decimal_of n) }
 {
-    if n < 10 {
-        return 1;
-    }
-    if n < 100 {
-        return 2;
-    }
-    let mut rest = n;
-    let mut count: usize = 1;
-    while 10 <= rest {
-        rest = rest / 10;
-        count += 1;
-    }
-    count
+    n.checked_ilog10().unwrap_or(0) as usize + 1
 }
 
-// Writes the digits, the last first: each is what division by 10 leaves. One or two, as most numbers have, are written at once.
+// Writes the digits.
 pub fn write_decimal(part: &mut [u8], n: u64) -> usize
     requires { length (decimal_of n) ≤ length part.old }
     ensures { Written (decimal_of n) part.old part.new result }
 {
-    if n < 10 {
-        part[0] = ZERO + n as u8;
-        return 1;
-    }
-    if n < 100 {
-        part[0] = ZERO + (n / 10) as u8;
-        part[1] = ZERO + (n % 10) as u8;
-        return 2;
-    }
     let count = decimal_length(n);
-    let mut rest = n;
-    let mut at = count - 1;
-    while 10 <= rest {
-        part[at] = ZERO + (rest % 10) as u8;
-        rest = rest / 10;
-        at -= 1;
-    }
-    part[at] = ZERO + rest as u8;
+    write_digits(n, part, count);
     count
 }
 

@@ -1,2 +1,2 @@
--- What the contracts of `primes` say that meaning does not: what a search of a table finds.
+-- What the contracts of `primes` say that meaning does not: the primes that are tried.
 pub mod Table

@@ -1,14 +1,9 @@
--- The primes below 256 as a table, the numbers below 30 without the factors 2, 3 and 5, and what a search of a table says, for
--- a number or for a divisor.
-use Rattle.std.specs.Prelude.{◌≡◌, Bool, true, false, List, [], ◌∷◌, ◌≢◌, ℕ, ◌+◌, ◌%◌, ◌≤◌, ◌<◌, length, get_or}
+-- The primes below 256 as a table, and the numbers below 30 without the factors 2, 3 and 5.
+use Rattle.std.specs.Prelude.{List, [], ◌∷◌, ℕ}
 
 -- the table has each prime below this
 abbrev pub table_end : ℕ
 table_end = 256
-
--- and has so many
-abbrev pub table_length : ℕ
-table_length = 54
 
 abbrev pub primes : List ℕ
 primes =
@@ -19,14 +14,3 @@ primes =
 
 abbrev pub wheel : List ℕ
 wheel = 1 ∷ 7 ∷ 11 ∷ 13 ∷ 17 ∷ 19 ∷ 23 ∷ 29 ∷ []
-
--- r tells whether n is an entry of the table
-pub record InTable (n : ℕ) (table : List ℕ) (r : Bool) : Type 0 where
-  pub found : r ≡ true → (i : ℕ) × (i < length table) × (get_or table i 0 ≡ n)
-  pub absent : r ≡ false → (i : ℕ) → i < length table → get_or table i 0 ≢ n
-
--- place is where the first entry of the table stands that with d added divides n, and the table's length where none does
-pub record FirstDivisor (n d : ℕ) (table : List ℕ) (place : ℕ) : Type 0 where
-  pub within : place ≤ length table
-  pub earlier : (k : ℕ) → k < place → n % (d + get_or table k 0) ≢ 0
-  pub divides : place < length table → n % (d + get_or table place 0) ≡ 0

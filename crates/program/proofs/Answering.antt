@@ -4,7 +4,7 @@ use mathlib.Core.Bool.{Bool, true, false, cond}
 use mathlib.Core.List.{List, ◌∷◌}
 use Prim.Native.Nat.{ℕ, zero, suc, ◌-◌, ◌≤◌, ◌<◌}
 use native.Mathlib.Omega.{arith}
-use borrow.Author.Tests.{le-leb, lt-leb, eq-eqb, ne_eqb}
+use borrow.Author.Tests.{le-leb, lt-leb, ne_eqb}
 use borrow.Rule.Slice.PartMut.{put_mid}
 use lib.Dec.{leb, leb→le}
 use lib.IntN.{ℤ}
@@ -14,7 +14,10 @@ use Rattle.algebra.proofs.Test.{≡-test}
 use Rattle.meaning.specs.Reply.{Reply, reply, making, make_reply}
 use Rattle.meaning.specs.Program.{refusal_text, table_text, making_text}
 use Rattle.service.specs.Reply.{reply_meaning, Makes}
-use Rattle.service.specs.declared.reply.Reply.{Reply as Replied}
+use Rattle.std.specs.Prelude.{Result}
+use Rattle.refusal.specs.declared.refused.Refused.{Refused}
+use Rattle.refusal.specs.Refusal.{number_of, refused_reply}
+use Rattle.service.proofs.Replies.{not-accepted}
 use Rattle.output.specs.Written.{Written}
 use Rattle.program.specs.Answered.{Answered, longest_answer}
 
@@ -35,13 +38,13 @@ answered-as {before = before} {after = after} {r = r} e a = subst (λ (t : List 
 
 -- ---- what making answers
 
-pub making-table : (number place : ℕ) (t : List ℕ) → number ≡ 0 → table_text t ≡ making_text (making (reply number place) t)
+pub making-table : (t : List ℕ) → table_text t ≡ making_text (making (reply 0 0) t)
 unfolding making_text
-making-table number place t e = rw (eq-eqb number 0 e)
+making-table t = refl
 
-pub making-refusal : (number place : ℕ) (t : List ℕ) → (number ≡ 0 → ⊥) → refusal_text (reply number place) ≡ making_text (making (reply number place) t)
+pub making-refusal : (r : Refused) (t : List ℕ) → refusal_text (refused_reply r) ≡ making_text (making (refused_reply r) t)
 unfolding making_text
-making-refusal number place t h = rw (ne_eqb number 0 h)
+making-refusal r t = rw (ne_eqb (number_of r.refusal) 0 (not-accepted r.refusal))
 
 -- the first cells of a table that is all 0 there
 pub take-replicate : (k n : ℕ) → k ≤ n → take k (replicate {A = ℕ} n 0) ≡ replicate k 0
@@ -50,7 +53,7 @@ take-replicate (suc k) zero h = absurd (omega arith)
 take-replicate (suc k) (suc n) h = ap (λ (t : List ℕ). 0 ∷ t) (take-replicate k n (omega arith))
 
 -- a table of so many cells, at the start of a longer one
-pub within_text : (list : List ℕ) (xs : List ℤ) (table last : List ℕ) (cells : ℕ) (r : Replied) → take cells table ≡ replicate cells 0
+pub within_text : (list : List ℕ) (xs : List ℤ) (table last : List ℕ) (cells : ℕ) (r : Result (Unit {0}) Refused) → take cells table ≡ replicate cells 0
     → cells ≤ length table → length last ≡ length (take (cells - 0) table)
     → Makes list xs (take (cells - 0) table) r last
     → making_text (making (reply_meaning r) (take (cells - 0) (put_mid 0 (cells - 0) table last))) ≡ making_text (make_reply list xs (replicate cells 0))

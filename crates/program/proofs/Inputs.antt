@@ -15,8 +15,8 @@ use Rattle.meaning.specs.Text.{is_ended, number}
 use Rattle.meaning.specs.Line.{numbers_of}
 use Rattle.meaning.specs.Reply.{reply, first_fail, refusal_at}
 use Rattle.meaning.specs.Program.{is_some, or_none}
-use Rattle.text.specs.declared.Number.{Number}
-use Rattle.text.specs.declared.Number.TheVariants.{Of, NoNumber}
+use Rattle.std.specs.Prelude.{Option as Answer, Some, None}
+use Rattle.text.specs.declared.Field.{Field}
 use Rattle.text.specs.Number.{WholeYield}
 use Rattle.text.specs.Place.{end_of, lines_from}
 use Rattle.lines.proofs.Lines.{after_numbers, after_next, before-all}
@@ -83,16 +83,17 @@ module _ {input : List ℕ} {start : ℕ} {stored : List ℤ} {at count : ℕ} (
           let read : numbers_of (lines_from input start) ≡ some (r.numbers ++ []) = r.numbers-left ∙ rw (lines_none input at h) in
           ap or_none read ∙ append-nil r.numbers
 
-  module _ (ended : is_ended input ≡ true) (h : at < length input) {x : Number} (read : WholeYield input at x) where
-    pub reading-stops : x ≡ NoNumber → refusal_at 3 (first_fail (λ l. is_some (number l)) 0 (lines_from input start)) ≡ some (reply 3 count)
+  module _ (ended : is_ended input ≡ true) (h : at < length input) {x : Answer (Field ℤ)} (read : WholeYield input at x) where
+    pub reading-stops : x ≡ None → refusal_at 3 (first_fail (λ l. is_some (number l)) 0 (lines_from input start)) ≡ some (reply 3 count)
     unfolding first_fail is_some refusal_at
     reading-stops q = ap (refusal_at 3) r.fails-left ∙ rw (lines_at input at ended h, number-is-none _ _ read q)
 
-    pub reading-turn : {n : ℤ} {end : ℕ} → x ≡ Of n end → ReadingInputs input start (set stored count n) (end + 1) (count + 1)
+    pub reading-turn : {f : Field ℤ} → x ≡ Some f → ReadingInputs input start (set stored count f.value) (f.end + 1) (count + 1)
     unfolding first_fail is_some numbers_of
-    reading-turn {n} {end} q =
+    reading-turn {f} q =
+        let n = f.value in
         let is = number_is _ _ read q in
-        let e : end ≡ end_of input at = (number-ends _ _ read q).is in
+        let e : f.end ≡ end_of input at = (number-ends _ _ read q).is in
         rw e (record {
           numbers = r.numbers ++ n ∷ [];
           inside = omega (arith, (in-line input ended at h).inside);

@@ -11,7 +11,7 @@ use lib.Seq.{length-take-le, take-add, take-suc}
 use Rattle.meaning.specs.Text.{bytes, same_bytes, lines_of, is_ended}
 use Rattle.meaning.specs.Program.{Parts, cons_part, parts_of, joined}
 use Rattle.text.specs.Place.{Found, lines_from}
-use Rattle.text.proofs.Bytes.{same-long}
+use Rattle.meaning.proofs.Words.{same-spelled}
 use Rattle.text.proofs.Places.{found-byte, lines_none, line-within, lines_next}
 use Rattle.program.specs.Input.{EndsAt}
 
@@ -99,4 +99,4 @@ module _ {input : List ℕ} {at lines : ℕ} (s : Seeking input at lines) where
     }
       where
         after : end + 1 ≡ at + 4
-        after = omega (arith, same-long line (101 ∷ 110 ∷ 100 ∷ []) (sym e ∙ is), line-length, found.low)
+        after = omega (arith, ap length (same-spelled line (101 ∷ 110 ∷ 100 ∷ []) (sym e ∙ is)), line-length, found.low)

@@ -18,15 +18,14 @@ use Rattle.meaning.specs.Reply.{reply, first_fail, made, make_reply}
 use Rattle.meaning.specs.Program.{refusal_text, making_text, Parts, parts_of, joined, is_some, or_none, answer_parts, on_parts, respond}
 use Rattle.meaning.proofs.Results.{refused_none, refusal-place}
 use Rattle.text.specs.Place.{lines_from}
-use Rattle.reader.specs.declared.state.Counts.{Counts}
+use Rattle.reader.specs.declared.counts.Counts.{Counts}
 use Rattle.service.specs.Walk.{ListRead, CountsGiven}
 use Rattle.service.proofs.Made.{made-wrong-count, make-read}
 use Rattle.service.proofs.Scan.{first-from, none_from, found_inside}
 use Rattle.program.specs.Input.{EndYield, NumbersRead, InputsYield}
 use Rattle.program.specs.declared.input.Ending.{Ending}
-use Rattle.program.specs.declared.input.Ending.TheVariants.{At, Missing}
-use Rattle.program.specs.declared.input.Inputs.{Inputs}
-use Rattle.program.specs.declared.input.Inputs.TheVariants.{Numbers, NoNumber}
+use Rattle.std.specs.Prelude.{Some, None, Result, Ok, Err}
+use Rattle.std.specs.Prelude.{Option as Perhaps}
 use Rattle.text.proofs.Places.{lines-few}
 use Rattle.program.proofs.Limits.{list-most, joined-few}
 use Rattle.program.specs.Answered.{ListGiven, InputsGiven}
@@ -123,12 +122,12 @@ module _ {input : List ℕ} {end lines : ℕ} (given : ListGiven input end lines
 
 -- ---- what was read of the inputs
 
-module _ (ls : List (List ℕ)) (stored : List ℤ) {x : Inputs} (yields : InputsYield ls stored x) where
-  pub inputs-no-number : {i : ℕ} → x ≡ NoNumber i → first_fail is_number 0 ls ≡ some i
+module _ (ls : List (List ℕ)) (stored : List ℤ) {x : Result ℕ ℕ} (yields : InputsYield ls stored x) where
+  pub inputs-no-number : {i : ℕ} → x ≡ Err i → first_fail is_number 0 ls ≡ some i
   unfolding InputsYield
   inputs-no-number e = refusal-place 3 _ (subst (InputsYield ls stored) e yields)
 
-  pub inputs-numbers : {count : ℕ} → x ≡ Numbers count → NumbersRead ls stored count
+  pub inputs-numbers : {count : ℕ} → x ≡ Ok count → NumbersRead ls stored count
   unfolding InputsYield
   inputs-numbers e = subst (InputsYield ls stored) e yields
 
@@ -149,12 +148,12 @@ module _ (input : List ℕ) where
       unfolding respond
       respond-parts = rw (le-leb (length input) text_limit short, ended)
 
-      module _ {x : Ending} (found : EndYield input x) where
-        pub respond-missing : x ≡ Missing → refusal_text (reply 2 0) ≡ respond input
+      module _ {x : Perhaps Ending} (found : EndYield input x) where
+        pub respond-missing : x ≡ None → refusal_text (reply 2 0) ≡ respond input
         unfolding EndYield on_parts
         respond-missing e = sym (ap on_parts (refused_none 2 _ (subst (EndYield input) e found))) ∙ respond-parts
 
-        pub list-given : {end lines : ℕ} → x ≡ At end lines → ListGiven input end lines
+        pub list-given : {end : Ending} → x ≡ Some end → ListGiven input end.at end.lines
         unfolding EndYield
         list-given e = record { short = short; ended = ended; ends = subst (EndYield input) e found }
 
@@ -167,7 +166,7 @@ module _ (input : List ℕ) (end : ℕ) (parts : Parts) (ls : List Line) (last :
     (are : parts_of (lines_of input) ≡ some parts) (short : length input ≤ text_limit) (ended : is_ended input ≡ true)
     (inside : end + 4 ≤ length input) (listed : take end input ≡ joined parts.list) (left : lines_from input (end + 4) ≡ parts.inputs)
     (is_read : reading (take end input) ≡ read ls last) (p-most : last.p ≤ greatest)
-    (yields : InputsYield (lines_from input (end + 4)) stored (Numbers count)) where
+    (yields : InputsYield (lines_from input (end + 4)) stored (Ok count)) where
   the-list : ListGiven input end (length parts.list)
   the-list =
       record {

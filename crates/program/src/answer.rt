@@ -2,24 +2,25 @@
 ghost use Rattle.std.specs.Prelude.{◌≡◌, ◌≤◌, length, take, replicate};
 ghost use Rattle.meaning.specs.Refusal.{cell_limit};
 ghost use Rattle.meaning.specs.Text.{lines_of};
-ghost use Rattle.meaning.specs.Reply.{reply, making, make_reply};
+ghost use Rattle.meaning.specs.Reply.{making, make_reply};
 ghost use Rattle.meaning.specs.Program.{refusal_text, table_text, making_text, parts_of, on_parts};
+ghost use Rattle.refusal.specs.Refusal.{refused_reply};
 ghost use Rattle.service.specs.Reply.{reply_meaning};
 ghost use Rattle.program.specs.Answered.{Answered, ListGiven, InputsGiven};
 
 use super::answer_text::{refusal_length, table_length, write_refusal, write_table};
-use super::input::{Inputs, read_inputs};
-use number::cell::cell_number;
-use reader::{Surveyed, survey};
-use service::{Reply, make};
+use super::input::{Ending, read_inputs};
+use reader::survey;
+use refusal::{Refusal, Refused};
+use service::make;
 
-pub fn answer_refusal(output: &mut [u8], number: u32, place: usize) -> usize
-    ensures { Answered (refusal_text (reply number place)) output.old output.new result }
+pub fn answer_refusal(output: &mut [u8], refused: Refused) -> usize
+    ensures { Answered (refusal_text (refused_reply refused)) output.old output.new result }
 {
-    if output.len() < refusal_length(number, place) {
+    if output.len() < refusal_length(refused) {
         return 0;
     }
-    write_refusal(output, number, place)
+    write_refusal(output, refused)
 }
 
 fn answer_table(output: &mut [u8], table: &[u32]) -> usize
@@ -33,14 +34,14 @@ fn answer_table(output: &mut [u8], table: &[u32]) -> usize
 }
 
 // What making answers: the table, or the refusal that it replies.
-fn answer_making(output: &mut [u8], reply: Reply, table: &[u32]) -> usize
+fn answer_making(output: &mut [u8], reply: Result<(), Refused>, table: &[u32]) -> usize
     requires { length table.now ≤ cell_limit }
     ensures { Answered (making_text (making (reply_meaning reply) table.now)) output.old output.new result }
 {
-    if reply.number == 0 {
-        return answer_table(output, table);
+    match reply {
+        Ok(()) => answer_table(output, table),
+        Err(refused) => answer_refusal(output, refused),
     }
-    answer_refusal(output, reply.number, reply.place)
 }
 
 // The list is made into a table of so many cells, all 0 before.
@@ -71,33 +72,30 @@ fn answer_within(
 
 // The list before `end` is read, and has so many cells. More inputs than a list can have values are a wrong count of inputs.
 #[tactic(auto, using(crate::proofs::Responding::too_many_inputs, crate::proofs::Responding::inputs_answered))]
-fn answer_inputs(output: &mut [u8], input: &[u8], end: usize, lines: usize, cells: usize) -> usize
-    requires { InputsGiven input.now end lines cells }
+fn answer_inputs(output: &mut [u8], input: &[u8], end: Ending, cells: usize) -> usize
+    requires { InputsGiven input.now end.at end.lines cells }
     ensures { Answered (on_parts (parts_of (lines_of input.now))) output.old output.new result }
 {
     let mut inputs: [i64; 256] = [0; 256];
-    let found = read_inputs(input, end + 4, &mut inputs);
-    match found {
-        Inputs::NoNumber(i) => answer_refusal(output, 3, lines + 1 + i),
-        Inputs::Numbers(count) => {
+    match read_inputs(input, end.at + 4, &mut inputs) {
+        Err(i) => answer_refusal(output, Refusal::NoLine.at(end.lines + 1 + i)),
+        Ok(count) => {
             if 256 < count {
-                return answer_refusal(output, 16, 0);
+                return answer_refusal(output, Refusal::InputCount.at(0));
             }
-            answer_made(output, &input[0..end], &inputs[0..count], cells)
+            answer_made(output, &input[0..end.at], &inputs[0..count], cells)
         }
     }
 }
 
-// The line `end` is there, after so many lines.
-pub fn answer_list(output: &mut [u8], input: &[u8], end: usize, lines: usize) -> usize
-    requires { ListGiven input.now end lines }
+// The line `end` is there.
+pub fn answer_list(output: &mut [u8], input: &[u8], end: Ending) -> usize
+    requires { ListGiven input.now end.at end.lines }
     ensures { Answered (on_parts (parts_of (lines_of input.now))) output.old output.new result }
 {
-    let found = survey(&input[0..end]);
-    match found {
-        Surveyed::NotRead(number, place) => answer_refusal(output, number, place),
-        Surveyed::Counted(_, counts) => {
-            answer_inputs(output, input, end, lines, cell_number(counts.cells))
-        }
-    }
+    let found = match survey(&input[0..end.at]) {
+        Ok(found) => found,
+        Err(refused) => return answer_refusal(output, refused),
+    };
+    answer_inputs(output, input, end, usize::from(found.counts.cells))
 }

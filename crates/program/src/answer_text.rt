@@ -1,12 +1,13 @@
 // The text of an answer: a refusal's line, or a table's lines.
 ghost use Rattle.std.specs.Prelude.{◌≡◌, ◌≤◌, length};
 ghost use Rattle.meaning.specs.Refusal.{cell_limit};
-ghost use Rattle.meaning.specs.Reply.{reply};
 ghost use Rattle.meaning.specs.Program.{refusal_text, cells_text, table_text};
 ghost use Rattle.output.specs.Written.{Written};
+ghost use Rattle.refusal.specs.Refusal.{refused_reply};
 ghost use Rattle.program.specs.Texts.{longest_pair, pair_text, heading_text};
 
 use output::{decimal_length, write_bytes, write_field};
+use refusal::Refused;
 
 const TAB: u8 = 9;
 
@@ -33,18 +34,20 @@ fn write_pair(part: &mut [u8], first: u64, second: u64) -> usize
 
 // ---- a refusal
 
-pub fn refusal_length(number: u32, place: usize) -> usize
-    ensures { result ≡ length (refusal_text (reply number place)) }
+pub fn refusal_length(refused: Refused) -> usize
+    ensures { result ≡ length (refusal_text (refused_reply refused)) }
 {
-    8 + pair_length(number as u64, place as u64)
+    let number = u32::from(refused.refusal);
+    8 + pair_length(u64::from(number), refused.place as u64)
 }
 
-pub fn write_refusal(part: &mut [u8], number: u32, place: usize) -> usize
-    requires { length (refusal_text (reply number place)) ≤ length part.old }
-    ensures { Written (refusal_text (reply number place)) part.old part.new result }
+pub fn write_refusal(part: &mut [u8], refused: Refused) -> usize
+    requires { length (refusal_text (refused_reply refused)) ≤ length part.old }
+    ensures { Written (refusal_text (refused_reply refused)) part.old part.new result }
 {
+    let number = u32::from(refused.refusal);
     let at = write_bytes(part, b"refused\t");
-    at + write_pair(&mut part[at..], number as u64, place as u64)
+    at + write_pair(&mut part[at..], u64::from(number), refused.place as u64)
 }
 
 // ---- a table
@@ -54,10 +57,8 @@ pub fn table_length(table: &[u32]) -> usize
     ensures { result ≡ length (table_text table.now) }
 {
     let mut total = 7 + decimal_length(table.len() as u64);
-    let mut i: usize = 0;
-    while i < table.len() {
-        total += pair_length(i as u64, table[i] as u64);
-        i += 1;
+    for (i, &cell) in table.iter().enumerate() {
+        total += pair_length(i as u64, u64::from(cell));
     }
     total
 }
@@ -85,10 +86,8 @@ fn write_cells(part: &mut [u8], table: &[u32]) -> usize
     ensures { Written (cells_text 0 table.now) part.old part.new result }
 {
     let mut at: usize = 0;
-    let mut i: usize = 0;
-    while i < table.len() {
-        at += write_pair(&mut part[at..], i as u64, table[i] as u64);
-        i += 1;
+    for (i, &cell) in table.iter().enumerate() {
+        at += write_pair(&mut part[at..], i as u64, u64::from(cell));
     }
     at
 }

@@ -8,10 +8,13 @@ use Rattle.meaning.specs.Known.{Known}
 use Rattle.meaning.specs.Refusal.{Reading, refused, read, on_reading, reading}
 use Rattle.meaning.specs.Reply.{Answer, reply, counts, refusal, read_reply}
 use Rattle.meaning.proofs.Reading.{reads-exactly}
-use Rattle.reader.specs.Read.{survey_of, survey_meaning, reply_of, Exact}
-use Rattle.reader.specs.declared.state.Counts.{Counts}
+use Rattle.reader.specs.Read.{survey_of, survey_meaning, answer_meaning, reply_of, Exact}
+use Rattle.std.specs.Prelude.{Result, Ok, Err}
+use Rattle.refusal.specs.declared.refused.Refused.{Refused}
+use Rattle.refusal.specs.Refusal.{refused_reply}
+use Rattle.std.specs.Result.{IsErrAnd}
 use Rattle.reader.specs.declared.reading.Surveyed.{Surveyed}
-use Rattle.reader.specs.declared.reading.Surveyed.TheVariants.{Counted, NotRead}
+use Rattle.reader.specs.declared.reading.Summary.{Summary}
 
 -- ---- the reply to what was found
 
@@ -24,18 +27,23 @@ unfolding reply_of survey_of replied_to on_reading
 survey-replied (refused n i) = refl
 survey-replied (read ls s) = refl
 
-module _ (text : List ℕ) (x : Surveyed) (yields : survey_meaning x ≡ survey_of (reading text)) where
+module _ (text : List ℕ) (x : Result Surveyed Refused) (yields : survey_meaning x ≡ survey_of (reading text)) where
   found-replied : reply_of (survey_meaning x) ≡ read_reply text
   unfolding read_reply replied_to
   found-replied = ap reply_of yields ∙ survey-replied (reading text)
 
-  pub refused-replied : (n i : ℕ) → x ≡ NotRead n i → refusal (reply n i) ≡ read_reply text
-  unfolding reply_of survey_meaning
-  refused-replied n i is = ap (λ (y : Surveyed). reply_of (survey_meaning y)) (sym is) ∙ found-replied
+  pub refused-replied : {broken : Refused} → x ≡ Err broken → refusal (refused_reply broken) ≡ read_reply text
+  unfolding reply_of
+  refused-replied is = ap (λ (y : Result Surveyed Refused). reply_of (survey_meaning y)) (sym is) ∙ found-replied
 
-  pub counts-replied : (p : ℕ) (c : Counts) → x ≡ Counted p c → counts p c.values c.cells.0 c.rows ≡ read_reply text
-  unfolding reply_of survey_meaning
-  counts-replied p c is = ap (λ (y : Surveyed). reply_of (survey_meaning y)) (sym is) ∙ found-replied
+  pub counts-replied : {found : Surveyed} → x ≡ Ok found → counts found.p found.counts.values found.counts.cells.0 found.counts.rows ≡ read_reply text
+  unfolding reply_of
+  counts-replied is = ap (λ (y : Result Surveyed Refused). reply_of (survey_meaning y)) (sym is) ∙ found-replied
+
+-- a refusal that is passed on
+pub passed-on : (r : Result Summary Refused) (broken : Refused) → IsErrAnd r (λ x. x ≡ broken) → answer_meaning r ≡ refusal (refused_reply broken)
+passed-on (Ok s) broken h = absurd h
+passed-on (Err x) broken h = rw h refl
 
 -- ---- a reply and the claim
 

@@ -1,11 +1,10 @@
 -- Line 0: what it yields, by its word and its number.
-use mathlib.Core.Path.{◌≡◌, refl, sym, ap, ◌∙◌}
+use mathlib.Core.Path.{◌≡◌, refl, ◌∙◌}
 use mathlib.Core.Bool.{true, false, not, ◌&&◌}
 use mathlib.Core.List.{List, [], ◌∷◌}
-use Prim.Native.Nat.{ℕ, ◌≤◌}
+use Prim.Native.Nat.{◌≤◌}
 use native.Mathlib.Omega.{arith}
-use lib.ListN.{get_or, take}
-use lib.Seq.{get_or-take}
+use lib.ListN.{length, get_or}
 use lib.IntN.{ℤ, pos, nat_abs}
 use lib.Signed.{lt_z, ◌≤ℤ◌}
 use Rattle.algebra.proofs.Integer.Linear.{linear}
@@ -24,7 +23,8 @@ use Rattle.meaning.specs.Gadget.Field.{field_line}
 use Rattle.meaning.specs.Meaning.{gadget, prime_after, places_from, after}
 use Rattle.meaning.specs.Refusal.{all, on_some, is_placed, is_over_prime, is_ranged, rules_with, rules_within, rules, first_broken}
 use Rattle.rules.specs.Yield.{line_with}
-use Rattle.reader.specs.Step.{ParsedLine, stops, goes, step_of}
+use Rattle.reader.specs.Line.{ParsedLine}
+use Rattle.reader.specs.Step.{stops, goes, step_of}
 use Rattle.reader.specs.Read.{only}
 use Rattle.rules.specs.Ready.{greatest}
 use Rattle.reader.proofs.Sizes.{count-is}
@@ -69,37 +69,33 @@ other-word Which h = refl
 other-word Max h = refl
 other-word Root h = refl
 
-module _ {w : Word} {n : ℕ} {numbers : List ℤ} (parsed : ParsedLine w n numbers) (is : w ≡ Field) where
+module _ {w : Word} {numbers : List ℤ} (parsed : ParsedLine w numbers) (is : w ≡ Field) where
   abbrev z : ℤ
   z = get_or numbers 0 (pos 0)
 
-  one : n ≡ 1
+  pub one : length numbers ≡ 1
   unfolding kind_of word_of
-  one = count-is numbers 1 n is (λ ns. refl) parsed.counted (omega (arith, parsed.numbers-long, parsed.most))
-
-  number-first : number_at (take n numbers) 0 ≡ z
-  unfolding number_at
-  number-first = get_or-take n numbers 0 (pos 0) (omega (arith, one))
+  one = count-is numbers 1 is (λ ns. refl) parsed.counted
 
   pub first-size : nat_abs z ≤ greatest
   first-size = parsed.small 0 (omega (arith, one))
 
-  over-prime : is_over_prime field (take n numbers) ≡ not (lt_z z (pos 0)) && odd_prime (nat_abs z)
-  unfolding is_over_prime kind_of
-  over-prime = rw (number-first, not-below-zero z)
+  over-prime : is_over_prime field numbers ≡ not (lt_z z (pos 0)) && odd_prime (nat_abs z)
+  unfolding is_over_prime kind_of number_at
+  over-prime = rw (not-below-zero z)
 
-  pub first-negative : lt_z z (pos 0) ≡ true → stops 5 ≡ step_of 0 fresh (line_with (word_of w) (take n numbers))
+  pub first-negative : lt_z z (pos 0) ≡ true → stops 5 ≡ step_of 0 fresh (line_with (word_of w) numbers)
   unfolding word_of
-  first-negative t = rw is (first-not-prime (take n numbers) (over-prime ∙ rw t))
+  first-negative t = rw is (first-not-prime numbers (over-prime ∙ rw t))
 
   module _ (t : lt_z z (pos 0) ≡ false) where
     pub first-natural : pos 0 ≤ℤ z
     first-natural = let is = from_zero z t in omega linear
 
-    pub first-composite : odd_prime (nat_abs z) ≡ false → stops 5 ≡ step_of 0 fresh (line_with (word_of w) (take n numbers))
+    pub first-composite : odd_prime (nat_abs z) ≡ false → stops 5 ≡ step_of 0 fresh (line_with (word_of w) numbers)
     unfolding word_of
-    first-composite o = rw is (first-not-prime (take n numbers) (over-prime ∙ rw (t, o)))
+    first-composite o = rw is (first-not-prime numbers (over-prime ∙ rw (t, o)))
 
-    pub first-odd-prime : odd_prime (nat_abs z) ≡ true → goes (only (nat_abs z)) ≡ step_of 0 fresh (line_with (word_of w) (take n numbers))
-    unfolding word_of size_at
-    first-odd-prime o = rw is (ap (λ (y : ℤ). goes (only (nat_abs y))) (sym number-first) ∙ first-prime (take n numbers) (over-prime ∙ rw (t, o)))
+    pub first-odd-prime : odd_prime (nat_abs z) ≡ true → goes (only (nat_abs z)) ≡ step_of 0 fresh (line_with (word_of w) numbers)
+    unfolding word_of size_at number_at
+    first-odd-prime o = rw is (first-prime numbers (over-prime ∙ rw (t, o)))

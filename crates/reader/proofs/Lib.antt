@@ -3,9 +3,9 @@ pub mod Sizes
 pub mod Growth
 pub mod Narrowing
 pub mod Steps
-pub mod Ordered
 pub mod Firsts
 pub mod Stopping
 pub mod Walk
 pub mod Whole
 pub mod Exact
+pub mod Taking

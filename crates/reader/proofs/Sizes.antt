@@ -1,12 +1,11 @@
 -- How many values, inputs, cells and rows each kind of line has, and that the code counts them from the line's word and digit count.
 use mathlib.Core.Path.{◌≡◌, refl, sym, ap, ◌∙◌}
 use mathlib.Core.Bool.{true}
-use mathlib.Core.List.{List, [], ◌∷◌}
-use Prim.Native.Nat.{ℕ, zero, suc, ◌+◌, ◌*◌, ◌<◌, ◌≤◌}
+use mathlib.Core.List.{List}
+use Prim.Native.Nat.{ℕ, suc, ◌+◌, ◌*◌, ◌<◌, ◌≤◌}
 use native.Mathlib.Omega.{arith}
 use lib.Dec.{T, eqb, eqb→eq}
-use lib.ListN.{length, get_or, take}
-use lib.Seq.{get_or-take, length-take-le}
+use lib.ListN.{length, get_or}
 use lib.IntN.{ℤ, pos, nat_abs}
 use lib.Signed.{◌≤ℤ◌}
 use Rattle.algebra.proofs.Test.{left, right, ≡-test}
@@ -31,7 +30,7 @@ use Rattle.text.specs.declared.Word.{Word}
 use Rattle.text.specs.declared.Word.TheVariants.{Field, In, Span, Sum, Relu, Which, Max, Root}
 use Rattle.rules.specs.Yield.{line_with}
 use Rattle.reader.specs.Size.{counted, Adds, FewCounts, DigitSize, most_width, most_rows}
-use Rattle.reader.specs.declared.state.Counts.{Counts}
+use Rattle.reader.specs.declared.counts.Counts.{Counts}
 
 -- ---- digit counts
 
@@ -46,135 +45,115 @@ module _ (p i : ℕ) (w : Meant) (ns : List ℤ) (is : (kind_of w).digits ns ≡
   count-high = let g = digits-given p i w ns is ranged in record { le = search (left, right, g) }
 
 -- and the code's digit count is the line's
-module _ (s : Known) (w : Meant) (numbers : List ℤ) (n i k : ℕ) (inside : suc i < n)
-    (is : (kind_of w).digits (take n numbers) ≡ digits_at (take n numbers) i)
+module _ (s : Known) (w : Meant) (numbers : List ℤ) (i k : ℕ)
+    (is : (kind_of w).digits numbers ≡ digits_at numbers i)
     (counts : pos 1 ≤ℤ get_or numbers (suc i) (pos 0) → get_or numbers (suc i) (pos 0) ≤ℤ pos most_digits → k ≡ nat_abs (get_or numbers (suc i) (pos 0))) where
-  number_is : number_at (take n numbers) (suc i) ≡ get_or numbers (suc i) (pos 0)
-  unfolding number_at
-  number_is = get_or-take n numbers (suc i) (pos 0) inside
-
-  pub digits-counted : {m : ℕ} → Keeps m s (line_with w (take n numbers)) → size_at (take n numbers) (suc i) ≡ k
-  unfolding size_at
+  pub digits-counted : {m : ℕ} → Keeps m s (line_with w numbers) → size_at numbers (suc i) ≡ k
+  unfolding size_at number_at
   digits-counted kept =
-      let low = count_low s.p i w (take n numbers) is kept.ranged in
-      let high = count-high s.p i w (take n numbers) is kept.ranged in
-      ap nat_abs number_is ∙ sym (counts (rw number_is at low) (rw number_is at high))
+      let low = count_low s.p i w numbers is kept.ranged in
+      let high = count-high s.p i w numbers is kept.ranged in
+      sym (counts low high)
 
 -- ---- the counts of each kind
 
 module _ (s : Known) (ns : List ℤ) (k : ℕ) where
   adds-field : Adds s (line_with field ns) (counted 0 0 0 0)
-  unfolding gadget kind_of field_line counted
+  unfolding gadget kind_of field_line
   adds-field = record { values-are = refl; inputs_are = refl; cells_are = refl; rows_are = refl }
 
   adds-input : Adds s (line_with input ns) (counted 1 1 1 0)
-  unfolding gadget kind_of input_line counted
+  unfolding gadget kind_of input_line
   adds-input = record { values-are = refl; inputs_are = refl; cells_are = refl; rows_are = refl }
 
   adds-sum : Adds s (line_with sum ns) (counted 1 0 1 1)
-  unfolding gadget kind_of sum_line counted
+  unfolding gadget kind_of sum_line
   adds-sum = record { values-are = refl; inputs_are = refl; cells_are = refl; rows_are = refl }
 
   adds-span : size_at ns 2 ≡ k → Adds s (line_with span ns) (counted 0 0 (1 * k + 0) (1 * k + 1))
-  unfolding gadget kind_of span_line counted
+  unfolding gadget kind_of span_line
   adds-span e = record { values-are = refl; inputs_are = refl; cells_are = omega (arith, e); rows_are = length-group_rows _ _ _ _ (size_at ns 2) ∙ omega (arith, e) }
 
   adds-relu : size_at ns 2 ≡ k → Adds s (line_with relu ns) (counted 1 0 (1 * k + 3) (1 * k + 5))
-  unfolding gadget kind_of relu_line counted
+  unfolding gadget kind_of relu_line
   adds-relu e = record { values-are = refl; inputs_are = refl; cells_are = omega (arith, e); rows_are = length-sign_rows _ _ _ (size_at ns 2) _ ∙ omega (arith, e) }
 
   adds-which : size_at ns 3 ≡ k → Adds s (line_with which ns) (counted 1 0 (1 * k + 3) (1 * k + 5))
-  unfolding gadget kind_of which_line counted
+  unfolding gadget kind_of which_line
   adds-which e = record { values-are = refl; inputs_are = refl; cells_are = omega (arith, e); rows_are = length-sign_rows _ _ _ (size_at ns 3) _ ∙ omega (arith, e) }
 
   adds-max : size_at ns 3 ≡ k → Adds s (line_with max ns) (counted 1 0 (2 * k + 1) (2 * k + 3))
-  unfolding gadget kind_of max_line counted
+  unfolding gadget kind_of max_line
   adds-max e = record { values-are = refl; inputs_are = refl; cells_are = omega (arith, e); rows_are = two-groups _ _ (pos 0) _ _ (size_at ns 2) (size_at ns 3) ∙ omega (arith, e) }
 
   adds-root : size_at ns 2 ≡ k → Adds s (line_with root ns) (counted 1 0 (4 * k + 2) (4 * k + 5))
-  unfolding gadget kind_of root_line counted
+  unfolding gadget kind_of root_line
   adds-root e = record { values-are = refl; inputs_are = refl; cells_are = omega (arith, e); rows_are = four-groups _ _ _ _ (pos 0) _ _ _ _ (size_at ns 1) (size_at ns 2) ∙ omega (arith, e) }
 
 -- ---- as the code counts them, from a word and numbers of which the line has the first
-
--- so many of the first numbers are the first of that many
-take-length : (m : ℕ) (ns : List ℤ) → take m ns ≡ take (length (take m ns)) ns
-take-length zero ns = refl
-take-length (suc m) [] = refl
-take-length (suc m) (n ∷ ns) = ap (λ (ms : List ℤ). n ∷ ms) (take-length m ns)
 
 -- a word that is followed by n numbers and no other count
 abbrev pub HasCount : Word → (n : ℕ) → Type 0
 HasCount w n = (ns : List ℤ) → (kind_of (word_of w)).is_counted ns ≡ eqb (length ns) n
 
-module _ {v w : Word} (numbers : List ℤ) (n m : ℕ) (q : v ≡ w) (only : HasCount w n) (e : (kind_of (word_of v)).is_counted (take m numbers) ≡ true) where
-  so-many : length (take m numbers) ≡ n
-  so-many =
-      let counted = sym (only (take m numbers)) ∙ ap (λ (u : Word). (kind_of (word_of u)).is_counted (take m numbers)) (sym q) ∙ e in
-      eqb→eq (length (take m numbers)) n (≡-test (eqb (length (take m numbers)) n) counted)
-
-  -- whatever m is, the line's numbers are the first n
-  numbers-are : take m numbers ≡ take n numbers
-  numbers-are = take-length m numbers ∙ ap (λ (i : ℕ). take i numbers) so-many
-
-  pub count-is : m ≤ length numbers → m ≡ n
-  count-is few = sym (length-take-le m numbers few) ∙ so-many
+pub count-is : {v w : Word} (numbers : List ℤ) (n : ℕ) → v ≡ w → HasCount w n → (kind_of (word_of v)).is_counted numbers ≡ true → length numbers ≡ n
+count-is numbers n q only e =
+    let counted = sym (only numbers) ∙ ap (λ (u : Word). (kind_of (word_of u)).is_counted numbers) (sym q) ∙ e in
+    eqb→eq (length numbers) n (≡-test (eqb (length numbers) n) counted)
 
 -- what a count tells of the line: how much it adds, which is at most one value, one input, 126 cells and 129 rows
 abbrev pub Sizes : Word → List ℤ → Counts → Type 0
 Sizes v numbers c = (
-    (n count : ℕ) (s : Known) → (kind_of (word_of v)).is_counted (take count numbers) ≡ true → Keeps n s (line_with (word_of v) (take count numbers))
-    → Adds s (line_with (word_of v) (take count numbers)) c
+    (n : ℕ) (s : Known) → (kind_of (word_of v)).is_counted numbers ≡ true → Keeps n s (line_with (word_of v) numbers)
+    → Adds s (line_with (word_of v) numbers) c
     ) × FewCounts c
 
 few : {c : Counts} (values inputs cells rows : ℕ) → c ≡ counted values inputs cells rows → values ≤ 1 → inputs ≤ 1 → cells ≤ most_width → rows ≤ most_rows
     → FewCounts c
-unfolding counted
 few values inputs cells rows e v i k r = rw e (v, i, k, r)
 
 module _ {v : Word} {c : Counts} (numbers : List ℤ) where
   pub field-sizes : v ≡ Field → c ≡ counted 0 0 0 0 → Sizes v numbers c
   unfolding word_of
-  field-sizes q e = (λ n count s h k. rw (q, e) (adds-field s (take count numbers) 0), few 0 0 0 0 e (omega arith) (omega arith) (omega arith) (omega arith))
+  field-sizes q e = (λ n s h k. rw (q, e) (adds-field s numbers 0), few 0 0 0 0 e (omega arith) (omega arith) (omega arith) (omega arith))
 
   pub input-sizes : v ≡ In → c ≡ counted 1 1 1 0 → Sizes v numbers c
   unfolding word_of
-  input-sizes q e = (λ n count s h k. rw (q, e) (adds-input s (take count numbers) 0), few 1 1 1 0 e (omega arith) (omega arith) (omega arith) (omega arith))
+  input-sizes q e = (λ n s h k. rw (q, e) (adds-input s numbers 0), few 1 1 1 0 e (omega arith) (omega arith) (omega arith) (omega arith))
 
   pub sum-sizes : v ≡ Sum → c ≡ counted 1 0 1 1 → Sizes v numbers c
   unfolding word_of
-  sum-sizes q e = (λ n count s h k. rw (q, e) (adds-sum s (take count numbers) 0), few 1 0 1 1 e (omega arith) (omega arith) (omega arith) (omega arith))
+  sum-sizes q e = (λ n s h k. rw (q, e) (adds-sum s numbers 0), few 1 0 1 1 e (omega arith) (omega arith) (omega arith) (omega arith))
 
 module _ {v : Word} {c : Counts} (numbers : List ℤ) where
   digit-sizes : (w : Word) (m i : ℕ) {values each cells rows : ℕ} → v ≡ w → (sized : DigitSize numbers (suc i) values each cells rows c) → suc i < m
-      → HasCount w m → ((kind_of (word_of w)).digits (take m numbers) ≡ digits_at (take m numbers) i)
+      → HasCount w m → ((kind_of (word_of w)).digits numbers ≡ digits_at numbers i)
       → values ≤ 1 → each * sized.count + cells ≤ most_width → each * sized.count + rows ≤ most_rows
-      → ((s : Known) → size_at (take m numbers) (suc i) ≡ sized.count → Adds s (line_with (word_of w) (take m numbers)) (counted values 0 (each * sized.count + cells) (each * sized.count + rows)))
+      → ((s : Known) → size_at numbers (suc i) ≡ sized.count → Adds s (line_with (word_of w) numbers) (counted values 0 (each * sized.count + cells) (each * sized.count + rows)))
       → Sizes v numbers c
   digit-sizes w m i q sized inside only is few-values few-cells few-rows adds = (
-    λ n count s h kept.
-        let first-m : take count numbers ≡ take m numbers = numbers-are numbers m count q only h in
-        let here : Keeps n s (line_with (word_of w) (take m numbers)) = rw (q, first-m) at kept in
-        rw (q, sized.counts-are, first-m) (adds s (digits-counted s (word_of w) numbers m i sized.count inside is sized.is-count.1 here)),
+    λ n s h kept.
+        let here : Keeps n s (line_with (word_of w) numbers) = rw q at kept in
+        rw (q, sized.counts-are) (adds s (digits-counted s (word_of w) numbers i sized.count is sized.is-count.1 here)),
     few _ 0 _ _ sized.counts-are few-values (omega arith) few-cells few-rows,
   )
 
   pub span-sizes : v ≡ Span → DigitSize numbers 2 0 1 0 1 c → Sizes v numbers c
   unfolding word_of kind_of
-  span-sizes q z = let few-digits = z.is-count.0 in digit-sizes Span 4 1 q z (omega arith) (λ j. refl) refl (omega arith) (omega arith) (omega arith) (λ s. adds-span s (take 4 numbers) z.count)
+  span-sizes q z = let few-digits = z.is-count.0 in digit-sizes Span 4 1 q z (omega arith) (λ j. refl) refl (omega arith) (omega arith) (omega arith) (λ s. adds-span s numbers z.count)
 
   pub relu-sizes : v ≡ Relu → DigitSize numbers 2 1 1 3 5 c → Sizes v numbers c
   unfolding word_of kind_of
-  relu-sizes q z = let few-digits = z.is-count.0 in digit-sizes Relu 3 1 q z (omega arith) (λ j. refl) refl (omega arith) (omega arith) (omega arith) (λ s. adds-relu s (take 3 numbers) z.count)
+  relu-sizes q z = let few-digits = z.is-count.0 in digit-sizes Relu 3 1 q z (omega arith) (λ j. refl) refl (omega arith) (omega arith) (omega arith) (λ s. adds-relu s numbers z.count)
 
   pub which-sizes : v ≡ Which → DigitSize numbers 3 1 1 3 5 c → Sizes v numbers c
   unfolding word_of kind_of
-  which-sizes q z = let few-digits = z.is-count.0 in digit-sizes Which 4 2 q z (omega arith) (λ j. refl) refl (omega arith) (omega arith) (omega arith) (λ s. adds-which s (take 4 numbers) z.count)
+  which-sizes q z = let few-digits = z.is-count.0 in digit-sizes Which 4 2 q z (omega arith) (λ j. refl) refl (omega arith) (omega arith) (omega arith) (λ s. adds-which s numbers z.count)
 
   pub max-sizes : v ≡ Max → DigitSize numbers 3 1 2 1 3 c → Sizes v numbers c
   unfolding word_of kind_of
-  max-sizes q z = let few-digits = z.is-count.0 in digit-sizes Max 4 2 q z (omega arith) (λ j. refl) refl (omega arith) (omega arith) (omega arith) (λ s. adds-max s (take 4 numbers) z.count)
+  max-sizes q z = let few-digits = z.is-count.0 in digit-sizes Max 4 2 q z (omega arith) (λ j. refl) refl (omega arith) (omega arith) (omega arith) (λ s. adds-max s numbers z.count)
 
   pub root-sizes : v ≡ Root → DigitSize numbers 2 1 4 2 5 c → Sizes v numbers c
   unfolding word_of kind_of
-  root-sizes q z = let few-digits = z.is-count.0 in digit-sizes Root 3 1 q z (omega arith) (λ j. refl) refl (omega arith) (omega arith) (omega arith) (λ s. adds-root s (take 3 numbers) z.count)
+  root-sizes q z = let few-digits = z.is-count.0 in digit-sizes Root 3 1 q z (omega arith) (λ j. refl) refl (omega arith) (omega arith) (omega arith) (λ s. adds-root s numbers z.count)

@@ -1,5 +1,6 @@
 -- Each kind of line, stepped over: what its reader answers, and how many cells and rows it has, make what the definitions say of it.
-use mathlib.Core.Path.{◌≡◌, refl, sym, ap, ap₂, ◌∙◌}
+use mathlib.Core.Path.{◌≡◌, refl, sym, ap, ◌∙◌}
+use mathlib.Core.Logic.{◌⊎◌, inl, inr, ⊎_elim}
 use mathlib.Core.Bool.{true, ◌&&◌}
 use mathlib.Core.List.{List, [], ◌∷◌}
 use mathlib.Core.Option.{Option, none, some}
@@ -7,7 +8,8 @@ use Prim.Native.Nat.{ℕ, ◌*◌, ◌%◌, ◌≤◌, ◌<◌}
 use native.Mathlib.Omega.{arith}
 use lib.Dec.{T, ltb}
 use lib.ListN.{length, get_or, take, length-set}
-use lib.Seq.{get_or-take}
+use lib.Seq.{get_or-take, length-take-le}
+use Rattle.std.proofs.lemmas.List.{take_all}
 use lib.IntN.{ℤ, pos, nat_abs}
 use lib.Signed.{◌≤ℤ◌, non_neg}
 use Rattle.algebra.proofs.Test.{left}
@@ -32,44 +34,62 @@ use Rattle.meaning.proofs.Lines.{not-below, digits-ranged, sum-odd}
 use Rattle.text.specs.Word.{word_of}
 use Rattle.text.specs.declared.Word.{Word}
 use Rattle.text.specs.declared.Word.TheVariants.{Field, In, Span, Sum, Relu, Which, Max, Root}
-use Rattle.text.specs.contracts.Word.{the_type}
 use Rattle.lines.specs.Parsed.{LineRead}
-use Rattle.lines.specs.declared.Parsed.{Parsed}
-use Rattle.lines.specs.declared.Parsed.TheVariants.{Line as Spelled}
+use Rattle.std.specs.Prelude.{Option as Answer, Some}
+use Rattle.lines.specs.declared.Line.{Line as Spelled}
 use Rattle.lines.proofs.Answers.{line-most, line-counted, line_small}
-use types.Run.{OneOf, miss}
-use denote.Enum.Declared.{tag_of}
-use Rattle.rules.specs.Ready.{Small, Represented}
-use Rattle.reader.specs.State.{state_of}
-use Rattle.rules.specs.Yield.{Yield, refuses, yield_of, line_with}
+use Rattle.rules.specs.Ready.{Ready, Represented}
+use Rattle.reader.specs.State.{WithinLimits}
+use Rattle.reader.specs.declared.state.State.{State}
+use Rattle.reader.specs.Line.{ParsedLine, NotSpan, yield_by, line_yield}
+use Rattle.rules.specs.Yield.{Yield, refuses, yield_of, span_yield, line_with}
 use Rattle.reader.specs.Size.{Adds}
-use Rattle.reader.specs.Step.{ParsedLine, yield_by, line_yield, Step, stops, step_of, step_option}
-use Rattle.reader.specs.declared.state.Counts.{Counts}
-use Rattle.reader.proofs.Growth.{Held, Grows}
+use Rattle.reader.specs.Step.{Step, stops, step_of, step_option}
+use Rattle.reader.specs.declared.counts.Counts.{Counts}
+use Rattle.reader.proofs.Growth.{Held, Grows, refused-step}
 use Rattle.reader.proofs.Sizes.{HasCount, count-is}
 
 -- ---- the arguments of a line's reader
 
-pub meaning-state : {p : ℕ} {s : Known} {c : Counts} {lows highs : List ℤ} {places : List ℕ} → Held p s c lows highs places → Represented s p c.values c.cells.0 lows highs
-unfolding state_of
+pub meaning-state : {s : Known} {st : State} {places : List ℕ} → Held s st places → Represented s st.p st.counts.cells.0 (take st.counts.values st.ends)
 meaning-state held = record {
   prime = ap (λ (q : Known). q.p) held.is;
   known = ap (λ (q : Known). q.known) held.is;
   cells_are = ap (λ (q : Known). q.cells) held.is;
 }
 
--- a line with a word that is followed by n numbers and no other count
-module _ {v w : Word} {m : ℕ} {numbers : List ℤ} (n : ℕ) (parsed : ParsedLine v m numbers) (q : v ≡ w) (only : HasCount w n) where
-  counted-so : m ≡ n
-  counted-so = count-is numbers n m q only parsed.counted (omega (arith, parsed.most, parsed.numbers-long))
+-- and that they are in order
+pub state-ready : {st : State} → WithinLimits st → Ready st.p st.counts.cells.0 (take st.counts.values st.ends)
+state-ready {st} sized =
+    let count = length-take-le st.counts.values st.ends (omega (arith, sized.few.values-most, sized.long)) in
+    record {
+      p-low = sized.p-low;
+      p-high = sized.p-high;
+      values-most = omega (arith, count, sized.few.values-most);
+      cells-most = sized.few.cells-most;
+      sized = λ i d h. let inside : i < st.counts.values = omega (arith, count) in rw (get_or-take st.counts.values st.ends i d inside) (sized.sized i d inside);
+    }
 
-  -- its reader asks for what is lent, and for its numbers
-  pub with-count : {Lent : Type 0} → Lent → Lent × (n ≤ length numbers) × Small n numbers
-  with-count lent = (lent, omega (arith, counted-so, parsed.most, parsed.numbers-long), λ i l. parsed.small i (omega (arith, counted-so)))
+-- a line with a word that is followed by n numbers and no other count
+module _ {v w : Word} {numbers : List ℤ} (n : ℕ) (parsed : ParsedLine v numbers) (q : v ≡ w) (only : HasCount w n) where
+  counted-so : length numbers ≡ n
+  counted-so = count-is numbers n q only parsed.counted
+
+  -- its reader asks for its numbers
+  pub with-count : n ≤ length numbers
+  with-count = omega (arith, counted-so)
 
   -- what it yields is what the line that was read yields
-  pub at_count : (s : Known) (x : Yield) → x ≡ line_yield s (line_with (word_of w) (take n numbers)) → x ≡ line_yield s (line_with (word_of v) (take m numbers))
-  at_count s x h = h ∙ ap₂ (λ (u : Word) (i : ℕ). line_yield s (line_with (word_of u) (take i numbers))) (sym q) (sym counted-so)
+  pub at_count : (s : Known) (x : Yield) → x ≡ line_yield s (line_with (word_of w) numbers) → x ≡ line_yield s (line_with (word_of v) numbers)
+  at_count s x h = h ∙ ap (λ (u : Word). line_yield s (line_with (word_of u) numbers)) (sym q)
+
+-- a line with a word that no number follows has none
+pub no-numbers : {v w : Word} {numbers : List ℤ} → ParsedLine v numbers → v ≡ w → HasCount w 0 → numbers ≡ []
+no-numbers {numbers = numbers} parsed q only = none_left numbers (count-is numbers 0 q only parsed.counted)
+  where
+    none_left : (ns : List ℤ) → length ns ≡ 0 → ns ≡ []
+    none_left [] e = refl
+    none_left (n ∷ ns) e = absurd (omega arith)
 
 -- ---- a field line that comes later
 
@@ -79,39 +99,21 @@ field-later s ns q = rw q refl
 
 -- ---- the lines that narrow no ends
 
-abbrev pub NotSpan : Meant → Type 0
-NotSpan field = Unit {0}
-NotSpan input = Unit {0}
-NotSpan span = ⊥
-NotSpan sum = Unit {0}
-NotSpan relu = Unit {0}
-NotSpan which = Unit {0}
-NotSpan max = Unit {0}
-NotSpan root = Unit {0}
-
--- a word with any other position than that of `span`
-pub not_span : (v : Word) → OneOf (0 ∷ 1 ∷ 3 ∷ 4 ∷ 5 ∷ 6 ∷ 7 ∷ []) (tag_of the_type v) → NotSpan (word_of v)
+-- each word is that of a span line, or another
+pub span_or_other : (v : Word) → (v ≡ Span) ⊎ NotSpan (word_of v)
 unfolding word_of
-not_span Field h = tt
-not_span In h = tt
-not_span Span h = absurd (miss (0 ∷ 1 ∷ 3 ∷ 4 ∷ 5 ∷ 6 ∷ 7 ∷ []) 2 tt h)
-not_span Sum h = tt
-not_span Relu h = tt
-not_span Which h = tt
-not_span Max h = tt
-not_span Root h = tt
+span_or_other Field = inr tt
+span_or_other In = inr tt
+span_or_other Span = inl refl
+span_or_other Sum = inr tt
+span_or_other Relu = inr tt
+span_or_other Which = inr tt
+span_or_other Max = inr tt
+span_or_other Root = inr tt
 
 -- a word that is told apart from `span` by an equation
 pub other_than_span : (v : Word) → (v ≡ Span → ⊥) → NotSpan (word_of v)
-unfolding word_of
-other_than_span Field h = tt
-other_than_span In h = tt
-other_than_span Span h = absurd (h refl)
-other_than_span Sum h = tt
-other_than_span Relu h = tt
-other_than_span Which h = tt
-other_than_span Max h = tt
-other_than_span Root h = tt
+other_than_span v h = ⊎_elim (λ e. absurd (h e)) (λ o. o) (span_or_other v)
 
 pub yield-by-word : (s : Known) (w : Meant) (ns : List ℤ) → NotSpan w → line_yield s (line_with w ns) ≡ yield_of s (line_with w ns)
 unfolding line_yield yield_by
@@ -136,25 +138,38 @@ grows-by-word s size which ns h k a = record { adds = a; narrowed-is = refl; pri
 grows-by-word s size max ns h k a = record { adds = a; narrowed-is = refl; prime-is = refl }
 grows-by-word s size root ns h k a = record { adds = a; narrowed-is = refl; prime-is = refl }
 
+-- a line that is refused, of whatever kind
+pub refused-line : (s : Known) (w : Meant) (ns : List ℤ) (n : ℕ) → refuses n ≡ line_yield s (line_with w ns) → stops n ≡ step_of 1 s (line_with w ns)
+unfolding line_yield yield_by yield_of span_yield
+refused-line s field ns n e = refused-step s _ _ n e
+refused-line s input ns n e = refused-step s _ _ n e
+refused-line s span ns n e = refused-step s _ _ n e
+refused-line s sum ns n e = refused-step s _ _ n e
+refused-line s relu ns n e = refused-step s _ _ n e
+refused-line s which ns n e = refused-step s _ _ n e
+refused-line s max ns n e = refused-step s _ _ n e
+refused-line s root ns n e = refused-step s _ _ n e
+
 -- ---- a sum, whose count is odd; a span, which names a value
 
-pub sum-count : {v : Word} → v ≡ Sum → (numbers : List ℤ) (m : ℕ) → m ≤ length numbers → (kind_of (word_of v)).is_counted (take m numbers) ≡ true → m % 2 ≡ 1
+pub sum-count : {v : Word} → v ≡ Sum → (numbers : List ℤ) → (kind_of (word_of v)).is_counted numbers ≡ true → length numbers % 2 ≡ 1
 unfolding word_of
-sum-count q numbers m few e = sum-odd numbers m few (ap (λ (u : Word). (kind_of (word_of u)).is_counted (take m numbers)) (sym q) ∙ e)
+sum-count q numbers e =
+    sum-odd numbers (length numbers) (omega arith)
+    (rw (take_all (length numbers) numbers (omega arith)) (ap (λ (u : Word). (kind_of (word_of u)).is_counted numbers) (sym q) ∙ e))
 
 pub span-word : {v : Word} → v ≡ Span → word_of v ≡ span
 unfolding word_of
 span-word q = rw q refl
 
-pub name-counted : {m : ℕ} (s : Known) (numbers : List ℤ) (n r : ℕ) → 0 < n → (pos 0 ≤ℤ get_or numbers 0 (pos 0) → r ≡ nat_abs (get_or numbers 0 (pos 0)))
-    → Keeps m s (line_with span (take n numbers)) → size_at (take n numbers) 0 ≡ r
+pub name-counted : {m : ℕ} (s : Known) (numbers : List ℤ) (r : ℕ) → (pos 0 ≤ℤ get_or numbers 0 (pos 0) → r ≡ nat_abs (get_or numbers 0 (pos 0)))
+    → Keeps m s (line_with span numbers) → size_at numbers 0 ≡ r
 unfolding size_at number_at kind_of all is_made
-name-counted s numbers n r h yields kept =
-    let is : get_or (take n numbers) 0 (pos 0) ≡ get_or numbers 0 (pos 0) = get_or-take n numbers 0 (pos 0) h in
+name-counted s numbers r yields kept =
     let m : ℕ = length s.known in
-    let z : ℤ = get_or (take n numbers) 0 (pos 0) in
+    let z : ℤ = get_or numbers 0 (pos 0) in
     let made : T (non_neg z && ltb (nat_abs z) m) = left (non_neg z && ltb (nat_abs z) m) true kept.names-made in
-    ap nat_abs is ∙ sym (yields (rw is at (not-below z (left (non_neg z) (ltb (nat_abs z) m) made))))
+    sym (yields (not-below z (left (non_neg z) (ltb (nat_abs z) m) made)))
 
 -- ---- bytes that spell a line or none
 
@@ -167,9 +182,18 @@ unfolding step_option
 line_step n s e h = rw e h
 
 -- the line reader's answer, as a step asks for it
-pub line-parsed : {line : List ℕ} {before after : List ℤ} {r : Parsed} {w : Word} {n next : ℕ} → LineRead line before after r → length before ≡ most_numbers
-    → r ≡ Spelled w n next → ParsedLine w n after
-line-parsed read long q = record { numbers-long = read.left.kept ∙ long; counted = line-counted read q; most = line-most read q; small = line_small read q }
+module _ {line : List ℕ} {before after : List ℤ} {r : Answer Spelled} {l : Spelled} (read : LineRead line before after r) (long : length before ≡ most_numbers) (q : r ≡ Some l) where
+  pub numbers-fit : l.count ≤ length after
+  numbers-fit = omega (arith, line-most read q, read.left.kept ∙ long)
+
+  pub line-parsed : ParsedLine l.word (take l.count after)
+  line-parsed =
+      let count = length-take-le l.count after numbers-fit in
+      record {
+        counted = line-counted read q;
+        most = omega (arith, count, line-most read q);
+        small = λ i h. let inside : i < l.count = omega (arith, count) in rw (get_or-take l.count after i (pos 0) inside) (line_small read q i inside);
+      }
 
 -- ---- no more inputs than values, at most two rows a cell, and no value lost
 

@@ -2,5 +2,6 @@
 -- what a line yields, `..Meaning` reads an enum of the code as a value of the definitions.
 pub mod State
 pub mod Size
+pub mod Line
 pub mod Step
 pub mod Read

@@ -4,13 +4,13 @@ use Rattle.meaning.specs.Refusal.{most_digits, value_limit, cell_limit}
 use Rattle.meaning.specs.Line.{Line}
 use Rattle.meaning.specs.Known.{Known}
 use Rattle.meaning.specs.Meaning.{gadget}
-use Rattle.reader.specs.declared.state.Counts.{Counts}
+use Rattle.reader.specs.declared.counts.Counts.{Counts}
 
-unfoldable pub counted : (values inputs cells rows : ℕ) → Counts
+abbrev pub counted : (values inputs cells rows : ℕ) → Counts
 counted values inputs cells rows = record { values = values; inputs = inputs; cells = record { 0 = cells }; rows = rows }
 
 -- counts with those of one more line
-unfoldable pub added : (before size : Counts) → Counts
+abbrev pub added : (before size : Counts) → Counts
 added c size = counted (c.values + size.values) (c.inputs + size.inputs) (c.cells.0 + size.cells.0) (c.rows + size.rows)
 
 -- counts of a list that no sum overflows

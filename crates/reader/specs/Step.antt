@@ -1,44 +1,17 @@
 -- What one line does to what is known, and how the code's answer is read as it.
-use Rattle.std.specs.Prelude.{◌≡◌, true, ℕ, ◌≤◌, ◌<◌, List, length, take, drop, set, ℤ}
+use Rattle.std.specs.Prelude.{◌≡◌, Result, Ok, Err, ℕ, ◌≤◌, ◌<◌, List, length, get_or, drop, set}
 use Rattle.std.proofs.Math.Option.{Option, none, some}
-use Rattle.meaning.specs.Word.{Word, field, input, span, sum, relu, which, max, root, kind_of, most_numbers}
 use Rattle.meaning.specs.Line.{Line}
 use Rattle.meaning.specs.Known.{Known}
 use Rattle.meaning.specs.Meaning.{after}
 use Rattle.meaning.specs.Refusal.{on_some, rules, first_broken, value_limit}
-use Rattle.text.specs.Word.{word_of}
-use Rattle.text.specs.declared.Word.{Word as WordYield}
-use Rattle.rules.specs.Ready.{Small}
-use Rattle.rules.specs.Yield.{Yield, yield_of, span_yield}
 use Rattle.reader.specs.State.{state_of}
-use Rattle.reader.specs.Size.{Few}
-use Rattle.rules.specs.declared.rule.Ends.{Ends}
-use Rattle.rules.specs.declared.rule.Made.{Made}
-use Rattle.rules.specs.declared.rule.Made.TheVariants.{EndsOf, Breaks}
-use Rattle.reader.specs.declared.state.Counts.{Counts}
-use Rattle.reader.specs.declared.state.Stepped.{Stepped}
-use Rattle.reader.specs.declared.state.Stepped.TheVariants.{Next, Refused}
-
--- a line as the line reader gives it: as many numbers as belong to its word, the first ones of an array with room for the most
-pub record ParsedLine (w : WordYield) (count : ℕ) (numbers : List ℤ) : Type 0 where
-  pub numbers-long : length numbers ≡ most_numbers
-  pub counted : (kind_of (word_of w)).is_counted (take count numbers) ≡ true
-  pub most : count ≤ most_numbers
-  pub small : Small count numbers
-
--- the first rule that a line breaks, or the ends of the value that it makes, or narrows, for every kind
-unfoldable pub yield_by : Word → Known → Line → Yield
-yield_by field s l = yield_of s l
-yield_by input s l = yield_of s l
-yield_by span s l = span_yield s l
-yield_by sum s l = yield_of s l
-yield_by relu s l = yield_of s l
-yield_by which s l = yield_of s l
-yield_by max s l = yield_of s l
-yield_by root s l = yield_of s l
-
-unfoldable pub line_yield : Known → Line → Yield
-line_yield s l = yield_by l.word s l
+use Rattle.rules.specs.Ready.{BoundedEnds, greatest}
+use Rattle.rules.specs.declared.ends.Ends.{Ends}
+use Rattle.refusal.specs.declared.refused.Refusal.{Refusal}
+use Rattle.refusal.specs.Refusal.{number_of}
+use Rattle.reader.specs.declared.counts.Counts.{Counts}
+use Rattle.reader.specs.declared.state.State.{State}
 
 -- the refusal of a line, or what is known after it
 pub data Step : Type 0 where
@@ -54,44 +27,22 @@ unfoldable pub step_option : ℕ → Known → Option Line → Step
 step_option n s none = stops 3
 step_option n s (some l) = step_of n s l
 
-unfoldable pub step_meaning : ℕ → Stepped → (lows highs : List ℤ) (places : List ℕ) → Step
-step_meaning p (Next c) lows highs places = goes (state_of p c lows highs places)
-step_meaning p (Refused n) lows highs places = stops n
+abbrev pub step_meaning : State → Result Unit Refusal → (places : List ℕ) → Step
+step_meaning after (Ok done) places = goes (state_of after places)
+step_meaning after (Err broken) places = stops (number_of broken)
 
 -- the cells of the values after a line: its own first cell stands behind them, and counts where the line makes a value
 unfoldable pub placed_at : Counts → List ℕ → List ℕ
 placed_at c places = set places c.values c.cells.0
 
--- what taking in a line answers: the counts after it, or its refusal
-unfoldable pub answered : Made → Counts → Stepped
-answered (EndsOf e) c = Next c
-answered (Breaks n) c = Refused n
+-- what a line leaves of the state: all of it where the line is refused, and else what stands in the array past the values, of which there is then room
+abbrev pub Left : Result Unit Refusal → State → State → Type 0
+Left (Ok done) before after = (after.counts.values ≤ value_limit) × (drop after.counts.values after.ends ≡ drop after.counts.values before.ends)
+Left (Err broken) before after = after ≡ before
 
--- a lent array after that: it has the line's entry at a place, and is as it was where the line is refused
-unfoldable pub entered : {A : Type 0} → Made → (at : ℕ) → (entry : Ends → A) → List A → List A
-entered (EndsOf e) at entry xs = set xs at (entry e)
-entered (Breaks n) at entry xs = xs
-
--- the part of a lent array that a line leaves as it was: all of it where the line is refused, and else what stands past the values
-unfoldable pub untouched : {A : Type 0} → Stepped → List A → List A
-untouched (Next c) xs = drop c.values xs
-untouched (Refused n) xs = xs
-
--- a lent array before and after a line. What it has for the values is in the state that `step_meaning` reads, so that the two say all of it
-pub record Left {A : Type 0} (r : Stepped) (before after : List A) : Type 0 where
-  pub long : length after ≡ length before
-  pub same : untouched r after ≡ untouched r before
-
-unfoldable pub value_count : Stepped → ℕ
-value_count (Next c) = c.values
-value_count (Refused n) = 0
-
--- arrays of 256, and few counts
-pub record WithinLimits (c : Counts) (lows highs : ℕ) : Type 0 where
-  pub lows-long : lows ≡ value_limit
-  pub highs-long : highs ≡ value_limit
-  pub few : Few c
-
--- where a line has ends, its place is one of the arrays'
-abbrev pub PlaceInside : Made → ℕ → Type 0
-PlaceInside made at = (e : Ends) → made ≡ EndsOf e → at < value_limit
+-- and p, and that the known ends are small. What the array has for the values is in the state that `step_meaning` reads, so that the two say all of it
+pub record Stepped (r : Result Unit Refusal) (before after : State) : Type 0 where
+  pub prime : after.p ≡ before.p
+  pub long : length after.ends ≡ length before.ends
+  pub left : Left r before after
+  pub sized : (i : ℕ) (d : Ends) → i < after.counts.values → BoundedEnds greatest (get_or after.ends i d)

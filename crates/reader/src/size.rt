@@ -1,15 +1,15 @@
 // How many values, inputs, cells and rows a line has. It goes by the line's word and digit count alone, so that reading counts them
 // with the same function as the walks over a list that was read.
-ghost use Rattle.std.specs.Prelude.{◌≡◌, true, ℕ, ◌≤◌, ◌<◌, length, take};
-ghost use Rattle.meaning.specs.Word.{kind_of, most_numbers};
+ghost use Rattle.std.specs.Prelude.{◌≡◌, true, ℕ, ◌≤◌};
+ghost use Rattle.meaning.specs.Word.{kind_of};
 ghost use Rattle.meaning.specs.Known.{Known};
 ghost use Rattle.meaning.specs.Kept.{Keeps};
 ghost use Rattle.text.specs.Word.{word_of};
 ghost use Rattle.rules.specs.Yield.{line_with};
 ghost use Rattle.reader.specs.Size.{counted, Adds, FewCounts, DigitCount, DigitSize};
 
-use super::state::Counts;
-use number::cell::nth_cell;
+use super::counts::Counts;
+use number::Cell;
 use number::whole::{Whole, natural, whole_at};
 use text::Word;
 
@@ -17,8 +17,7 @@ use text::Word;
 fn digit_count(k: Whole) -> usize
     ensures { DigitCount k.0 result }
 {
-    let count = natural(k);
-    if 31 < count { 31 } else { count }
+    natural(k).min(31)
 }
 
 pub fn counts_of(values: usize, inputs: usize, cells: usize, rows: usize) -> Counts
@@ -27,12 +26,12 @@ pub fn counts_of(values: usize, inputs: usize, cells: usize, rows: usize) -> Cou
     Counts {
         values: values,
         inputs: inputs,
-        cells: nth_cell(cells),
+        cells: Cell::from(cells),
         rows: rows,
     }
 }
 
-// The counts of a line whose digit count stands at a place: it makes so many values, has no input, and for each digit it has `each` cells and
+// The counts of a line whose digit count stands at a place, and is 0 where its numbers end before: it makes so many values, has no input, and for each digit it has `each` cells and
 // as many rows, with so many cells and rows more.
 fn digit_size(
     numbers: &[i64],
@@ -42,18 +41,22 @@ fn digit_size(
     cells: usize,
     rows: usize,
 ) -> Counts
-    requires { (at < length numbers.now) × (each ≤ 4) × (cells ≤ 3) × (rows ≤ 5) }
+    requires { (each ≤ 4) × (cells ≤ 3) × (rows ≤ 5) }
     ensures { DigitSize numbers.now at values each cells rows result }
 {
-    let digits = each * digit_count(whole_at(numbers, at));
+    let count = if at < numbers.len() {
+        digit_count(whole_at(numbers, at))
+    } else {
+        0
+    };
+    let digits = each * count;
     counts_of(values, 0, digits + cells, digits + rows)
 }
 
 // How much a line adds to the counts of a list: its values, inputs, cells and rows. The walks over a list that was read go by it.
 pub fn line_size(word: Word, numbers: &[i64]) -> Counts
-    requires { length numbers.now ≡ most_numbers }
-    ensures yields { (n count : ℕ) (s : Known) → (kind_of (word_of word)).is_counted (take count numbers.now) ≡ true
-        → Keeps n s (line_with (word_of word) (take count numbers.now)) → Adds s (line_with (word_of word) (take count numbers.now)) result }
+    ensures yields { (n : ℕ) (s : Known) → (kind_of (word_of word)).is_counted numbers.now ≡ true
+        → Keeps n s (line_with (word_of word) numbers.now) → Adds s (line_with (word_of word) numbers.now) result }
     ensures small { FewCounts result }
 {
     match word {

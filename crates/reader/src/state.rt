@@ -1,62 +1,106 @@
-// What is known before a line: how many values, inputs, cells and rows the lines so far have. The ends of the values are in arrays
-// beside it, which the outermost call lends: the first ones, as many as there are values. They are plain numbers there, written by `enter`.
-ghost use Rattle.std.specs.Prelude.{◌≡◌, length};
-ghost use Rattle.reader.specs.Size.{added, Few, FewCounts};
-ghost use Rattle.reader.specs.Step.{PlaceInside, WithinLimits, answered, entered};
+// What is known before a line in reading, and what the line does to it: its numbers and what is known go to the rules of its kind, and the ends
+// that these answer with are taken in. The walks over a list that was read test no rule again, and do not come here.
+ghost use Rattle.std.specs.Prelude.{◌≡◌, IfOk, get_or, pos, nat_abs, ◌≤ℤ◌};
+ghost use Rattle.meaning.specs.Known.{Known as Meant};
+ghost use Rattle.text.specs.Word.{word_of};
+ghost use Rattle.rules.specs.Ready.{Represented, BoundedEnds, greatest};
+ghost use Rattle.rules.specs.Yield.{made_meaning, line_with};
+ghost use Rattle.text.specs.declared.Word.TheVariants.{Span};
+ghost use Rattle.reader.specs.Line.{ParsedLine, NotSpan, line_yield};
 
-use number::cell::{Cell, cell_after, cell_number};
-use number::whole::set_whole;
-use rules::Made;
+use super::counts::{Counts, counts_with};
+use super::size::{counts_of, line_size};
+use number::whole::{Whole, natural, whole_at};
+use refusal::Refusal;
+use rules::{
+    Ends, Known, read_input, read_max, read_relu, read_root, read_span, read_sum, read_which,
+};
+use text::Word;
 
-// The counts of the first lines of a list, or of one line alone.
-#[derive(Clone, Copy)]
-pub struct Counts {
-    pub values: usize,
-    pub inputs: usize,
-    // The number of the first cell after them, which is how many they have.
-    pub cells: Cell,
-    pub rows: usize,
-}
-
-// These counts with those of one more line.
-pub fn counts_with(counts: Counts, size: Counts) -> Counts
-    requires { Few counts × FewCounts size }
-    ensures { result ≡ added counts size }
+// The ends of the value that a line makes, or narrows, or the first rule that it breaks.
+fn read_ends(word: Word, numbers: &[i64], known: Known) -> Result<Ends, Refusal>
+    requires { ParsedLine word numbers.now }
+    ensures yields { (s : Meant) → Represented s known.entry.p known.entry.cells known.entry.ends.now
+        → made_meaning result ≡ line_yield s (line_with (word_of word) numbers.now) }
+    ensures sized { IfOk result (BoundedEnds greatest) }
 {
-    Counts {
-        values: counts.values + size.values,
-        inputs: counts.inputs + size.inputs,
-        cells: cell_after(counts.cells, cell_number(size.cells)),
-        rows: counts.rows + size.rows,
+    match word {
+        Word::Field => Err(Refusal::FieldLineMisplaced),
+        Word::In => read_input(known),
+        Word::Span => read_span(known, numbers),
+        Word::Sum => read_sum(known, numbers),
+        Word::Relu => read_relu(known, numbers),
+        Word::Which => read_which(known, numbers),
+        Word::Max => read_max(known, numbers),
+        Word::Root => read_root(known, numbers),
     }
 }
 
-// The counts after a line, or the number of its refusal.
-#[derive(Clone, Copy)]
-pub enum Stepped {
-    Next(Counts),
-    Refused(u32),
+// The number of the value that a line makes, which comes after the others, or of the value that a span line names.
+fn value_at(word: Word, numbers: &[i64], values: usize) -> usize
+    requires { ParsedLine word numbers.now }
+    ensures span { word ≡ Span → pos 0 ≤ℤ get_or numbers.now 0 (pos 0) → result ≡ nat_abs (get_or numbers.now 0 (pos 0)) }
+    ensures other { NotSpan (word_of word) → result ≡ values }
+{
+    match word {
+        Word::Span => natural(whole_at(numbers, 0)),
+        _ => values,
+    }
 }
 
-// Takes in a line with these ends: they are those of the value called `at`, which the line makes, or narrows.
-pub fn enter(
-    made: Made,
-    at: usize,
-    size: Counts,
-    counts: Counts,
-    lows: &mut [i64],
-    highs: &mut [i64],
-) -> Stepped
-    requires { WithinLimits counts (length lows.old) (length highs.old) × FewCounts size × PlaceInside made at }
-    ensures { (result ≡ answered made (added counts size)) × (lows.new ≡ entered made at (λ e. e.low.0) lows.old)
-        × (highs.new ≡ entered made at (λ e. e.high.0) highs.old) }
-{
-    match made {
-        Made::Breaks(n) => Stepped::Refused(n),
-        Made::EndsOf(ends) => {
-            set_whole(lows, at, ends.low);
-            set_whole(highs, at, ends.high);
-            Stepped::Next(counts_with(counts, size))
+// p, the counts of the lines so far, and the ends of their values, which are the first ones of the array.
+#[derive(Clone, Copy)]
+pub struct State {
+    pub p: u32,
+    pub counts: Counts,
+    pub ends: [Ends; 256],
+}
+
+impl State {
+    ghost use Rattle.std.specs.Prelude.{◌≡◌, ◌≤◌, ℕ, List, length, IfOk};
+    ghost use Rattle.meaning.specs.Known.{Known as Meant};
+    ghost use Rattle.meaning.specs.Refusal.{value_limit};
+    ghost use Rattle.text.specs.Word.{word_of};
+    ghost use Rattle.rules.specs.Ready.{greatest};
+    ghost use Rattle.rules.specs.Yield.{line_with};
+    ghost use Rattle.reader.specs.Line.{ParsedLine};
+    ghost use Rattle.reader.specs.Size.{counted};
+    ghost use Rattle.reader.specs.State.{state_of, WithinLimits};
+    ghost use Rattle.reader.specs.Step.{placed_at, step_meaning, step_of, Stepped};
+
+    // Over p nothing else is known.
+    pub fn over(p: u32) -> State
+        ensures prime { result.p ≡ p }
+        ensures counts { result.counts ≡ counted 0 0 0 0 }
+        ensures long { length result.ends ≡ value_limit }
+    {
+        let zero = Ends {
+            low: Whole::from(0u32),
+            high: Whole::from(0u32),
+        };
+        State {
+            p,
+            counts: counts_of(0, 0, 0, 0),
+            ends: [zero; 256],
         }
+    }
+
+    // What a line with this word and these numbers does to what is known. Where the line comes from, text or not, is for the caller.
+    pub fn step(&mut self, word: Word, numbers: &[i64]) -> Result<(), Refusal>
+        requires { WithinLimits self.old × ParsedLine word numbers.now }
+        ensures yields { (s : Meant) (places : List ℕ) → length places ≡ value_limit → s ≡ state_of self.old places
+            → step_meaning self.new result (placed_at self.old.counts places) ≡ step_of 1 s (line_with (word_of word) numbers.now) }
+        ensures held { Stepped result self.old self.new }
+    {
+        let known = Known {
+            p: self.p,
+            cells: usize::from(self.counts.cells),
+            ends: &self.ends[..self.counts.values],
+        };
+        let ends = read_ends(word, numbers, known)?;
+        let at = value_at(word, numbers, self.counts.values);
+        self.ends[at] = ends;
+        self.counts = counts_with(self.counts, line_size(word, numbers));
+        Ok(())
     }
 }

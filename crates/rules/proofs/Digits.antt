@@ -1,34 +1,31 @@
 -- A base and a digit count: what rule 6 says of them as whole numbers, what the code's answer says, and the digit rule, whose shift -B
 -- the code takes from b^(k-1).
-use mathlib.Core.Path.{◌≡◌, refl, sym, ap, ◌∙◌}
+use mathlib.Core.Path.{◌≡◌, refl, sym, ◌∙◌}
 use mathlib.Core.Logic.{◌⊎◌, inl, inr, ⊎_elim}
-use mathlib.Core.Bool.{Bool, true, false, cond, ◌&&◌, and-false}
-use mathlib.Core.List.{[], ◌∷◌}
-use Prim.Native.Nat.{ℕ, zero, suc, ◌+◌, ◌-◌, ◌*◌, ◌^◌, ◌≤◌, ◌<◌}
+use mathlib.Core.Bool.{Bool, true, false, cond, ◌&&◌}
+use Prim.Native.Nat.{ℕ, zero, suc, ◌-◌, ◌*◌, ◌^◌, ◌≤◌, ◌<◌}
 use native.Mathlib.Omega.{arith}
-use native.Mathlib.Nat.{pow-zero, pow-suc, pow-le-pow_right, one-le-pow, mul-le-mul_left, mul-le-mul_right, one-mul, mul-one}
+use native.Mathlib.Nat.{pow-zero, pow-suc, pow-le-pow_right, one-le-pow, mul-le-mul_left, one-mul, mul-one}
 use lib.Dec.{T, leb, leb→le}
 use lib.IntN.{ℤ, pos, negsuc, nat_abs}
 use lib.Signed.{non_neg}
 use mir.Syntax.{w64}
 use mir.Val.{Fits}
-use borrow.Author.Tests.{le-leb, lt-leb}
+use borrow.Author.Tests.{le-leb, lt-leb, leb-true, leb-false}
 use Rattle.meaning.specs.Machine.{past_u32}
 use Rattle.algebra.proofs.Test.{≡-test, left, right}
 use Rattle.algebra.proofs.Digits.{less_one}
-use Rattle.meaning.specs.Number.{half}
-use Rattle.meaning.specs.Word.{Digits as Meant}
-use Rattle.meaning.specs.Known.{Ends, ends, digit_rule, top_part}
-use Rattle.meaning.specs.Refusal.{value, refused_by, is_digits, most_digits}
+use Rattle.meaning.specs.Known.{Ends, digit_rule, top_part}
+use Rattle.meaning.specs.Refusal.{is_digits, most_digits}
 use Rattle.number.specs.Power.{capped_power}
-use Rattle.number.specs.declared.power.Power.{Power as PowerRead}
-use Rattle.number.specs.declared.power.Power.TheVariants.{Of as PowerOf, AboveCap}
 use Rattle.number.proofs.Word.{wide-product}
-use Rattle.number.proofs.CappedPower.{of-capped, above-capped, power-one}
-use Rattle.rules.specs.declared.rule.DigitsFound.{DigitsFound}
-use Rattle.rules.specs.declared.rule.DigitsFound.TheVariants.{Of, NoDigits}
-use Rattle.rules.specs.Yield.{refuses, makes}
-use Rattle.rules.specs.Rule.{digits_allowed, digits_meaning, narrow, root_yield}
+use Rattle.number.proofs.Bounded.{bounded-negation}
+use Rattle.number.proofs.CappedPower.{some-capped, none-capped, power-one}
+use Rattle.std.specs.Prelude.{Option, Some, None, IfOk, IfErr}
+use Rattle.std.specs.Option.{ok_or}
+use Rattle.refusal.specs.declared.refused.Refusal.TheVariants.{DigitsTooWide}
+use Rattle.rules.specs.Rule.{narrow}
+use Rattle.rules.specs.Digits.{PowerWithin}
 
 -- ---- what rule 6 says
 
@@ -56,53 +53,36 @@ allowed (negsuc b) k t = absurd t
 pub digits-allowed : (b k : ℤ) → is_digits (record { b = b; k = k }) ≡ true → Allowed b k
 digits-allowed b k e = allowed b k (≡-test (is_digits (record { b = b; k = k })) e)
 
--- ---- what the code's answer says
-
-value-cond : {A : Type 0} (t : Bool) (n : ℕ) (x y : A) → value x ≡ cond t (value y) (refused_by n) → (t ≡ true) × (x ≡ y)
-value-cond true n x y e = (refl, (cc))
-value-cond false n x y e = let z : ◌≡◌ {A = ℕ} 0 1 = cc in absurd (omega arith)
-
-refused-cond : {A : Type 0} (t : Bool) (n m : ℕ) (y : A) → refused_by n ≡ cond t (value y) (refused_by m) → t ≡ false
-refused-cond true n m y e = let z : ◌≡◌ {A = ℕ} 0 1 = cc in absurd (omega arith)
-refused-cond false n m y e = refl
-
-pub record Read (x y : ℤ) (b k : ℕ) : Type 0 where
-  pub digits : is_digits (record { b = x; k = y }) ≡ true
-  pub base-is : b ≡ nat_abs x
-  pub count-is : k ≡ nat_abs y
-  pub base-two : 2 ≤ b
-  pub count-one : 1 ≤ k
-  pub count_most : k ≤ most_digits
-
-pub digits-read : (x y : ℤ) {r : DigitsFound} {b k : ℕ} → r ≡ Of b k → digits_meaning r ≡ digits_allowed x y → Read x y b k
-unfolding digits_meaning digits_allowed
-digits-read x y {r} {b} {k} q e =
-    let w = value-cond (is_digits (record { b = x; k = y })) 6 (record { b = pos b; k = pos k }) (record { b = x; k = y }) (rw q at e) in
-    let base-is : b ≡ nat_abs x = ap (λ (d : Meant). nat_abs d.b) w.1 in
-    let count-is : k ≡ nat_abs y = ap (λ (d : Meant). nat_abs d.k) w.1 in
-    let a = digits-allowed x y w.0 in
-    record { digits = w.0; base-is = base-is; count-is = count-is; base-two = omega arith; count-one = omega arith; count_most = omega arith }
-
-pub digits-none : (x y : ℤ) {r : DigitsFound} → r ≡ NoDigits → digits_meaning r ≡ digits_allowed x y → is_digits (record { b = x; k = y }) ≡ false
-unfolding digits_meaning digits_allowed
-digits-none x y q e = refused-cond (is_digits (record { b = x; k = y })) 6 6 (record { b = x; k = y }) (rw q at e)
-
 -- ---- c = b^k
 
-pub record Power (p b k c : ℕ) : Type 0 where
-  pub power : c ≡ b ^ k
-  pub positive : 1 ≤ c
-  pub within : c ≤ p
+module _ (p b k : ℕ) where
+  within_by : (t : Bool) → leb (b ^ k) p ≡ t → 1 ≤ b → IfOk (ok_or (cond t (Some (b ^ k)) None) DigitsTooWide) (λ c. PowerWithin p b k c)
+  within_by true e h = record { power = refl; positive = one-le-pow k b h; within = leb-true (b ^ k) p e }
+  within_by false e h = tt
 
-module _ (p b k : ℕ) {r : PowerRead} (yields : r ≡ capped_power b k p) where
-  pub power-above : r ≡ AboveCap → p < b ^ k
-  power-above q = above-capped b k p (sym q ∙ yields)
+  above_by : (t : Bool) → leb (b ^ k) p ≡ t → IfErr (ok_or (cond t (Some (b ^ k)) None) DigitsTooWide) (λ broken. (broken ≡ DigitsTooWide) × (p < b ^ k))
+  above_by true e = tt
+  above_by false e = (refl, leb-false (b ^ k) p e)
 
-  pub power-within : {c : ℕ} → 1 ≤ b → r ≡ PowerOf c → Power p b k c
-  power-within {c} h q =
-      let w = of-capped b k p c (sym q ∙ yields) in
-      let l : 1 ≤ b ^ k = one-le-pow k b (omega arith) in
+  -- what `Digits::power` answers
+  pub power_within : 1 ≤ b → IfOk (ok_or (capped_power b k p) DigitsTooWide) (λ c. PowerWithin p b k c)
+  unfolding capped_power
+  power_within h = within_by (leb (b ^ k) p) refl h
+
+  pub power_above : IfErr (ok_or (capped_power b k p) DigitsTooWide) (λ broken. (broken ≡ DigitsTooWide) × (p < b ^ k))
+  unfolding capped_power
+  power_above = above_by (leb (b ^ k) p) refl
+
+-- the same of `capped_power` alone
+module _ (p b k : ℕ) {r : Option ℕ} where
+  pub short-power : {c : ℕ} → 1 ≤ b → r ≡ capped_power b k p → r ≡ Some c → PowerWithin p b k c
+  short-power {c} h yields q =
+      let w = some-capped b k p c (sym q ∙ yields) in
+      let l : 1 ≤ b ^ k = one-le-pow k b h in
       record { power = w.0; positive = omega arith; within = omega arith }
+
+  pub shorter-above : r ≡ capped_power b k p → r ≡ None → p < b ^ k
+  shorter-above yields q = none-capped b k p (sym q ∙ yields)
 
 -- ---- the digit rule
 
@@ -111,9 +91,12 @@ module _ (p b k : ℕ) (es : Ends) (shift : ℤ) where
   unfolding digit_rule
   rule-above h = rw (lt-leb (b ^ k) p h)
 
-  pub rule-within : {c : ℕ} → Power p b k c → digit_rule p b k es shift ≡ narrow p c es shift
+  pub rule-within : {c : ℕ} → PowerWithin p b k c → digit_rule p b k es shift ≡ narrow p c es shift
   unfolding digit_rule
   rule-within {c} r = let h : b ^ k ≤ p = omega (arith, r.power, r.within) in rw (r.power, le-leb (b ^ k) p h)
+
+-- where c is above p, and where it is at most p
+pub ruleset digit_rules = (rule-above, rule-within)
 
 -- ---- B, from part = b^(k-1)
 
@@ -131,11 +114,11 @@ short-or-wide b (suc zero) h l = inl (pow-zero b)
 short-or-wide b (suc (suc k)) h l =
     let most : b ^ 1 ≤ b ^ (suc (suc k) - 1) = pow-le-pow_right h (omega arith) in inr (omega (arith, power-one b))
 
-module _ {p b k part : ℕ} (base : 1 ≤ b) (one : 1 ≤ k) (r : Power p b (k - 1) part) where
+module _ {p b k part : ℕ} (base : 1 ≤ b) (one : 1 ≤ k) (r : PowerWithin p b (k - 1) part) where
   pub part-power : part * b ≡ b ^ k
   part-power = rw r.power (power-step b k one)
 
-  pub part-within : part * b ≤ p → Power p b k (part * b)
+  pub part-within : part * b ≤ p → PowerWithin p b k (part * b)
   part-within h = let l : 1 ≤ b ^ k = one-le-pow k b base in record { power = part-power; positive = omega (arith, part-power); within = h }
 
   pub part-less : part ≤ part * b
@@ -152,21 +135,4 @@ module _ {p b k part : ℕ} (base : 1 ≤ b) (one : 1 ≤ k) (r : Power p b (k -
       (λ l. wide-product {a = part} {b = b} (omega (arith, r.within)) (omega (arith, r.power, r.within)))
       (short-or-wide b k base one)
 
--- ---- the root rule
-
-module _ (p c : ℕ) where
-  pub root-low : c < 3 → root_yield p c ≡ refuses 10
-  unfolding root_yield
-  root-low h = rw (lt-leb 3 c h)
-
-  pub root-wide : half p + 1 < c * c → root_yield p c ≡ refuses 10
-  unfolding root_yield
-  root-wide h = rw (lt-leb (c * c) (half p + 1) h, and-false (leb 3 c))
-
-  pub root-above : p < c → 3 ≤ p → root_yield p c ≡ refuses 10
-  unfolding half
-  root-above h three = root-wide (let l : 1 * c ≤ c * c = mul-le-mul_right c (omega arith) in omega (arith, one-mul c))
-
-  pub root_kept : 3 ≤ c → c * c ≤ half p + 1 → root_yield p c ≡ makes (ends (pos 0) (pos (c - 1)) ∷ [])
-  unfolding root_yield
-  root_kept h k = rw (le-leb 3 c h, le-leb (c * c) (half p + 1) k)
+pub ruleset sign_rules = (rule-above, rule-within, step-above, part-power, part-within, part-less, top-part, part-fits, bounded-negation)

@@ -3,21 +3,24 @@ use mathlib.Core.Path.{◌≡◌, refl, sym, ◌∙◌}
 use mathlib.Core.Bool.{true, false}
 use mathlib.Core.List.{List, [], ◌∷◌}
 use Prim.Native.Nat.{ℕ}
-use lib.IntN.{ℤ}
+use Rattle.std.specs.Prelude.{Result}
+use Rattle.refusal.specs.declared.refused.Refusal.{Refusal}
+use lib.ListN.{length}
 use Rattle.meaning.specs.Number.{lowest, highest}
 use Rattle.meaning.specs.Word.{input, kind_of}
 use Rattle.meaning.specs.Known.{ends, Known}
 use Rattle.meaning.specs.Gadget.Input.{input_line}
 use Rattle.meaning.specs.Meaning.{gadget}
 use Rattle.meaning.specs.Refusal.{all, is_ranged}
-use Rattle.rules.specs.Ready.{Ready, Represented}
+use Rattle.rules.specs.Ready.{Represented}
+use Rattle.rules.specs.declared.ends.Ends.{Ends}
 use Rattle.rules.specs.Yield.{makes, yield_of, line_with}
 use Rattle.rules.specs.Rule.{early_broken}
 use Rattle.rules.proofs.Values.{known-count}
 use Rattle.rules.proofs.Rules.{late, yield_unless, early_of, yield-by-rules}
 
-module _ {p values cells : ℕ} {lows highs : List ℤ} (ready : Ready p values cells lows highs) {s : Known} (meaning : Represented s p values cells lows highs)
-    {n : ℕ} (early : n ≡ early_broken true values 1 cells 1) where
+module _ {p cells : ℕ} {known : List Ends} {s : Known} (meaning : Represented s p cells known)
+    {n : Result Unit Refusal} (early : n ≡ early_broken true (length known) 1 cells 1) where
   input-plain : (kind_of input).is_field ≡ false
   unfolding kind_of
   input-plain = refl
@@ -28,7 +31,7 @@ module _ {p values cells : ℕ} {lows highs : List ℤ} (ready : Ready p values 
 
   early-too : early_of s input [] ≡ n
   unfolding kind_of input_line all
-  early-too = rw (known-count ready meaning, meaning.cells_are) (sym early)
+  early-too = rw (known-count meaning, meaning.cells_are) (sym early)
 
   pub input-yield : yield_of s (line_with input []) ≡ yield_unless n (makes (ends (lowest p) (highest p) ∷ []))
   unfolding yield_of gadget kind_of late input_line

@@ -7,3 +7,4 @@ pub mod Rules
 pub mod Inputs
 pub mod DigitLines
 pub mod SumLine
+pub mod Pairs

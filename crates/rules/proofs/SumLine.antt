@@ -1,11 +1,10 @@
 -- What a sum line yields: its coefficients and its names are every other number, and its ends are taken term by term.
 use mathlib.Core.Path.{◌≡◌, refl, sym, ap, ◌∙◌}
-use mathlib.Core.Bool.{Bool, true, false, cond, ◌&&◌}
-use mathlib.Core.List.{List, [], ◌∷◌}
-use Prim.Native.Nat.{ℕ, zero, suc, ◌+◌, ◌≤◌, ◌<◌}
+use mathlib.Core.Bool.{Bool, true, false, cond}
+use mathlib.Core.List.{List, [], ◌∷◌, ◌++◌}
+use Prim.Native.Nat.{ℕ, suc, ◌%◌, ◌≤◌, ◌<◌}
 use native.Mathlib.Omega.{arith}
-use lib.ListN.{length, get_or, take, drop, drop_of_length-le}
-use lib.Seq.{drop-cons, length-take-le, get_or-take}
+use lib.ListN.{length, get_or, drop}
 use lib.IntN.{ℤ, pos, nat_abs}
 use Rattle.algebra.proofs.Test.{≡-test}
 use Rattle.meaning.specs.Word.{sum, number_at, alternate, without_first, kind_of}
@@ -17,15 +16,18 @@ use Rattle.meaning.specs.Refusal.{all, is_ranged, is_made}
 use Rattle.meaning.proofs.Order.{between-iff}
 use Rattle.number.specs.Bounded.{Bounded}
 use Rattle.number.proofs.Bounded.{bounded-range, bounded-more}
-use Rattle.rules.specs.declared.rule.Ends.{Ends as ReadEnds}
-use Rattle.rules.specs.Ready.{greatest, Ready, Represented}
+use Rattle.rules.specs.declared.ends.Ends.{Ends as ReadEnds}
+use Rattle.rules.specs.Ready.{BoundedEnds, greatest, Small, Represented, ends_at}
 use Rattle.rules.specs.Yield.{refuses, makes, yield_of, line_with, ends_meaning}
-use Rattle.rules.specs.Rule.{early_broken, EndsRead, BoundedEnds}
-use Rattle.rules.specs.Sum.{ends_at, sum_yield}
-use Rattle.rules.proofs.Tests.{both_true, made-name}
+use Rattle.rules.specs.Rule.{early_broken}
+use Rattle.rules.specs.Sum.{sum_yield}
+use Rattle.rules.proofs.Pairs.{without-drop}
+use Rattle.rules.proofs.Tests.{both_true}
 use Rattle.rules.proofs.Values.{known-count, known-ends}
-use Rattle.rules.proofs.Rules.{late, yield_unless, unless-broken, early_of, yield-by-rules, early-named}
-use Rattle.rules.proofs.DigitLines.{number-taken}
+use Rattle.rules.proofs.Rules.{late, yield_unless, early_of, yield-by-rules, early-named}
+use Rattle.std.specs.Prelude.{Result, Ok, Err}
+use Rattle.refusal.specs.Refusal.{number_of}
+use Rattle.refusal.specs.declared.refused.Refusal.{Refusal}
 
 pub all_first : (f : ℤ → Bool) (x : ℤ) (xs : List ℤ) → all f (x ∷ xs) ≡ true → f x ≡ true
 unfolding all
@@ -33,96 +35,89 @@ all_first f x xs e = (both_true (f x) (all f xs) e).0
 
 -- ---- every other number
 
-pub without-drop : (l : List ℤ) (i : ℕ) → without_first (drop i l) ≡ drop (suc i) l
-unfolding without_first
-without-drop [] zero = refl
-without-drop [] (suc i) = refl
-without-drop (x ∷ xs) zero = refl
-without-drop (x ∷ xs) (suc i) = without-drop xs i
-
 alternate-cons : (x : ℤ) (xs : List ℤ) → alternate (x ∷ xs) ≡ x ∷ alternate (without_first xs)
 unfolding alternate without_first
 alternate-cons x [] = refl
 alternate-cons x (y ∷ ys) = refl
 
-alternate-at : (l : List ℤ) (i : ℕ) → i < length l → alternate (drop i l) ≡ get_or l i (pos 0) ∷ alternate (drop (i + 2) l)
-alternate-at l i h =
-    let two : i + 2 ≡ suc (suc i) = omega arith in
-    rw (drop-cons l i (pos 0) h, alternate-cons (get_or l i (pos 0)) (drop (suc i) l), without-drop l (suc i), two)
-
--- a test of every other one of the first numbers, from a place on
-module _ (f : ℤ → Bool) (numbers : List ℤ) (count i : ℕ) (enough : count ≤ length numbers) where
-  pub all_end : count ≤ i → all f (alternate (drop i (take count numbers))) ≡ true
-  unfolding all alternate
-  all_end h =
-      let short : length (take count numbers) ≤ i = omega (arith, length-take-le count numbers enough) in
-      rw (drop_of_length-le (take count numbers) short)
-
-  all-at : i < count
-      → all f (alternate (drop i (take count numbers))) ≡ (f (get_or numbers i (pos 0)) && all f
-      (alternate (drop (i + 2) (take count numbers))))
-  unfolding all
-  all-at h = rw (
-    alternate-at (take count numbers) i (omega (arith, length-take-le count numbers enough)),
-    get_or-take count numbers i
-        (pos 0) h,
-  )
-
-  pub all-next : i < count → f (get_or numbers i (pos 0)) ≡ true
-      → all f (alternate (drop i (take count numbers))) ≡ all f (alternate (drop (i + 2) (take count numbers)))
-  all-next h kept = all-at h ∙ rw kept
-
-  pub all-fails : i < count → f (get_or numbers i (pos 0)) ≡ false → all f (alternate (drop i (take count numbers))) ≡ false
-  all-fails h broken = all-at h ∙ rw broken
-
-  -- where all pass, so does this one, and those after it
-  pub all_here : i < count → all f (alternate (drop i (take count numbers))) ≡ true
-      → (f (get_or numbers i (pos 0)) ≡ true) × (all f (alternate (drop (i + 2) (take count numbers))) ≡ true)
-  all_here h e = both_true (f (get_or numbers i (pos 0))) (all f (alternate (drop (i + 2) (take count numbers)))) (sym (all-at h) ∙ e)
-
 -- ---- one term
 
-pub read_at : {lows highs : List ℤ} {z : ℤ} {e : ReadEnds} → EndsRead lows highs z e → ends_meaning e ≡ ends_at lows highs (nat_abs z)
-unfolding ends_meaning ends_at
-read_at read = rw (read.low_read, read.high_read)
+-- the ends so far and the pairs that are left say what the whole sum says
+pub record Summing (p : ℕ) (known : List ReadEnds) (numbers : List ℤ) (so_far : Ends) (rest : List ℤ) : Type 0 where
+  pub even : length rest % 2 ≡ 0
+  pub ranged : ends_in_range p so_far ≡ true
+  pub made : all (is_made (length known)) (alternate (without_first rest)) ≡ true
+  pub small : Small (length rest) rest
+  pub left : sum_yield p known (ends (get_or numbers 0 (pos 0)) (get_or numbers 0 (pos 0))) (terms_of (drop 1 numbers)) ≡ sum_yield p known so_far (terms_of rest)
 
-pub terms-at : (numbers : List ℤ) (count i : ℕ) → count ≤ length numbers → i + 1 < count → terms_of (drop i (take count numbers))
-    ≡ record { coefficient = get_or numbers i (pos 0); value = nat_abs (get_or numbers (i + 1) (pos 0)) } ∷ terms_of (drop (i + 2) (take count numbers))
-unfolding terms_of
-terms-at numbers count i enough h =
-    let size = length-take-le count numbers enough in
-    let one : i + 1 ≡ suc i = omega arith in
-    let two : i + 2 ≡ suc (suc i) = omega arith in
-    rw (
-      two,
-      one,
-      drop-cons (take count numbers) i (pos 0) (omega arith),
-      drop-cons (take count numbers) (suc i) (pos 0) (omega arith),
-      get_or-take count numbers i (pos 0) (omega arith),
-      get_or-take count numbers (suc i) (pos 0) (omega arith),
-    )
+-- two numbers, and what follows them
+split-two : (l r : List ℤ) → length l ≡ 2 → l ++ r ≡ get_or l 0 (pos 0) ∷ (get_or l 1 (pos 0) ∷ r)
+split-two [] r n = absurd (omega arith)
+split-two (x ∷ []) r n = absurd (omega arith)
+split-two (x ∷ (y ∷ [])) r n = refl
+split-two (x ∷ (y ∷ (z ∷ l))) r n = absurd (omega arith)
 
-module _ (p : ℕ) (lows highs numbers : List ℤ) (es : Ends) (count i : ℕ) (enough : count ≤ length numbers) where
-  pub sum-end : count ≤ i → sum_yield p lows highs es (terms_of (drop i (take count numbers))) ≡ makes (es ∷ [])
+module _ {p : ℕ} {known : List ReadEnds} {numbers : List ℤ} {so_far : Ends} where
+  pub summing-end : (rest : List ℤ) → Summing p known numbers so_far rest → length rest < 2
+      → makes (so_far ∷ []) ≡ sum_yield p known (ends (get_or numbers 0 (pos 0)) (get_or numbers 0 (pos 0))) (terms_of (drop 1 numbers))
   unfolding sum_yield terms_of
-  sum-end h =
-      let short : length (take count numbers) ≤ i = omega (arith, length-take-le count numbers enough) in
-      rw (drop_of_length-le (take count numbers) short)
+  summing-end [] sums few = sym sums.left
+  summing-end (x ∷ []) sums few = let e = sums.even in absurd (omega arith)
+  summing-end (x ∷ (y ∷ rest)) sums few = absurd (omega arith)
 
-  module _ (more : i + 1 < count) {next : Ends}
-      (is : next ≡ added es (scaled (get_or numbers i (pos 0)) (ends_at lows highs (nat_abs (get_or numbers (i + 1) (pos 0)))))) where
-    sum-at : sum_yield p lows highs es (terms_of (drop i (take count numbers)))
-        ≡ cond (ends_in_range p next) (sum_yield p lows highs next (terms_of (drop (i + 2) (take count numbers)))) (refuses 11)
-    unfolding sum_yield
-    sum-at = rw (terms-at numbers count i enough more, is)
+  module _ {x y : ℤ} {r : List ℤ} (sums : Summing p known numbers so_far (x ∷ (y ∷ r))) where
+    made_here : (is_made (length known) y ≡ true) × (all (is_made (length known)) (alternate (without_first r)) ≡ true)
+    unfolding all without_first
+    made_here = both_true (is_made (length known) y) (all (is_made (length known)) (alternate (without_first r))) (rw (alternate-cons y r) at sums.made)
 
-    pub sum-next : ends_in_range p next ≡ true
-        → sum_yield p lows highs es (terms_of (drop i (take count numbers))) ≡ sum_yield p lows highs next
-        (terms_of (drop (i + 2) (take count numbers)))
-    sum-next kept = sum-at ∙ rw kept
+    module _ {next : Ends} (is : next ≡ added so_far (scaled x (ends_at known (nat_abs y)))) where
+      turn : sum_yield p known (ends (get_or numbers 0 (pos 0)) (get_or numbers 0 (pos 0))) (terms_of (drop 1 numbers))
+          ≡ cond (ends_in_range p next) (sum_yield p known next (terms_of r)) (refuses 11)
+      unfolding sum_yield terms_of
+      turn = sums.left ∙ rw is
 
-    pub sum-leaves : ends_in_range p next ≡ false → sum_yield p lows highs es (terms_of (drop i (take count numbers))) ≡ refuses 11
-    sum-leaves broken = sum-at ∙ rw broken
+      leaves : ends_in_range p next ≡ false → refuses 11 ≡ sum_yield p known (ends (get_or numbers 0 (pos 0)) (get_or numbers 0 (pos 0))) (terms_of (drop 1 numbers))
+      leaves broken = sym (turn ∙ rw broken)
+
+      goes_on : ends_in_range p next ≡ true → Summing p known numbers next r
+      goes_on kept = record {
+        even = let e = sums.even in omega arith;
+        ranged = kept;
+        made = made_here.1;
+        small = λ i l. sums.small (suc (suc i)) (omega arith);
+        left = turn ∙ rw kept;
+      }
+
+  -- the same, as the loop has the pair
+  module _ {rest : List ℤ} (l r : List ℤ) (sums : Summing p known numbers so_far rest) (is : rest ≡ l ++ r) (two : length l ≡ 2) where
+    here : Summing p known numbers so_far (get_or l 0 (pos 0) ∷ (get_or l 1 (pos 0) ∷ r))
+    here = rw (is, split-two l r two) at sums
+
+    pub name-made : is_made (length known) (get_or l 1 (pos 0)) ≡ true
+    name-made = (made_here here).0
+
+    pub coefficient-small : nat_abs (get_or l 0 (pos 0)) ≤ greatest
+    coefficient-small = here.small 0 (omega arith)
+
+    module _ {next : Ends} (term : next ≡ added so_far (scaled (get_or l 0 (pos 0)) (ends_at known (nat_abs (get_or l 1 (pos 0)))))) where
+      pub sum-leaves : ends_in_range p next ≡ false → refuses 11 ≡ sum_yield p known (ends (get_or numbers 0 (pos 0)) (get_or numbers 0 (pos 0))) (terms_of (drop 1 numbers))
+      sum-leaves broken = leaves here term broken
+
+      pub sum-goes : ends_in_range p next ≡ true → Summing p known numbers next r
+      sum-goes kept = goes_on here term kept
+
+-- before the first turn
+pub sum-starts : {p : ℕ} {known : List ReadEnds} (numbers : List ℤ) → length numbers % 2 ≡ 1 → Small (length numbers) numbers → in_range p (get_or numbers 0 (pos 0)) ≡ true
+    → all (is_made (length known)) (alternate (drop 2 numbers)) ≡ true → Summing p known numbers (ends (get_or numbers 0 (pos 0)) (get_or numbers 0 (pos 0))) (drop 1 numbers)
+unfolding ends_in_range
+sum-starts [] odd small within made = absurd (omega arith)
+sum-starts (x ∷ xs) odd small within made = record {
+  even = omega arith;
+  ranged = rw within;
+  made = rw (without-drop (x ∷ xs) 1) made;
+  small = λ i l. small (suc i) (omega arith);
+  left = refl;
+}
 
 -- ends in the range are small
 range_small : (p : ℕ) (x : ℤ) → p ≤ greatest → in_range p x ≡ true → Bounded greatest x
@@ -149,64 +144,61 @@ unfolding sum_fits
 no-fit s es [] e = e
 no-fit s es (t ∷ ts) e = rw e
 
-module _ {p values cells : ℕ} {lows highs : List ℤ} (ready : Ready p values cells lows highs) {s : Known}
-    (meaning : Represented s p values cells lows highs) where
+module _ {p cells : ℕ} {known : List ReadEnds} {s : Known} (meaning : Represented s p cells known) where
   sum_step : (next : Ends) (ts : List Term) (t : Bool) → ends_in_range p next ≡ t
-      → (ends_in_range p next ≡ true → cond (sum_fits s next ts) (makes (sum_ends s next ts ∷ [])) (refuses 11) ≡ sum_yield p lows highs next ts)
-      → cond (sum_fits s next ts) (makes (sum_ends s next ts ∷ [])) (refuses 11) ≡ cond t (sum_yield p lows highs next ts) (refuses 11)
+      → (ends_in_range p next ≡ true → cond (sum_fits s next ts) (makes (sum_ends s next ts ∷ [])) (refuses 11) ≡ sum_yield p known next ts)
+      → cond (sum_fits s next ts) (makes (sum_ends s next ts ∷ [])) (refuses 11) ≡ cond t (sum_yield p known next ts) (refuses 11)
   sum_step next ts true e later = later e
   sum_step next ts false e later = rw (no-fit s next ts (rw meaning.prime e))
 
   -- the sum over the state is the sum over the arrays, where its names are made
-  sum_over : (ns : List ℤ) → all (is_made values) (alternate (without_first ns)) ≡ true → (es : Ends) → ends_in_range p es ≡ true
-      → cond (sum_fits s es (terms_of ns)) (makes (sum_ends s es (terms_of ns) ∷ [])) (refuses 11) ≡ sum_yield p lows highs es (terms_of ns)
-  unfolding terms_of sum_fits sum_ends sum_yield all without_first ends_at
+  sum_over : (ns : List ℤ) → all (is_made (length known)) (alternate (without_first ns)) ≡ true → (es : Ends) → ends_in_range p es ≡ true
+      → cond (sum_fits s es (terms_of ns)) (makes (sum_ends s es (terms_of ns) ∷ [])) (refuses 11) ≡ sum_yield p known es (terms_of ns)
+  unfolding terms_of sum_fits sum_ends sum_yield all without_first
   sum_over [] made es within = rw (meaning.prime, within)
   sum_over (c ∷ []) made es within = rw (meaning.prime, within)
   sum_over (c ∷ (v ∷ ns)) made es within =
-      let w = both_true (is_made values v) (all (is_made values) (alternate (without_first ns))) (rw (alternate-cons v ns) at made) in
-      let next : Ends = added es (scaled c (ends_at lows highs (nat_abs v))) in
+      let w = both_true (is_made (length known) v) (all (is_made (length known)) (alternate (without_first ns))) (rw (alternate-cons v ns) at made) in
+      let next : Ends = added es (scaled c (ends_at known (nat_abs v))) in
       let here : ends_in_range s.p es ≡ true = rw meaning.prime within in
-      rw (known-ends ready meaning (nat_abs v) (made-name values v w.0).below, here)
+      rw (known-ends meaning (nat_abs v), here)
       (sum_step next (terms_of ns) (ends_in_range p next) refl (λ q. sum_over ns w.1 next q))
 
-  module _ (numbers : List ℤ) (count : ℕ) (some : 0 < count) where
+  module _ (numbers : List ℤ) where
+    abbrev coefficients : List ℤ
+    coefficients = get_or numbers 0 (pos 0) ∷ alternate (drop 1 numbers)
+
     sum-plain : (kind_of sum).is_field ≡ false
     unfolding kind_of
     sum-plain = refl
 
-    sum-ranged : is_ranged s.p sum (take count numbers) ≡ all (in_range p)
-        (get_or numbers 0 (pos 0) ∷ alternate (drop 1 (take count numbers)))
-    unfolding is_ranged all kind_of
-    sum-ranged =
-        rw (number-taken count numbers 0 some, without-drop (take count numbers) 0)
-        (ap (λ (q : ℕ). all (in_range q) (get_or numbers 0 (pos 0) ∷ alternate (drop 1 (take count numbers)))) meaning.prime)
+    sum-ranged : is_ranged s.p sum numbers ≡ all (in_range p) coefficients
+    unfolding is_ranged all kind_of number_at
+    sum-ranged = rw (without-drop numbers 0) (ap (λ (q : ℕ). all (in_range q) coefficients) meaning.prime)
 
-    sum-yield : yield_of s (line_with sum (take count numbers)) ≡ cond (all (in_range p) (get_or numbers 0 (pos 0) ∷ alternate (drop 1 (take count numbers))))
-        (yield_unless (early_of s sum (take count numbers)) (late ((kind_of sum).gadget s (take count numbers)) ((kind_of sum).gadget s (take count numbers)).made)) (refuses 6)
+    sum-yield : yield_of s (line_with sum numbers) ≡ cond (all (in_range p) coefficients)
+        (yield_unless (early_of s sum numbers) (late ((kind_of sum).gadget s numbers) ((kind_of sum).gadget s numbers).made)) (refuses 6)
     unfolding yield_of gadget
-    sum-yield = yield-by-rules s sum (take count numbers) ((kind_of sum).gadget s (take count numbers)).made sum-plain ∙ rw sum-ranged
+    sum-yield = yield-by-rules s sum numbers ((kind_of sum).gadget s numbers).made sum-plain ∙ rw sum-ranged
 
-    pub sum-6 : all (in_range p) (get_or numbers 0 (pos 0) ∷ alternate (drop 1 (take count numbers))) ≡ false
-        → yield_of s (line_with sum (take count numbers)) ≡ refuses 6
+    pub sum-6 : all (in_range p) coefficients ≡ false → yield_of s (line_with sum numbers) ≡ refuses 6
     sum-6 out = sum-yield ∙ rw out
 
-    module _ (ranged : all (in_range p) (get_or numbers 0 (pos 0) ∷ alternate (drop 1 (take count numbers))) ≡ true) {n : ℕ}
-        (early : n ≡ early_broken (all (is_made values) (alternate (drop 2 (take count numbers)))) values 1 cells 1) where
-      early-too : early_of s sum (take count numbers) ≡ n
+    module _ (ranged : all (in_range p) coefficients ≡ true) {n : Result Unit Refusal}
+        (early : n ≡ early_broken (all (is_made (length known)) (alternate (drop 2 numbers))) (length known) 1 cells 1) where
+      early-too : early_of s sum numbers ≡ n
       unfolding kind_of sum_line
-      early-too = rw (known-count ready meaning, meaning.cells_are, without-drop (take count numbers) 0, without-drop (take count numbers) 1) (sym early)
+      early-too = rw (known-count meaning, meaning.cells_are, without-drop numbers 0, without-drop numbers 1) (sym early)
 
-      pub sum-early : (n ≡ 0 → ⊥) → yield_of s (line_with sum (take count numbers)) ≡ refuses n
-      sum-early h = sum-yield ∙ rw (ranged, early-too) (unless-broken n _ h)
+      pub sum-early : {broken : Refusal} → n ≡ Err broken → yield_of s (line_with sum numbers) ≡ refuses (number_of broken)
+      sum-early is = sum-yield ∙ rw (ranged, early-too, is)
 
-      pub sum-late : n ≡ 0 → yield_of s (line_with sum (take count numbers))
-          ≡ sum_yield p lows highs (ends (get_or numbers 0 (pos 0)) (get_or numbers 0 (pos 0))) (terms_of (drop 1 (take count numbers)))
-      unfolding kind_of ends_in_range yield_unless
+      pub sum-late : n ≡ Ok tt → yield_of s (line_with sum numbers)
+          ≡ sum_yield p known (ends (get_or numbers 0 (pos 0)) (get_or numbers 0 (pos 0))) (terms_of (drop 1 numbers))
+      unfolding kind_of ends_in_range number_at
       sum-late none =
-          let ns : List ℤ = take count numbers in
           let c0 : ℤ = get_or numbers 0 (pos 0) in
-          let first = all_first (in_range p) c0 (alternate (drop 1 ns)) ranged in
-          let named = early-named (all (is_made values) (alternate (drop 2 ns))) values 1 cells 1 early none in
-          sum-yield ∙ rw (ranged, early-too, none) (sum-gadget s (number_at ns 0) (terms_of (without_first ns))
-          ∙ rw (number-taken count numbers 0 some, without-drop ns 0) (sum_over (drop 1 ns) (rw (without-drop ns 1) named) (ends c0 c0) (rw first)))
+          let first = all_first (in_range p) c0 (alternate (drop 1 numbers)) ranged in
+          let named = early-named (all (is_made (length known)) (alternate (drop 2 numbers))) (length known) 1 cells 1 (sym none ∙ early) in
+          sum-yield ∙ rw (ranged, early-too, none) (sum-gadget s c0 (terms_of (without_first numbers))
+          ∙ rw (without-drop numbers 0) (sum_over (drop 1 numbers) (rw (without-drop numbers 1) named) (ends c0 c0) (rw first)))

@@ -1,71 +1,60 @@
 // Reading a span line, which makes no value: the ends that it answers with are the new ends of v.
-ghost use Rattle.std.specs.Prelude.{◌≡◌, cond, ◌-◌, ◌≤◌, pos, ◌+ℤ◌, length, take};
+ghost use Rattle.std.specs.Prelude.{◌≡◌, IfOk, cond, ◌-◌, ◌≤◌, pos, ◌+ℤ◌, length};
 ghost use Rattle.meaning.specs.Word.{span};
-ghost use Rattle.meaning.specs.Known.{Known, ends, larger, smaller, digit_rule};
+ghost use Rattle.meaning.specs.Known.{ends, larger, smaller, digit_rule};
+ghost use Rattle.meaning.specs.Known.{Known as Meant};
 ghost use Rattle.meaning.specs.Gadget.Span.{shared};
 ghost use Rattle.number.specs.Bounded.{Bounded};
-ghost use Rattle.rules.specs.Ready.{Small, Ready, Represented, greatest};
+ghost use Rattle.rules.specs.Ready.{Small, Represented, BoundedEnds, greatest};
 ghost use Rattle.rules.specs.Yield.{refuses, span_yield, made_meaning, line_with, ends_meaning};
-ghost use Rattle.rules.specs.Rule.{BoundedEnds, Field, shared_yield};
+ghost use Rattle.rules.specs.Rule.{shared_yield};
 
-use super::rule::{Begun, Ends, Made, begin_line, ends_named, is_made, is_narrow, is_ranged};
-use number::power::{Power, capped_power};
-use number::whole::{Whole, is_at_most, larger, smaller, whole_at, whole_sum, wide_whole};
+use super::base::Digits;
+use super::ends::Ends;
+use super::known::Known;
+use number::whole::{Whole, in_range, whole_at, whole_sum, wide_whole};
+use refusal::Refusal;
 
-pub fn read_span(
-    numbers: &[i64],
-    p: u32,
-    values: usize,
-    cells: usize,
-    lows: &[i64],
-    highs: &[i64],
-) -> Made
-    requires { Ready p values cells lows.now highs.now × (4 ≤ length numbers.now) × Small 4 numbers.now }
-    ensures { (s : Known) → Represented s p values cells lows.now highs.now
-        → made_meaning result ≡ span_yield s (line_with span (take 4 numbers.now)) }
+pub fn read_span(known: Known, numbers: &[i64]) -> Result<Ends, Refusal>
+    requires { (4 ≤ length numbers.now) × Small (length numbers.now) numbers.now }
+    ensures yields { (s : Meant) → Represented s known.entry.p known.entry.cells known.entry.ends.now
+        → made_meaning result ≡ span_yield s (line_with span numbers.now) }
+    ensures sized { IfOk result (BoundedEnds greatest) }
 {
-    let ranged = is_ranged(numbers, 3, p);
-    let named = is_made(numbers, 0, values);
-    let begun = begin_line(numbers, 1, ranged, named, values, 0, cells, 1, 0);
-    match begun {
-        Begun::Stops(n) => Made::Breaks(n),
-        Begun::Digits(b, k) => {
-            let old = ends_named(numbers, 0, values, lows, highs);
-            let shift = whole_at(numbers, 3);
-            span_ends(p, b, k, old, shift)
-        }
-    }
+    let name = whole_at(numbers, 0);
+    let shift = whole_at(numbers, 3);
+    let ranged = in_range(shift, known.p);
+    let digits = known.begin_line(numbers, 1, ranged, known.names(name), 0, 1, 0)?;
+    span_ends(known, digits, known.ends_of(name), shift)
 }
 
 // The new ends, where the digit rule is kept.
-fn span_ends(p: u32, b: u64, k: u32, old: Ends, shift: Whole) -> Made
-    requires { Field p × (1 ≤ b) × BoundedEnds greatest old × Bounded greatest shift.0 }
-    ensures { made_meaning result
-        ≡ cond (digit_rule p b k (ends_meaning old) shift.0) (shared_yield (shared b k shift.0 (ends_meaning old))) (refuses 10) }
+#[tactic(auto, using(crate::proofs::Digits::digit_rules), unfolding(meaning::specs::Gadget::Span::shared, meaning::specs::Gadget::Span::span_top))]
+fn span_ends(known: Known, digits: Digits, old: Ends, shift: Whole) -> Result<Ends, Refusal>
+    requires { BoundedEnds greatest old × Bounded greatest shift.0 }
+    ensures yields { made_meaning result
+        ≡ cond (digit_rule known.entry.p digits.base digits.count (ends_meaning old) shift.0) (shared_yield (shared digits.base digits.count shift.0 (ends_meaning old))) (refuses 10) }
+    ensures sized { IfOk result (BoundedEnds greatest) }
 {
-    let Power::Of(c) = capped_power(b, k, p) else {
-        return Made::Breaks(10);
-    };
-    if !is_narrow(p, c, old, shift) {
-        return Made::Breaks(10);
+    let c = digits.power(known.p)?;
+    if !known.is_narrow(c, old, shift) {
+        return Err(Refusal::DigitsTooWide);
     }
-    let last = c - 1;
-    shared_ends(old, shift, last)
+    shared_ends(old, shift, c - 1)
 }
 
 // What the old ends and L..L+c-1 share, where they share a number. FORMAT 5.10, 10.12
-fn shared_ends(old: Ends, shift: Whole, last: u64) -> Made
-    requires { (last ≤ greatest) × Bounded greatest shift.0 }
-    ensures { made_meaning result ≡ shared_yield (ends (larger old.low.0 shift.0) (smaller old.high.0 (shift.0 +ℤ pos last))) }
+#[tactic(auto, unfolding(meaning::specs::Known::larger, meaning::specs::Known::smaller))]
+fn shared_ends(old: Ends, shift: Whole, last: u64) -> Result<Ends, Refusal>
+    requires { (last ≤ greatest) × BoundedEnds greatest old × Bounded greatest shift.0 }
+    ensures yields { made_meaning result ≡ shared_yield (ends (larger old.low.0 shift.0) (smaller old.high.0 (shift.0 +ℤ pos last))) }
+    ensures sized { IfOk result (BoundedEnds greatest) }
 {
     let top = whole_sum(shift, wide_whole(last));
-    let low = larger(old.low, shift);
-    let high = smaller(old.high, top);
-    if !is_at_most(low, high) {
-        return Made::Breaks(12);
+    let low = old.low.max(shift);
+    let high = old.high.min(top);
+    if high < low {
+        return Err(Refusal::NothingShared);
     }
-    Made::EndsOf(Ends {
-        low: low,
-        high: high,
-    })
+    Ok(Ends { low, high })
 }

@@ -1,14 +1,19 @@
 -- Checking a table: the replies by its length, its cells and its rows, and what holds before each line of the walk over the rows.
 use mathlib.Core.Path.{◌≡◌, refl, sym, ap, ap₂, ◌∙◌}
-use mathlib.Core.Bool.{Bool, true, false}
+use mathlib.Core.Bool.{Bool, not}
 use mathlib.Core.List.{List, [], ◌∷◌}
 use mathlib.Core.Option.{Option, none, some}
 use Prim.Native.Nat.{ℕ, suc, ◌+◌, ◌≤◌, ◌<◌}
 use native.Mathlib.Omega.{arith}
-use borrow.Author.Tests.{eq-eqb, ne_eqb, lt-ltb, le-ltb}
-use lib.Dec.{T, ltb, leb→le}
+use borrow.Author.Tests.{eq-eqb, ne_eqb}
+use lib.Dec.{T, leb, ltb, leb→le}
+use Rattle.std.specs.List.{position}
+use Rattle.std.specs.Prelude.{Some, None}
+use Rattle.std.specs.Prelude.{Option as Perhaps}
+use Rattle.std.proofs.lemmas.Bool.Decides.{nat_tests}
 use lib.IntN.{ℤ}
-use lib.ListN.{length, get_or}
+use lib.ListN.{length, get_or, take}
+use lib.Seq.{length-take-le, get_or-take}
 use Rattle.meaning.specs.Machine.{past_u64}
 use Rattle.algebra.specs.Digits.{Below}
 use Rattle.algebra.proofs.Test.{ltb_iff}
@@ -24,33 +29,40 @@ use Rattle.meaning.proofs.Results.{refusal-none, refusal-place}
 use Rattle.text.specs.Word.{word_of}
 use Rattle.number.specs.declared.cell.Cell.{Cell}
 use Rattle.reader.specs.Size.{counted}
-use Rattle.reader.specs.declared.state.Counts.{Counts}
+use Rattle.reader.specs.declared.counts.Counts.{Counts}
 use Rattle.reader.proofs.Steps.{few}
 use Rattle.groups.specs.Rows.{rows_meaning, first_refusal, first_of}
-use Rattle.groups.specs.declared.rows.Rows.{Rows}
-use Rattle.groups.specs.declared.rows.Rows.TheVariants.{AllHold, Fails}
+use Rattle.std.specs.Prelude.{Result, Ok, Err}
 use Rattle.groups.proofs.RowsFirst.{first-append}
 use Rattle.table.specs.LineRows.{RowsGiven}
 use Rattle.service.specs.Walk.{Stands, Placed, ListRead, AtLine, Took, taken}
 use Rattle.service.specs.declared.walk.Taken.{Taken}
 use Rattle.service.specs.Check.{cells_meaning, TableGiven, rows_reply}
-use Rattle.service.specs.declared.checking.Cells.{Cells}
-use Rattle.service.specs.declared.checking.Cells.TheVariants.{AllBelow, Large}
 use Rattle.service.proofs.ReadList.{same_lines, same-last}
 use Rattle.service.proofs.Standing.{stands-first, nothing_left, line_kept, prime-here, cells-inside}
 use Rattle.service.proofs.Places.{placed_first, place_inside}
-use Rattle.service.proofs.Scan.{first-from, none_from, found_inside}
+use Rattle.service.proofs.Scan.{place_in, first-position, first-from, none_from, found_inside}
 use Rattle.meaning.specs.Word.{most_numbers}
 
 -- ---- the cells
 
-pub cell-large : (p x : ℕ) → p ≤ x → is_cell p x ≡ false
+-- a cell is p or more where it is not below
+not-below : (p x : ℕ) → leb p x ≡ not (is_cell p x)
 unfolding is_cell
-cell-large p x h = le-ltb x p h
+not-below p x = grind (arith, nat_tests)
 
-pub cell_below : (p x : ℕ) → x < p → is_cell p x ≡ true
-unfolding is_cell
-cell_below p x h = lt-ltb x p h
+-- the first cell of p or more, as it is found
+pub cells-found : (p : ℕ) (t : List ℕ) (place : Perhaps ℕ) (r : Perhaps Cell) → place ≡ position (leb p) t → (place ≡ None → r ≡ None) → ((i : ℕ) → place ≡ Some i → (cell : Cell) × (r ≡ Some cell) × (cell.0 ≡ i))
+    → cells_meaning r ≡ refusal_at 14 (first_fail (is_cell p) 0 t)
+unfolding cells_meaning refusal_at
+cells-found p t place r e none-is some-is = by place refl
+  where
+    found : (o : Perhaps ℕ) → place ≡ o → first_fail (is_cell p) 0 t ≡ place_in o
+    found o q = first-position (is_cell p) (leb p) (not-below p) t ∙ ap place_in (sym e ∙ q)
+
+    by : (o : Perhaps ℕ) → place ≡ o → cells_meaning r ≡ refusal_at 14 (first_fail (is_cell p) 0 t)
+    by None q = rw (none-is q, found None q) refl
+    by (Some i) q = let h = some-is i q in rw (h.1, found (Some i) q, h.2) refl
 
 -- all cells are below p where none of p or more is found
 pub all-below : (p : ℕ) (t : List ℕ) → first_fail (is_cell p) 0 t ≡ none → Below p t
@@ -64,12 +76,12 @@ all-below p t e = each t (λ i h. (ltb_iff (get_or t i 0) p).0 (passed i h))
     each [] h = tt
     each (x ∷ xs) h = (h 0 (omega arith), each xs (λ i k. h (suc i) (omega arith)))
 
-module _ (t : List ℕ) (p : ℕ) (x : Cells) (yields : cells_meaning x ≡ refusal_at 14 (first_fail (is_cell p) 0 t)) where
-  pub large-found : (cell : Cell) → x ≡ Large cell → first_fail (is_cell p) 0 t ≡ some cell.0
+module _ (t : List ℕ) (p : ℕ) (x : Perhaps Cell) (yields : cells_meaning x ≡ refusal_at 14 (first_fail (is_cell p) 0 t)) where
+  pub large-found : (cell : Cell) → x ≡ Some cell → first_fail (is_cell p) 0 t ≡ some cell.0
   unfolding cells_meaning
   large-found cell is = refusal-place 14 _ (sym yields ∙ ap cells_meaning is)
 
-  pub none-large : x ≡ AllBelow → first_fail (is_cell p) 0 t ≡ none
+  pub none-large : x ≡ None → first_fail (is_cell p) 0 t ≡ none
   unfolding cells_meaning
   none-large is = refusal-none 14 _ (sym yields ∙ ap cells_meaning is)
 
@@ -112,7 +124,7 @@ pub record Checking (list table : List ℕ) (p : ℕ) (numbers : List ℤ) (plac
 
 pub checking-first : (list table : List ℕ) (p : ℕ) (numbers : List ℤ) (places : List ℕ) → length numbers ≡ most_numbers → length places ≡ value_limit → TableGiven list table p
     → Checking list table p numbers places (counted 0 0 0 0) 0
-unfolding rows_of fresh counted
+unfolding rows_of fresh
 checking-first list table p numbers places h k a = record {
   given = a;
   number = 0;
@@ -150,26 +162,24 @@ module _ {list table : List ℕ} {p : ℕ} {numbers : List ℤ} {places : List �
     unfolding rows_from
     rows-here = w.rows_left ∙ rw left_is (first-append test c.rows (gadget w.state l).rows (rows_from (after w.state l) rest))
 
-    module _ (r : Rows) (yields : rows_meaning r ≡ first_refusal test 0 (gadget w.state l).rows) where
-      fails-at : (i : ℕ) → r ≡ Fails i → first_fail test 0 (gadget w.state l).rows ≡ some i
-      unfolding rows_meaning
+    module _ (r : Result (Unit {0}) ℕ) (yields : rows_meaning r ≡ first_refusal test 0 (gadget w.state l).rows) where
+      fails-at : (i : ℕ) → r ≡ Err i → first_fail test 0 (gadget w.state l).rows ≡ some i
       fails-at i is = refusal-place 15 (first_fail test 0 (gadget w.state l).rows) (sym yields ∙ ap rows_meaning is)
 
-      pub row_inside : (i : ℕ) → r ≡ Fails i → i < length (gadget w.state l).rows
+      pub row_inside : (i : ℕ) → r ≡ Err i → i < length (gadget w.state l).rows
       row_inside i is = found_inside test (among 0 0) (gadget w.state l).rows i (fails-at i is)
 
-      pub checking-fails : (i : ℕ) → r ≡ Fails i → (m : ListRead list) → reply 15 (c.rows + i) ≡ rows_reply m.last m.lines table
+      pub checking-fails : (i : ℕ) → r ≡ Err i → (m : ListRead list) → reply 15 (c.rows + i) ≡ rows_reply m.last m.lines table
       unfolding first_of on_some
       checking-fails i is m =
           found-replied (some (c.rows + i)) (rows-here ∙ rw (first-from test (among 0 0) (gadget w.state l).rows c.rows i (fails-at i is)) refl) m
 
-      none-fails : r ≡ AllHold → first_fail test c.rows (gadget w.state l).rows ≡ none
-      unfolding rows_meaning
+      none-fails : r ≡ Ok tt → first_fail test c.rows (gadget w.state l).rows ≡ none
       none-fails is =
           none_from test (among 0 0) (gadget w.state l).rows c.rows
           (refusal-none 15 (first_fail test 0 (gadget w.state l).rows) (sym yields ∙ ap rows_meaning is))
 
-      pub checking-next : r ≡ AllHold → {next : Counts} {at' : ℕ} (numbers' : List ℤ) (places' : List ℕ)
+      pub checking-next : r ≡ Ok tt → {next : Counts} {at' : ℕ} (numbers' : List ℤ) (places' : List ℕ)
           → Stands list w.given.listed.last (after w.state l) rest next at' (w.number + 1) → length numbers' ≡ most_numbers → Placed (after w.state l) places'
           → Checking list table p numbers' places' next at'
       unfolding first_of after
@@ -219,14 +229,13 @@ module _ {list table : List ℕ} {p : ℕ} {numbers : List ℤ} {places : List �
       room-here,
     )
 
-    abbrev pub rows-given : RowsGiven p (word_of t.word) numbers' t.count table c.cells.0 places
+    abbrev pub rows-given : RowsGiven p (word_of t.word) (take t.count numbers') table c.cells.0 (take c.values places)
     rows-given = record {
       kept = line_kept took;
       prime = λ plain. prime-here took plain ∙ w.given.prime;
-      below = w.given.below;
       cells_are = w.stands.counted.cells_are;
       room = room-here;
-      places-long = w.placed.long;
-      places-are = w.placed.are;
-      inside = place_here;
+      places-long = length-take-le c.values places (omega (arith, w.stands.few.values-most, w.placed.long)) ∙ sym w.stands.counted.values-are;
+      places-are = rw (← w.stands.counted.values-are) w.placed.are;
+      inside = λ v h. rw (get_or-take c.values places v 0 (omega (arith, h, w.stands.counted.values-are))) (place_here v h);
     }

@@ -41,7 +41,6 @@ read-once e = (
 -- ---- accepted
 
 pub accepted-by-number : AcceptedByNumber
-unfolding reply_meaning
 accepted-by-number = (
   λ list table r promise. (λ e. promise ∙ zero-accepts list table (sym (ap (λ (q : Meant). q.number) promise) ∙ e), number_of),
   λ list inputs table r after promise. (

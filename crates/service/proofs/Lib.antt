@@ -8,4 +8,5 @@ pub mod Checked
 pub mod Worked
 pub mod Written
 pub mod Made
+pub mod Replies
 pub mod Claims

@@ -17,22 +17,21 @@ use Rattle.meaning.proofs.Lists.{all_pass}
 use Rattle.meaning.proofs.Results.{refusal-none, refusal-place}
 use Rattle.service.specs.Walk.{ListRead}
 use Rattle.service.specs.Reply.{reply_meaning, Makes}
-use Rattle.service.specs.declared.reply.Reply.{Reply}
 use Rattle.service.specs.Make.{inputs_meaning, WorkGiven, WorkingYield, WriteGiven}
-use Rattle.service.specs.declared.making.Inputs.{Inputs}
-use Rattle.service.specs.declared.making.Inputs.TheVariants.{AllInRange, Outside}
-use Rattle.service.specs.declared.working.Working.{Working}
-use Rattle.service.specs.declared.working.Working.TheVariants.{AllTrue, FalseAt}
+use Rattle.std.specs.Prelude.{Some, None, Result, Ok, Err}
+use Rattle.std.specs.Prelude.{Option as Perhaps}
+use Rattle.refusal.specs.declared.refused.Refused.{Refused}
+use Rattle.refusal.specs.Refusal.{refused_reply}
 use Rattle.service.proofs.ReadList.{same_lines}
 
 -- ---- the inputs
 
-module _ (xs : List ℤ) (p : ℕ) (r : Inputs) (yields : inputs_meaning r ≡ refusal_at 17 (first_fail (in_range p) 0 xs)) where
-  pub outside-found : (i : ℕ) → r ≡ Outside i → first_fail (in_range p) 0 xs ≡ some i
+module _ (xs : List ℤ) (p : ℕ) (r : Perhaps ℕ) (yields : inputs_meaning r ≡ refusal_at 17 (first_fail (in_range p) 0 xs)) where
+  pub outside-found : (i : ℕ) → r ≡ Some i → first_fail (in_range p) 0 xs ≡ some i
   unfolding inputs_meaning
   outside-found i is = refusal-place 17 _ (sym yields ∙ ap inputs_meaning is)
 
-  pub none-outside : r ≡ AllInRange → first_fail (in_range p) 0 xs ≡ none
+  pub none-outside : r ≡ None → first_fail (in_range p) 0 xs ≡ none
   unfolding inputs_meaning
   none-outside is = refusal-none 17 _ (sym yields ∙ ap inputs_meaning is)
 
@@ -70,25 +69,25 @@ module _ (list : List ℕ) (xs : List ℤ) (t : List ℕ) where
   make-read l = rw l.is_read refl
 
 -- a reply and a table together keep the promise of `make`
-pub makes-by : {list : List ℕ} {xs : List ℤ} {t after : List ℕ} {r : Reply} → making (reply_meaning r) after ≡ make_reply list xs t → Makes list xs t r after
+pub makes-by : {list : List ℕ} {xs : List ℤ} {t after : List ℕ} {r : Result (Unit {0}) Refused} → making (reply_meaning r) after ≡ make_reply list xs t → Makes list xs t r after
 makes-by e = record { replied = ap (λ (q : Making). q.answer) e; left = ap (λ (q : Making). q.table) e }
 
 -- ---- the lines, worked
 
-module _ (ls : List Line) (s : Known) (xs values : List ℤ) (x : Working) (done : WorkingYield ls s xs values x) where
-  pub false-made : (n : ℕ) (t : List ℕ) → x ≡ FalseAt n → making (reply 18 n) t ≡ filled (work ls xs) t
+module _ (ls : List Line) (s : Known) (xs values : List ℤ) (x : Result (Unit {0}) Refused) (done : WorkingYield ls s xs values x) where
+  pub false-made : (r : Refused) (t : List ℕ) → x ≡ Err r → making (refused_reply r) t ≡ filled (work ls xs) t
   unfolding WorkingYield
-  false-made n t is =
-      let worked : (t : List ℕ) → filled (work ls xs) t ≡ making (reply 18 n) t = subst (WorkingYield ls s xs values) is done in
+  false-made r t is =
+      let worked : (t : List ℕ) → filled (work ls xs) t ≡ making (refused_reply r) t = subst (WorkingYield ls s xs values) is done in
       sym (worked t)
 
-  all-worked : x ≡ AllTrue → (cells : List ℕ) × (work ls xs ≡ true-table (take (length s.known) values) cells)
+  all-worked : {u : Unit {0}} → x ≡ Ok u → (cells : List ℕ) × (work ls xs ≡ true-table (take (length s.known) values) cells)
   unfolding WorkingYield
   all-worked is = subst (WorkingYield ls s xs values) is done
 
 -- what writing is given, once every statement is found true
 module _ (list table : List ℕ) (p : ℕ) (xs values : List ℤ) (a : WorkGiven list xs) (prime : a.listed.last.p ≡ p) (long : length table ≡ a.listed.last.cells)
-    (values-long : length values ≡ value_limit) (x : Working) (done : WorkingYield a.listed.lines a.listed.last xs values x) (is : x ≡ AllTrue) where
+    (values-long : length values ≡ value_limit) (x : Result (Unit {0}) Refused) (done : WorkingYield a.listed.lines a.listed.last xs values x) {u : Unit {0}} (is : x ≡ Ok u) where
   pub written-cells : List ℕ
   written-cells = (all-worked a.listed.lines a.listed.last xs values x done is).0
 

@@ -20,7 +20,7 @@ use Rattle.meaning.specs.Meaning.{gadget, places_from, after}
 use Rattle.meaning.specs.Kept.{Keeps, Sound}
 use Rattle.meaning.proofs.Law.{Law, below_at, below-append}
 use Rattle.meaning.proofs.Lines.{line-law}
-use Rattle.reader.specs.declared.state.Counts.{Counts}
+use Rattle.reader.specs.declared.counts.Counts.{Counts}
 use Rattle.reader.proofs.Steps.{few}
 use Rattle.service.specs.Walk.{CountsOf, with_place, Placed}
 use Rattle.meaning.specs.Refusal.{value_limit}

@@ -14,9 +14,12 @@ use Rattle.meaning.specs.Refusal.{text_limit, plain, Reading, refused, read, on_
 use Rattle.meaning.specs.Number.{OddPrime}
 use Rattle.rules.specs.Ready.{greatest}
 use Rattle.reader.specs.Read.{Survey, counted, refused_at, survey_of, survey_meaning, PrimeFound}
-use Rattle.reader.specs.declared.state.Counts.{Counts}
+use Rattle.reader.specs.declared.counts.Counts.{Counts}
 use Rattle.reader.specs.declared.reading.Surveyed.{Surveyed}
-use Rattle.reader.specs.declared.reading.Surveyed.TheVariants.{Counted, NotRead}
+use Rattle.std.specs.Prelude.{Result, Ok, Err, IsErrAnd}
+use Rattle.refusal.specs.declared.refused.Refused.{Refused}
+use Rattle.refusal.specs.Refusal.{number_of, refused_reply}
+use Rattle.service.specs.Reply.{reply_meaning}
 use Rattle.service.specs.Walk.{ListRead, CountsGiven}
 
 abbrev IsRead : Reading → Type 0
@@ -105,15 +108,18 @@ counted-by list (read ls s) p c is h e =
       };
     }
 
-module _ (list : List ℕ) (x : Surveyed) (yields : survey_meaning x ≡ survey_of (reading list)) where
-  pub survey-refused : (n at : ℕ) → x ≡ NotRead n at → reading list ≡ refused n at
-  unfolding survey_meaning
-  survey-refused n at is = refused-by (reading list) n at (ap survey_meaning (sym is) ∙ yields)
+module _ (list : List ℕ) (x : Result Surveyed Refused) (yields : survey_meaning x ≡ survey_of (reading list)) where
+  pub survey-refused : (r : Refused) → x ≡ Err r → reading list ≡ refused (number_of r.refusal) r.place
+  survey-refused r is = refused-by (reading list) (number_of r.refusal) r.place (ap survey_meaning (sym is) ∙ yields)
 
-  pub survey-counted : PrimeFound x → (p : ℕ) (c : Counts) → x ≡ Counted p c → CountsGiven list p c
-  unfolding survey_meaning PrimeFound
-  survey-counted found p c is =
-      counted-by list (reading list) p c refl (subst PrimeFound is found) (ap survey_meaning (sym is) ∙ yields)
+  pub survey-counted : PrimeFound x → (s : Surveyed) → x ≡ Ok s → CountsGiven list s.p s.counts
+  survey-counted found s is =
+      counted-by list (reading list) s.p s.counts refl (subst PrimeFound is found) (ap survey_meaning (sym is) ∙ yields)
+
+-- a refusal that is passed on is the reply
+pub passed-on : (r : Result (Unit {0}) Refused) (broken : Refused) → IsErrAnd r (λ x. x ≡ broken) → reply_meaning r ≡ refused_reply broken
+passed-on (Ok _) broken h = absurd h
+passed-on (Err x) broken h = rw h refl
 
 -- ---- p and the counts, by any reading of the list
 

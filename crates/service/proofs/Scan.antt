@@ -1,15 +1,17 @@
 -- Looking at the elements of a list by a test: for the first that fails, where at element i those before it have passed, or at all of
 -- them, for whether all pass.
-use mathlib.Core.Path.{◌≡◌, refl, sym, ◌∙◌}
-use mathlib.Core.Bool.{Bool, true, false, ◌&&◌, false≢true, and-true, and_assoc}
+use mathlib.Core.Path.{◌≡◌, refl, sym, ap, ◌∙◌}
+use mathlib.Core.Bool.{Bool, true, false, not, cond, ◌&&◌, false≢true, and-true, and_assoc}
 use mathlib.Core.List.{List, [], ◌∷◌}
 use mathlib.Core.Option.{Option, none, some}
-use Prim.Native.Nat.{ℕ, suc, ◌+◌, ◌≤◌, ◌<◌}
-use native.Mathlib.Omega.{arith}
+use Prim.Native.Nat.{ℕ, suc, ◌+◌, ◌<◌}
 use native.Mathlib.Numerals.{add-one}
-use lib.ListN.{length, get_or, drop, drop_of_length-le}
-use lib.Seq.{drop-cons}
-use Rattle.algebra.proofs.Test.{test-≡, cond_cases}
+use lib.ListN.{length, get_or}
+use Rattle.std.specs.List.{fold, position, position_from}
+use Rattle.std.specs.Prelude.{Some, None}
+use Rattle.std.specs.Prelude.{Option as Perhaps}
+use Rattle.std.proofs.lemmas.Iterator.Adapters.{position_from-zero}
+use Rattle.algebra.proofs.Test.{test-≡, ≡-test, false-not, cond_cases}
 use Rattle.meaning.specs.Refusal.{all, on_some}
 use Rattle.meaning.specs.Reply.{first_fail}
 use Rattle.meaning.proofs.Lists.{all_pass, first-fails, first-fails-at}
@@ -31,57 +33,48 @@ all_found f n (x ∷ xs) =
 pub all_none : {A : Type 0} (f : A → Bool) (xs : List A) → all f xs ≡ true → none ≡ first_fail f 0 xs
 all_none f xs e = sym (none_found (first_fail f 0 xs) (sym (all_found f 0 xs) ∙ e))
 
--- ---- from the first on, up to one that fails
+-- ---- the place of the first that fails, as the library finds it
+
+abbrev pub place_in : Perhaps ℕ → Option ℕ
+place_in None = none
+place_in (Some i) = some i
+
+module _ {A : Type 0} (f g : A → Bool) (fails : (x : A) → g x ≡ not (f x)) where
+  first-here : (b c : Bool) (n : ℕ) (o : Option ℕ) (q : Perhaps ℕ) → c ≡ not b → o ≡ place_in q → cond b o (some n) ≡ place_in (cond c (Some n) q)
+  first-here true c n o q e h = rw e h
+  first-here false c n o q e h = rw e refl
+
+  first-from-position : (n : ℕ) (xs : List A) → first_fail f n xs ≡ place_in (position_from g n xs)
+  unfolding first_fail
+  first-from-position n [] = refl
+  first-from-position n (x ∷ xs) = first-here (f x) (g x) n _ _ (fails x) (rw (add-one n) (first-from-position (suc n) xs))
+
+  pub first-position : (xs : List A) → first_fail f 0 xs ≡ place_in (position g xs)
+  first-position xs = first-from-position 0 xs ∙ ap place_in (sym (position_from-zero g xs))
+
+-- ---- whether all pass, taken together from the first on
+
+module _ {A : Type 0} (f : A → Bool) where
+  folded-from : (passed : Bool) (xs : List A) → (passed && all f xs) ≡ fold (λ together x. together && f x) passed xs
+  unfolding all
+  folded-from passed [] = and-true passed
+  folded-from passed (x ∷ xs) = sym (and_assoc passed (f x) (all f xs)) ∙ folded-from (passed && f x) xs
+
+  pub all_folded : (xs : List A) → all f xs ≡ fold (λ together x. together && f x) true xs
+  all_folded xs = folded-from true xs
 
 module _ {A : Type 0} (f : A → Bool) (d : A) (xs : List A) where
-  -- what is left to be looked at, from element i on
-  pub record Scanned (i : ℕ) : Type 0 where
-    pub inside : i ≤ length xs
-    pub left : first_fail f 0 xs ≡ first_fail f i (drop i xs)
+  -- ---- looked at from the first on, up to one that fails
 
-  pub scanned-none : Scanned 0
-  scanned-none = record { inside = omega arith; left = refl }
+  abbrev pub PassedBefore : ℕ → Type 0
+  PassedBefore i = (k : ℕ) → k < i → f (get_or xs k d) ≡ true
 
-  module _ (i : ℕ) (s : Scanned i) where
-    pub scan-end : length xs ≤ i → none ≡ first_fail f 0 xs
-    unfolding first_fail
-    scan-end h = sym (s.left ∙ rw (drop_of_length-le xs h) refl)
+  pub first-at : (i : ℕ) → i < length xs → f (get_or xs i d) ≡ false → PassedBefore i → some i ≡ first_fail f 0 xs
+  first-at i h e before =
+      sym ((first-fails-at f d i xs).1 (record { inside = h; fails = false-not _ e; earlier = λ k l. ≡-test _ (before k l) }))
 
-    -- where some element fails, the search ends at one
-    pub scan-inside : all f xs ≡ false → i < length xs
-    unfolding on_some
-    scan-inside e =
-        let not-past : length xs ≤ i → ⊥ = λ h. false≢true (sym e ∙ all_found f 0 xs ∙ rw (sym (scan-end h)) refl) in
-        omega (arith, not-past)
-
-    module _ (h : i < length xs) where
-      pub scan-here : f (get_or xs i d) ≡ false → some i ≡ first_fail f 0 xs
-      unfolding first_fail
-      scan-here e = sym (s.left ∙ rw (drop-cons xs i d h, e) refl)
-
-      pub scan-next : f (get_or xs i d) ≡ true → Scanned (i + 1)
-      unfolding first_fail
-      scan-next e = record { inside = omega arith; left = s.left ∙ rw (drop-cons xs i d h, e, add-one i) refl }
-
-  -- ---- every element looked at, also after one that fails
-
-  -- whether all before element i passed, and what that says of all
-  pub record Together (passed : Bool) (i : ℕ) : Type 0 where
-    pub within : i ≤ length xs
-    pub whole : all f xs ≡ (passed && all f (drop i xs))
-
-  pub together-none : Together true 0
-  together-none = record { within = omega arith; whole = refl }
-
-  module _ (passed : Bool) (i : ℕ) (t : Together passed i) where
-    pub together-end : length xs ≤ i → passed ≡ all f xs
-    unfolding all
-    together-end h = sym (t.whole ∙ rw (drop_of_length-le xs h) (and-true passed))
-
-    pub together-next : i < length xs → Together (passed && f (get_or xs i d)) (i + 1)
-    unfolding all
-    together-next h =
-        record { within = omega arith; whole = t.whole ∙ rw (drop-cons xs i d h, add-one i) (sym (and_assoc passed (f (get_or xs i d)) _)) }
+  pub none-at : PassedBefore (length xs) → none ≡ first_fail f 0 xs
+  none-at before = sym ((all_pass f d 0 xs).1 (λ k l. ≡-test _ (before k l)))
 
   -- ---- counted from another number
 

@@ -14,10 +14,10 @@ use Rattle.meaning.specs.Reply.{stretch, shown, start_from, shown_from}
 use Rattle.meaning.proofs.Induction.{cells-grow}
 use Rattle.number.specs.declared.cell.Cell.{Cell}
 use Rattle.reader.specs.Size.{counted}
-use Rattle.reader.specs.declared.state.Counts.{Counts}
+use Rattle.reader.specs.declared.counts.Counts.{Counts}
 use Rattle.service.specs.Walk.{Stands, ListRead, AtLine}
 use Rattle.service.specs.Show.{IsStretch}
-use Rattle.service.specs.declared.showing.Stretch.{Stretch}
+use Rattle.std.specs.declared.ops.Range.{Range}
 use Rattle.service.proofs.ReadList.{same_lines, same-last}
 use Rattle.service.proofs.Standing.{stands-first, nothing_left}
 use Rattle.meaning.specs.Word.{most_numbers}
@@ -47,7 +47,7 @@ showing-first list line numbers long l = record {
 }
 
 -- a stretch of one reading of the list is that of another
-same-stretch : (list : List ℕ) (line : ℕ) (l m : ListRead list) (r : Stretch) → IsStretch list line l r → IsStretch list line m r
+same-stretch : (list : List ℕ) (line : ℕ) (l m : ListRead list) (r : Range Cell) → IsStretch list line l r → IsStretch list line m r
 same-stretch list line l m r s = record {
   ordered = s.ordered;
   inside = omega (arith, s.inside, ap (λ (q : Known). q.cells) (same-last l m));
@@ -60,7 +60,7 @@ module _ {list : List ℕ} {line : ℕ} {numbers : List ℤ} {c : Counts} {at n 
   at-line inside = record { listed = w.listed; number = n; state = w.state; left = w.left; stands = w.stands; inside = inside }
 
   -- the line is not there
-  pub showing-end : (none : Cell) → none.0 ≡ 0 → length list ≤ at → (m : ListRead list) → IsStretch list line m (record { from = none; to = none })
+  pub showing-end : (none : Cell) → none.0 ≡ 0 → length list ≤ at → (m : ListRead list) → IsStretch list line m (record { start = none; end = none })
   unfolding stretch start_from
   showing-end none first h m = same-stretch list line w.listed m _ (record {
     ordered = omega arith;
@@ -72,7 +72,7 @@ module _ {list : List ℕ} {line : ℕ} {numbers : List ℤ} {c : Counts} {at n 
   module _ (l : Line) (rest : List Line) (left_is : w.left ≡ l ∷ rest) {next : Counts} {at' : ℕ}
       (stands : Stands list w.listed.last (after w.state l) rest next at' (n + 1)) where
     -- this is the line
-    pub showing-line : n ≡ line → (m : ListRead list) → IsStretch list line m (record { from = c.cells; to = next.cells })
+    pub showing-line : n ≡ line → (m : ListRead list) → IsStretch list line m (record { start = c.cells; end = next.cells })
     unfolding after stretch start_from
     showing-line here m =
         let from_is = w.stands.counted.cells_are in
@@ -122,7 +122,7 @@ module _ (list t : List ℕ) (line : ℕ) where
     unfolding shown on_reading
     shown-wrong-length h = rw (l.is_read, ne_eqb (length t) l.last.cells h) refl
 
-    pub shown-stretch : length t ≡ l.last.cells → (r : Stretch) → IsStretch list line l r → take (r.to.0 - r.from.0) (drop r.from.0 t) ≡ shown list t line
+    pub shown-stretch : length t ≡ l.last.cells → (r : Range Cell) → IsStretch list line l r → take (r.end.0 - r.start.0) (drop r.start.0 t) ≡ shown list t line
     unfolding shown on_reading
     shown-stretch h r s = rw (l.is_read, eq-eqb (length t) l.last.cells h) (s.is t)
 
@@ -130,6 +130,6 @@ module _ (list t : List ℕ) (line : ℕ) where
     unfolding shown_from on_reading
     from-wrong-length h = rw (l.is_read, ne_eqb (length t) l.last.cells h) refl
 
-    pub from-stretch : length t ≡ l.last.cells → (r : Stretch) → IsStretch list line l r → r.from.0 ≡ shown_from list t line
+    pub from-stretch : length t ≡ l.last.cells → (r : Range Cell) → IsStretch list line l r → r.start.0 ≡ shown_from list t line
     unfolding shown_from on_reading
     from-stretch h r s = rw (l.is_read, eq-eqb (length t) l.last.cells h) s.starts

@@ -7,8 +7,9 @@ use Prim.Native.Nat.{ℕ, zero, suc, ◌+◌, ◌≤◌, ◌<◌}
 use native.Mathlib.Omega.{arith}
 use native.Mathlib.Numerals.{add-one}
 use lib.Dec.{T, leb→le}
-use lib.IntN.{ℤ}
-use lib.ListN.{length, take, length-append}
+use lib.IntN.{ℤ, pos}
+use lib.Seq.{get_or-take}
+use lib.ListN.{length, take, length-append, length-take}
 use Rattle.meaning.specs.Text.{is_ended}
 use Rattle.meaning.specs.Word.{kind_of, most_numbers}
 use Rattle.meaning.specs.Line.{Line, line_of}
@@ -25,16 +26,15 @@ use Rattle.text.specs.Word.{word_of}
 use Rattle.text.specs.Place.{end_of, line_at, lines_from}
 use Rattle.lines.specs.Parsed.{LineRead, NextAfter}
 use Rattle.text.specs.declared.Word.{Word}
-use Rattle.lines.specs.declared.Parsed.{Parsed}
-use Rattle.lines.specs.declared.Parsed.TheVariants.{NoLine}
-use Rattle.lines.specs.declared.Parsed.TheVariants.{Line as Spelt}
+use Rattle.std.specs.Prelude.{Option as Answer, Some, None}
+use Rattle.lines.specs.declared.Line.{Line as Spelt}
 use Rattle.lines.proofs.Answers.{no-line-meaning, line-meaning, line-most, line-counted, line_small, line-next}
 use Rattle.text.proofs.Places.{lines_none}
 use Rattle.text.proofs.Ends.{in-line, lines_at}
 use Rattle.rules.specs.Ready.{greatest, Small}
 use Rattle.rules.specs.Yield.{line_with}
 use Rattle.reader.specs.Size.{counted, added, Few, Adds}
-use Rattle.reader.specs.declared.state.Counts.{Counts}
+use Rattle.reader.specs.declared.counts.Counts.{Counts}
 use Rattle.reader.proofs.Steps.{few}
 use Rattle.table.specs.Line.{KeptLine}
 use Rattle.service.specs.Walk.{CountsOf, Stands, AtLine, Took, taken}
@@ -70,7 +70,7 @@ same-prime (suc n) s last left h k = prime-kept left n s last k
 
 pub counted-after : (n : ℕ) (s : Known) (l : Line) (c d : Counts) → Keeps n s l → CountsOf s c → Adds s l d
     → CountsOf (after s l) (added c d)
-unfolding after counted added
+unfolding after
 counted-after n s l c d keeps was adds =
     let g = gadget s l in
     record {
@@ -84,7 +84,7 @@ counted-after n s l c d keeps was adds =
 
 pub stands-first : (list : List ℕ) (ls : List Line) (last : Known) → reading list ≡ read ls last → last.p ≤ greatest
     → Stands list last fresh ls (counted 0 0 0 0) 0 0
-unfolding fresh counted
+unfolding fresh
 stands-first list ls last e h = record {
   inside = omega arith;
   numbered = omega arith;
@@ -107,7 +107,7 @@ module _ {list : List ℕ} {last s : Known} {left : List Line} {c : Counts} {at 
 
   -- ---- a line that is read
 
-  module _ (ended : is_ended list ≡ true) (inside : at < length list) {before numbers : List ℤ} {r : Parsed}
+  module _ (ended : is_ended list ≡ true) (inside : at < length list) {before numbers : List ℤ} {r : Answer Spelt}
       (parsed : LineRead (line_at list at) before numbers r) (long : length before ≡ most_numbers) where
     next : (l : Line) × (rest : List Line) × (left ≡ l ∷ rest) × (line_of (line_at list at) ≡ some l)
         × (map line_of (lines_from list (end_of list at + 1)) ≡ map some rest)
@@ -119,10 +119,16 @@ module _ {list : List ℕ} {last s : Known} {left : List Line} {c : Counts} {at 
     rest = next.1
 
     -- the bytes spell a line, as the list was read
-    line-there : r ≡ NoLine → ⊥
+    line-there : r ≡ None → ⊥
     line-there is = none-ne-some _ (sym (no-line-meaning parsed is) ∙ next.3)
 
-    module _ {word : Word} {count place : ℕ} (is : r ≡ Spelt word count place) where
+    module _ {spelt : Spelt} (is : r ≡ Some spelt) where
+      abbrev word : Word
+      word = spelt.word
+
+      abbrev count : ℕ
+      count = spelt.count
+
       abbrev line : Line
       line = line_with (word_of word) (take count numbers)
 
@@ -170,25 +176,26 @@ module _ {list : List ℕ} {last s : Known} {left : List Line} {c : Counts} {at 
 
 -- ---- what `take_line` promises
 
-module _ {list : List ℕ} {c : Counts} {at : ℕ} (a : AtLine list c at) {before numbers : List ℤ} {r : Parsed}
+module _ {list : List ℕ} {c : Counts} {at : ℕ} (a : AtLine list c at) {before numbers : List ℤ} {r : Answer Spelt}
     (parsed : LineRead (line_at list at) before numbers r) (long : length before ≡ most_numbers) where
   ended : is_ended list ≡ true
   ended = read-ended list a.listed.lines a.listed.last a.listed.is_read
 
-  pub line-is-there : r ≡ NoLine → ⊥
+  pub line-is-there : r ≡ None → ⊥
   line-is-there is = line-there a.stands ended a.inside parsed long is
 
-  pub took : {word : Word} {count place : ℕ} → r ≡ Spelt word count place → NextAfter list at r → (d : Counts)
-      → ((n k : ℕ) (s : Known) → (kind_of (word_of word)).is_counted (take k numbers) ≡ true → Keeps n s (line_with (word_of word) (take k numbers)) → CountsOf s c
-      → CountsOf (after s (line_with (word_of word) (take k numbers))) d)
+  pub took : {l : Spelt} → r ≡ Some l → NextAfter list at r → (d : Counts)
+      → ((n : ℕ) (s : Known) → (kind_of (word_of l.word)).is_counted (take l.count numbers) ≡ true
+      → Keeps n s (line_with (word_of l.word) (take l.count numbers)) → CountsOf s c
+      → CountsOf (after s (line_with (word_of l.word) (take l.count numbers))) d)
       → d.values ≤ c.values + 1
-      → Took a numbers (record { word = word; count = count; counts = d; next = place })
-  took {count = count} is after-it d yields more = let e = line-next list at after-it is in rw e (record {
+      → Took a numbers (record { word = l.word; count = l.count; counts = d; next = l.next })
+  took {l} is after-it d yields more = let e = line-next list at after-it is in rw e (record {
     rest = rest a.stands ended a.inside parsed long;
     left_is = left_is a.stands ended a.inside parsed long is;
     kept = kept_here a.stands ended a.inside parsed long is;
     next = stands-next a.stands ended a.inside parsed long is d
-        (yields _ count _ (line-counted parsed is) (keeps a.stands ended a.inside parsed long is) a.stands.counted);
+        (yields _ _ (line-counted parsed is) (keeps a.stands ended a.inside parsed long is) a.stands.counted);
     one_more = more;
     further = omega arith;
     long = parsed.left.kept ∙ long;
@@ -213,15 +220,26 @@ module _ {list : List ℕ} {c : Counts} {at : ℕ} {a : AtLine list c at} {numbe
   unfolding after
   cells-inside = cells-grow took.rest (suc a.number) (after a.state (taken numbers t)) a.listed.last took.kept.1
 
-  abbrev pub line_kept : KeptLine (word_of t.word) numbers t.count
+  -- its values are counted
+  pub values-counted : t.counts.values ≡ c.values + length (gadget a.state (taken numbers t)).made
+  unfolding after
+  values-counted =
+      let g = gadget a.state (taken numbers t) in
+      omega (
+        arith,
+        took.next.counted.values-are,
+        length-append g.narrowed g.made,
+        (few a.number a.state (taken numbers t) keeps-rules).2,
+        a.stands.counted.values-are,
+      )
+
+  abbrev pub line_kept : KeptLine (word_of t.word) (take t.count numbers)
   line_kept = record {
     line = a.number;
     state = a.state;
     sound = a.stands.sound;
     keeps = keeps-rules;
     p-most = λ plain. subst (λ (q : ℕ). q ≤ greatest) (sym (prime-here plain)) a.stands.p-most;
-    numbers-long = took.long;
     counted = took.counted;
-    few = took.few;
-    small = took.small;
+    small = λ i h. let here : i < t.count = omega (arith, length-take t.count numbers) in rw (get_or-take t.count numbers i (pos 0) here) (took.small i here);
   }

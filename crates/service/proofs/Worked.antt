@@ -28,16 +28,18 @@ use Rattle.meaning.proofs.Working.{inputs-grow}
 use Rattle.text.specs.Word.{word_of}
 use Rattle.number.specs.declared.whole.Whole.{Whole}
 use Rattle.reader.specs.Size.{counted}
-use Rattle.reader.specs.declared.state.Counts.{Counts}
+use Rattle.reader.specs.declared.counts.Counts.{Counts}
 use Rattle.reader.proofs.Steps.{few}
 use Rattle.groups.specs.Cells.{worked_meaning}
-use Rattle.groups.specs.declared.value.Worked.{Worked}
-use Rattle.groups.specs.declared.value.Worked.TheVariants.{Value, NoValue, False}
+use Rattle.refusal.specs.declared.refused.Refusal.{Refusal}
+use Rattle.refusal.specs.declared.refused.Refused.{Refused}
+use Rattle.refusal.specs.Refusal.{number_of}
+use Rattle.std.specs.Prelude.{Option, Some, None, Ok, Err}
+use Rattle.std.specs.Prelude.{Result as Answered}
 use Rattle.table.specs.LineValues.{ValuesGiven}
 use Rattle.service.specs.Walk.{Stands, ListRead, AtLine, Took}
 use Rattle.service.specs.declared.walk.Taken.{Taken}
-use Rattle.service.specs.Make.{with_value, is_true, WorkGiven, WorkingYield}
-use Rattle.service.specs.declared.working.Working.TheVariants.{AllTrue, FalseAt}
+use Rattle.service.specs.Make.{with_value, WorkGiven, WorkingYield}
 use Rattle.service.proofs.ReadList.{same_lines, same-last}
 use Rattle.service.proofs.Standing.{stands-first, nothing_left, known-last, line_kept}
 use Rattle.meaning.specs.Word.{most_numbers}
@@ -47,44 +49,43 @@ use Rattle.meaning.specs.Word.{most_numbers}
 same-values : {xs ys : List ℤ} → ◌≡◌ {A = Result (List ℤ)} (value xs) (value ys) → xs ≡ ys
 same-values e = cc
 
+same-number : {n m : ℕ} → ◌≡◌ {A = Result (List ℤ)} (refused_by n) (refused_by m) → n ≡ m
+same-number e = cc
+
 not-refused : {xs : List ℤ} {n : ℕ} → ◌≡◌ {A = Result (List ℤ)} (value xs) (refused_by n) → ⊥
 not-refused e = let z : ◌≡◌ {A = ℕ} 0 1 = cc in omega arith
 
 -- with those before it, it is among the first values
-pub value_taken : (values : List ℤ) (at : ℕ) (r : Worked) (ys : List ℤ) → worked_meaning r ≡ value ys → at + length ys ≤ length values
+pub value_taken : (values : List ℤ) (at : ℕ) (r : Option Whole) (ys : List ℤ) → worked_meaning (Ok r) ≡ value ys → at + length ys ≤ length values
     → take (at + length ys) (with_value values at r) ≡ take at values ++ ys
-unfolding worked_meaning with_value
-value_taken values at (Value x) ys e h =
+value_taken values at (Some x) ys e h =
     let is : x.0 ∷ [] ≡ ys = same-values e in
     let one : length ys ≡ 1 = sym (ap (λ (q : List ℤ). length q) is) in
     rw (← is, add-one at, take-suc-set values at x.0 (omega arith)) refl
-value_taken values at NoValue ys e h = rw (← same-values e, add-zero at) (sym (append-nil (take at values)))
-value_taken values at False ys e h = absurd (not-refused (sym e))
+value_taken values at None ys e h = rw (← same-values e, add-zero at) (sym (append-nil (take at values)))
 
-pub values-kept : (values : List ℤ) (at : ℕ) (r : Worked) → length (with_value values at r) ≡ length values
-unfolding with_value
-values-kept values at (Value x) = length-set values at x.0
-values-kept values at NoValue = refl
-values-kept values at False = refl
+pub values-kept : (values : List ℤ) (at : ℕ) (r : Option Whole) → length (with_value values at r) ≡ length values
+values-kept values at (Some x) = length-set values at x.0
+values-kept values at None = refl
 
 -- ---- what working a line answers
 
-module _ (r : Worked) (statement : Bool) (ys : List ℤ) (yields : worked_meaning r ≡ cond statement (value ys) (refused_by 18)) where
-  -- it is true exactly where the statement is
-  true-is : is_true r ≡ statement
-  unfolding worked_meaning is_true
-  true-is = by r statement yields
+-- an answer with values is that of a true statement, and a refusal that of a false one, which is refusal 18
+module _ (statement : Bool) (ys : List ℤ) where
+  true-where-made : (r : Option Whole) → worked_meaning (Ok r) ≡ cond statement (value ys) (refused_by 18) → (statement ≡ true) × (worked_meaning (Ok r) ≡ value ys)
+  true-where-made r e = by statement r e
     where
-      by : (x : Worked) (t : Bool) → worked_meaning x ≡ cond t (value ys) (refused_by 18) → is_true x ≡ t
-      by (Value z) true e = refl
-      by (Value z) false e = absurd (not-refused e)
-      by NoValue true e = refl
-      by NoValue false e = absurd (not-refused e)
-      by False true e = absurd (not-refused (sym e))
-      by False false e = refl
+      by : (t : Bool) (x : Option Whole) → worked_meaning (Ok x) ≡ cond t (value ys) (refused_by 18) → (t ≡ true) × (worked_meaning (Ok x) ≡ value ys)
+      by true x e = (refl, e)
+      by false (Some z) e = absurd (not-refused e)
+      by false None e = absurd (not-refused e)
 
-  made-yield : is_true r ≡ true → worked_meaning r ≡ value ys
-  made-yield e = yields ∙ rw (sym true-is ∙ e) refl
+  false-where-refused : (r : Refusal) → worked_meaning (Err r) ≡ cond statement (value ys) (refused_by 18) → (statement ≡ false) × (number_of r ≡ 18)
+  false-where-refused r e = by statement e
+    where
+      by : (t : Bool) → refused_by (number_of r) ≡ cond t (value ys) (refused_by 18) → (t ≡ false) × (number_of r ≡ 18)
+      by true e = absurd (not-refused (sym e))
+      by false e = (refl, same-number e)
 
 -- ---- cells in front of cells
 
@@ -115,7 +116,7 @@ nothing-before (true-table vs cs) = refl
 
 pub working-first : (list : List ℕ) (inputs numbers values : List ℤ) → length numbers ≡ most_numbers → length values ≡ value_limit → WorkGiven list inputs
     → WorkingOn list inputs numbers values (counted 0 0 0 0) 0 0
-unfolding work fresh counted
+unfolding work fresh
 working-first list inputs numbers values h k a = record {
   given = a;
   state = fresh;
@@ -138,9 +139,9 @@ module _ {list : List ℕ} {inputs numbers values : List ℤ} {c : Counts} {at n
   next-is : get_or (drop c.inputs inputs) 0 (pos 0) ≡ next
   next-is = get_or-drop c.inputs inputs 0 (pos 0) ∙ ap (λ (i : ℕ). get_or inputs i (pos 0)) (add-zero c.inputs)
 
-  pub working-end : length list ≤ at → (m : ListRead list) → WorkingYield m.lines m.last inputs values AllTrue
+  pub working-end : length list ≤ at → (m : ListRead list) → (u : Unit {0}) → WorkingYield m.lines m.last inputs values (Ok u)
   unfolding WorkingYield work_from with_cells
-  working-end h m = (
+  working-end h m u = (
     w.cells ++ [],
     ap (λ (ls : List Line). work ls inputs) (sym (same_lines w.given.listed m)) ∙ w.so_far ∙ rw (nothing_left w.stands h)
         (ap (λ (z : Known). true-table (take (length z.known) values) (w.cells ++ [])) (known-last w.stands h ∙ same-last w.given.listed m)),
@@ -152,19 +153,20 @@ module _ {list : List ℕ} {inputs numbers values : List ℤ} {c : Counts} {at n
   at-line inside = record { listed = w.given.listed; number = n; state = w.state; left = w.left; stands = w.stands; inside = inside }
 
   module _ (inside : at < length list) {numbers' : List ℤ} {t : Taken} (took : Took (at-line inside) numbers' t) where
-    abbrev pub values-given : ValuesGiven (word_of t.word) numbers' t.count values
+    abbrev pub values-given : ValuesGiven (word_of t.word) (take t.count numbers') (take c.values values)
     values-given = record {
       kept = line_kept took;
-      values-long = w.values-long;
-      within = w.within;
+      within = rw (← w.stands.counted.values-are) w.within;
     }
 
   -- ---- what the line's working then yields
 
-  module _ (l : Line) (rest : List Line) (left_is : w.left ≡ l ∷ rest) (r : Worked)
-      (yields : worked_meaning r ≡ cond ((gadget w.state l).statement before) (value ((gadget w.state l).values before next)) (refused_by 18)) where
+  module _ (l : Line) (rest : List Line) (left_is : w.left ≡ l ∷ rest) where
     abbrev g : Gadget
     g = gadget w.state l
+
+    abbrev Yields : Answered (Option Whole) Refusal → Type 0
+    Yields r = worked_meaning r ≡ cond (g.statement before) (value (g.values before next)) (refused_by 18)
 
     abbrev later : Meant
     later = work_from (suc n) (after w.state l) (before ++ g.values before next) (drop g.inputs (drop c.inputs inputs)) rest
@@ -174,23 +176,23 @@ module _ {list : List ℕ} {inputs numbers values : List ℤ} {c : Counts} {at n
     unfolding work_from
     from-here = w.so_far ∙ rw (left_is, next-is) refl
 
-    pub working-false : is_true r ≡ false → (m : ListRead list) (final : List ℤ) → WorkingYield m.lines m.last inputs final (FalseAt n)
+    pub working-false : (r : Refused) → Yields (Err r.refusal) → r.place ≡ n → (m : ListRead list) (final : List ℤ) → WorkingYield m.lines m.last inputs final (Err r)
     unfolding WorkingYield with_cells filled
-    working-false is m final t =
+    working-false r yields place m final t =
+        let false-by = false-where-refused (g.statement before) (g.values before next) r.refusal yields in
         let false-here : work m.lines inputs ≡ false-at n =
-        ap (λ (ls : List Line). work ls inputs) (sym (same_lines w.given.listed m)) ∙ from-here
-        ∙ rw (sym (true-is r (g.statement before) (g.values before next) yields) ∙ is) refl in
-        ap (λ (x : Meant). filled x t) false-here
+        ap (λ (ls : List Line). work ls inputs) (sym (same_lines w.given.listed m)) ∙ from-here ∙ rw false-by.0 refl in
+        ap (λ (x : Meant). filled x t) false-here ∙ rw (false-by.1, place) refl
 
-    module _ (true-here : is_true r ≡ true) (kept : Kept n w.state (l ∷ rest) w.given.listed.last) where
+    module _ (r : Option Whole) (yields : Yields (Ok r)) (kept : Kept n w.state (l ∷ rest) w.given.listed.last) where
       statement-true : g.statement before ≡ true
-      statement-true = sym (true-is r (g.statement before) (g.values before next) yields) ∙ true-here
+      statement-true = (true-where-made (g.statement before) (g.values before next) r yields).0
 
       holds : T (g.statement before)
       holds = ≡-test (g.statement before) statement-true
 
-      made : worked_meaning r ≡ value (g.values before next)
-      made = made-yield r (g.statement before) (g.values before next) yields true-here
+      made : worked_meaning (Ok r) ≡ value (g.values before next)
+      made = (true-where-made (g.statement before) (g.values before next) r yields).1
 
       law : Law w.given.listed.last.p w.state g
       law = first-law l rest n w.state w.given.listed.last kept w.stands.sound
@@ -203,10 +205,9 @@ module _ {list : List ℕ} {inputs numbers values : List ℤ} {c : Counts} {at n
         leb→le (length w.state.known + length g.made) value_limit (keeps-all n w.state l kept.0).values-fit,
       )
 
-      pub value-inside : (x : Whole) → r ≡ Value x → c.values < length values
-      unfolding worked_meaning
+      pub value-inside : (x : Whole) → r ≡ Some x → c.values < length values
       value-inside x is =
-          let one : length (g.values before next) ≡ 1 = sym (ap (λ (q : List ℤ). length q) (same-values (sym (ap worked_meaning is) ∙ made))) in
+          let one : length (g.values before next) ≡ 1 = sym (ap (λ (q : List ℤ). length q) (same-values (sym (ap (λ (o : Option Whole). worked_meaning (Ok o)) is) ∙ made))) in
           omega (arith, room, w.values-long, w.stands.counted.values-are)
 
       -- the values after the line

@@ -33,14 +33,14 @@ use Rattle.meaning.proofs.Induction.{first-law, cells-grow, values_in, cells_in,
 use Rattle.meaning.proofs.Working.{inputs-grow}
 use Rattle.text.specs.Word.{word_of}
 use Rattle.reader.specs.Size.{counted}
-use Rattle.reader.specs.declared.state.Counts.{Counts}
+use Rattle.reader.specs.declared.counts.Counts.{Counts}
 use Rattle.reader.proofs.Steps.{few}
 use Rattle.table.specs.LineValues.{CellsGiven}
 use Rattle.service.specs.Walk.{Stands, AtLine, Took, taken}
 use Rattle.service.specs.declared.walk.Taken.{Taken}
 use Rattle.service.specs.Make.{WriteGiven}
 use Rattle.service.proofs.ReadList.{same_lines, same-last}
-use Rattle.service.proofs.Standing.{stands-first, nothing_left, known-last, line_kept, prime-here, cells-inside}
+use Rattle.service.proofs.Standing.{stands-first, nothing_left, known-last, line_kept, prime-here, cells-inside, values-counted}
 use Rattle.meaning.specs.Refusal.{value_limit}
 use Rattle.meaning.proofs.Part.{written_after}
 
@@ -161,7 +161,7 @@ pub record Writing (list : List ℕ) (p : ℕ) (values : List ℤ) (before table
 
 pub writing-first : (list : List ℕ) (p : ℕ) (values : List ℤ) (before : List ℕ) (numbers : List ℤ) → length numbers ≡ most_numbers → WriteGiven list p values before
     → Writing list p values before before numbers (counted 0 0 0 0) 0
-unfolding work fresh counted
+unfolding work fresh
 writing-first list p values before numbers h a = record {
   given = a;
   number = 0;
@@ -236,15 +236,25 @@ module _ {list : List ℕ} {p : ℕ} {values : List ℤ} {before table : List �
       length-drop c.cells.0 table,
     )
 
-    abbrev pub cells-given : CellsGiven p (word_of t.word) numbers' t.count values c.values part
+    -- how many values the line makes
+    pub made-is : t.counts.values - c.values ≡ length (gadget w.state (taken numbers' t)).made
+    made-is = omega (arith, values-counted took)
+
+    abbrev pub cells-given : CellsGiven p (word_of t.word) (take t.count numbers') (take c.values values) (take (t.counts.values - c.values) (drop c.values values)) part
     cells-given = record {
       given = record {
         kept = line_kept took;
-        values-long = w.given.values-long;
-        within = w.within;
+        within = rw (← w.stands.counted.values-are) w.within;
       };
       prime = λ plain. prime-here took plain ∙ w.given.prime;
-      known-are = w.stands.counted.values-are;
+      made-long = rw made-is (omega (
+        arith,
+        length-take (length (gadget w.state (taken numbers' t)).made) (drop c.values values),
+        length-drop c.values values,
+        values-counted took,
+        took.next.few.values-most,
+        w.given.values-long,
+      ));
       room = room-here;
     }
 

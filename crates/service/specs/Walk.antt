@@ -14,7 +14,7 @@ use Rattle.text.specs.Word.{word_of}
 use Rattle.rules.specs.Ready.{greatest, Small}
 use Rattle.rules.specs.Yield.{line_with}
 use Rattle.reader.specs.Size.{Few}
-use Rattle.reader.specs.declared.state.Counts.{Counts}
+use Rattle.reader.specs.declared.counts.Counts.{Counts}
 use Rattle.service.specs.declared.walk.Taken.{Taken}
 
 -- the counts are those of what is known

@@ -4,7 +4,6 @@
 
 pub mod checking;
 pub mod making;
-pub mod reply;
 pub mod showing;
 mod walk;
 mod working;
@@ -12,6 +11,5 @@ mod writing;
 
 pub use checking::check;
 pub use making::make;
-pub use reader::{Answer, read};
-pub use reply::Reply;
+pub use reader::{Summary, read};
 pub use showing::show;

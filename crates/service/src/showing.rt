@@ -6,15 +6,8 @@ ghost use Rattle.service.specs.Show.{cell_place, IsStretch};
 
 use super::walk::take_line;
 use number::Cell;
-use number::cell::{cell_number, nth_cell};
-use reader::{Surveyed, counts_of, survey};
-
-// The cells from one up to another, which is not among them.
-#[derive(Clone, Copy)]
-struct Stretch {
-    pub from: Cell,
-    pub to: Cell,
-}
+use reader::{counts_of, survey};
+use std::ops::Range;
 
 // The public call: a part of the caller's slice, empty for the field line, for a line that is not there, for a refused list and for a
 // wrong table length.
@@ -22,24 +15,20 @@ pub fn show<'a>(list: &[u8], table: &'a [u32], line: usize) -> &'a [u32]
     ensures cells { result.now ≡ shown list.now table.now line }
     ensures place { result.ref_ptr ≡ cell_place table.entry.ref_ptr (shown_from list.now table.now line) }
 {
-    let found = survey(list);
-    match found {
-        Surveyed::NotRead(_, _) => &table[0..0],
-        Surveyed::Counted(_, counts) => {
-            let cells = cell_number(counts.cells);
-            if table.len() != cells {
-                return &table[0..0];
-            }
-            let stretch = stretch_of(list, line);
-            let from = cell_number(stretch.from);
-            let to = cell_number(stretch.to);
-            &table[from..to]
-        }
+    let Ok(found) = survey(list) else {
+        return &table[0..0];
+    };
+    if table.len() != usize::from(found.counts.cells) {
+        return &table[0..0];
     }
+    let cells = stretch_of(list, line);
+    let from = usize::from(cells.start);
+    let to = usize::from(cells.end);
+    &table[from..to]
 }
 
-// Where the cells of a line stand in a table of the list's length.
-fn stretch_of(list: &[u8], line: usize) -> Stretch
+// The cells of a line in a table of the list's length.
+fn stretch_of(list: &[u8], line: usize) -> Range<Cell>
     requires { ListRead list.now }
     ensures { (l : ListRead list.now) → IsStretch list.now line l result }
 {
@@ -51,17 +40,12 @@ fn stretch_of(list: &[u8], line: usize) -> Stretch
         let taken = take_line(list, at, counts, &mut numbers);
         let next = taken.counts;
         if n == line {
-            let from = counts.cells;
-            let to = next.cells;
-            return Stretch { from: from, to: to };
+            return counts.cells..next.cells;
         }
         counts = next;
         at = taken.next;
         n += 1;
     }
-    let none = nth_cell(0);
-    Stretch {
-        from: none,
-        to: none,
-    }
+    let none = Cell::from(0);
+    none..none
 }

@@ -11,8 +11,7 @@ ghost use Rattle.reader.specs.Size.{Few};
 ghost use Rattle.service.specs.Walk.{CountsOf, AtLine, Took, with_place};
 ghost use Rattle.meaning.specs.Refusal.{value_limit};
 
-use lines::{Parsed, line_of};
-use number::cell::cell_number;
+use lines::line_of;
 use reader::{Counts, counts_with, line_size};
 use text::Word;
 
@@ -30,30 +29,28 @@ pub fn take_line(list: &[u8], at: usize, counts: Counts, numbers: &mut [i64]) ->
     requires { AtLine list.now counts at × (length numbers.old ≡ most_numbers) }
     ensures yields { (a : AtLine list.now counts at) → Took a numbers.new result }
     ensures further { at < result.next }
+    ensures counted { result.count ≤ length numbers.new }
+    ensures values { (counts.values ≤ result.counts.values) × (result.counts.values ≤ value_limit) }
 {
-    let mut word = Word::Field;
-    let mut count: usize = 0;
-    let mut next = at;
-    // The list was read, so that each of its lines is one: what is answered for other bytes is never asked for.
-    if let Parsed::Line(read, many, end) = line_of(list, at, numbers) {
-        word = read;
-        count = many;
-        next = end;
-    }
+    // The list was read, so that each of its lines is one.
+    let Some(line) = line_of(list, at, numbers) else {
+        unreachable!()
+    };
+    let taken = &numbers[..line.count];
     Taken {
-        word: word,
-        count: count,
-        counts: counts_after(counts, word, numbers),
-        next: next,
+        word: line.word,
+        count: line.count,
+        counts: counts_after(counts, line.word, taken),
+        next: line.next,
     }
 }
 
 // The counts after a line.
 fn counts_after(counts: Counts, word: Word, numbers: &[i64]) -> Counts
-    requires { Few counts × (length numbers.now ≡ most_numbers) }
-    ensures yields { (n count : ℕ) (s : Known) → (kind_of (word_of word)).is_counted (take count numbers.now) ≡ true
-        → Keeps n s (line_with (word_of word) (take count numbers.now)) → CountsOf s counts
-        → CountsOf (after s (line_with (word_of word) (take count numbers.now))) result }
+    requires { Few counts }
+    ensures yields { (n : ℕ) (s : Known) → (kind_of (word_of word)).is_counted numbers.now ≡ true
+        → Keeps n s (line_with (word_of word) numbers.now) → CountsOf s counts
+        → CountsOf (after s (line_with (word_of word) numbers.now)) result }
     ensures more { (counts.values ≤ result.values) × (result.values ≤ counts.values + 1) }
 {
     counts_with(counts, line_size(word, numbers))
@@ -66,7 +63,7 @@ pub fn take_place(places: &mut [u16], counts: Counts, next: Counts)
 {
     let at = counts.values;
     if at < next.values {
-        let first = cell_number(counts.cells);
+        let first = usize::from(counts.cells);
         places[at] = first as u16;
     }
 }

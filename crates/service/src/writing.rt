@@ -3,7 +3,6 @@ ghost use Rattle.std.specs.Prelude.{◌≡◌};
 ghost use Rattle.service.specs.Make.{WriteGiven};
 
 use super::walk::take_line;
-use number::cell::cell_number;
 use reader::counts_of;
 use table::line_cells::line_cells;
 
@@ -17,11 +16,15 @@ pub fn write_lines(list: &[u8], p: u32, values: &[i64], table: &mut [u32])
     let mut at: usize = 0;
     while at < list.len() {
         let line = take_line(list, at, counts, &mut numbers);
-        let word = line.word;
-        let count = line.count;
-        let first = cell_number(counts.cells);
-        let known = counts.values;
-        line_cells(word, &numbers, count, p, values, known, &mut table[first..]);
+        let first = usize::from(counts.cells);
+        line_cells(
+            line.word,
+            &numbers[..line.count],
+            p,
+            &values[..counts.values],
+            &values[counts.values..line.counts.values],
+            &mut table[first..],
+        );
         counts = line.counts;
         at = line.next;
     }

@@ -1,6 +1,6 @@
 -- What the rules say of the numbers of a line that keeps them, one law for all words: a place where a name stands, a place where a base
 -- and its digit count stand, the count of the numbers, p, and the values before the line.
-use mathlib.Core.Path.{◌≡◌, refl, ap}
+use mathlib.Core.Path.{◌≡◌}
 use mathlib.Core.Bool.{Bool, true, false, ◌&&◌}
 use mathlib.Core.List.{List, [], ◌∷◌}
 use Prim.Native.Nat.{ℕ, suc, ◌+◌, ◌*◌, ◌^◌, ◌≤◌, ◌<◌}
@@ -9,8 +9,7 @@ use native.Mathlib.Nat.{mul-le-mul_right, one-mul}
 use native.Mathlib.Numerals.{add-one}
 use lib.Dec.{T, leb, ltb, leb→le}
 use lib.IntN.{ℤ, pos, nat_abs}
-use lib.ListN.{length, get_or, take}
-use lib.Seq.{get_or-take}
+use lib.ListN.{length, get_or}
 use lib.Signed.{◌≤ℤ◌, non_neg}
 use Rattle.algebra.proofs.Test.{left, right, test-≡}
 use Rattle.algebra.proofs.Integer.Linear.{linear}
@@ -77,18 +76,7 @@ powers-ruled root s ns h t = (power-rooted s.p (size_at ns 1 ^ size_at ns 2) h t
 
 -- ---- the line
 
-module _ {w : Word} {numbers : List ℤ} {count : ℕ} (l : KeptLine w numbers count) where
-  abbrev ns : List ℤ
-  ns = take count numbers
-
-  number_is : (i : ℕ) → i < count → number_at (take count numbers) i ≡ get_or numbers i (pos 0)
-  unfolding number_at
-  number_is i h = get_or-take count numbers i (pos 0) h
-
-  pub size_is : (i : ℕ) → i < count → size_at (take count numbers) i ≡ size numbers i
-  unfolding size_at
-  size_is i h = ap nat_abs (number_is i h)
-
+module _ {w : Word} {numbers : List ℤ} (l : KeptLine w numbers) where
   -- there is room for the values before the line and its own
   pub made-fit : known_count l + length (gadget_of l).made ≤ value_limit
   made-fit = leb→le (known_count l + length (gadget_of l).made) value_limit l.keeps.values-fit
@@ -107,65 +95,56 @@ module _ {w : Word} {numbers : List ℤ} {count : ℕ} (l : KeptLine w numbers c
 
   -- ---- a name
 
-  name-at : (i : ℕ) → i < count → T (is_made (known_count l) (number_at ns i)) → NameAt (known_count l) numbers i
+  name-at : (i : ℕ) → i < length numbers → T (is_made (known_count l) (number_at numbers i)) → NameAt (known_count l) numbers i
+  unfolding number_at
   name-at i h t =
-      let name = made-is (known_count l) (get_or numbers i (pos 0)) (rw (number_is i h) at t) in
-      record {
-        inside = omega (arith, l.numbers-long, l.few);
-        natural = name.0;
-        below = name.1;
-      }
+      let name = made-is (known_count l) (get_or numbers i (pos 0)) t in
+      record { inside = h; natural = name.0; below = name.1 }
 
-  pub first-name : (i : ℕ) (vs : List ℤ) → i < count → (kind_of w).names (take count numbers) ≡ number_at (take count numbers) i ∷ vs
-      → NameAt (known_count l) numbers i
+  pub first-name : (i : ℕ) (vs : List ℤ) → i < length numbers → (kind_of w).names numbers ≡ number_at numbers i ∷ vs → NameAt (known_count l) numbers i
   unfolding all
   first-name i vs h e =
-      let t : T (all (is_made (known_count l)) (number_at ns i ∷ vs)) = rw e at l.keeps.names-made in
-      name-at i h (left (is_made (known_count l) (number_at ns i)) (all (is_made (known_count l)) vs) t)
+      let t : T (all (is_made (known_count l)) (number_at numbers i ∷ vs)) = rw e at l.keeps.names-made in
+      name-at i h (left (is_made (known_count l) (number_at numbers i)) (all (is_made (known_count l)) vs) t)
 
-  pub second-name : (i : ℕ) (v : ℤ) (vs : List ℤ) → i < count → (kind_of w).names (take count numbers) ≡ v ∷ number_at (take count numbers) i ∷ vs
+  pub second-name : (i : ℕ) (v : ℤ) (vs : List ℤ) → i < length numbers → (kind_of w).names numbers ≡ v ∷ number_at numbers i ∷ vs
       → NameAt (known_count l) numbers i
   unfolding all
   second-name i v vs h e =
       let one : ℤ → Bool = is_made (known_count l) in
-      let t : T (all one (v ∷ number_at ns i ∷ vs)) = rw e at l.keeps.names-made in
-      name-at i h (left (one (number_at ns i)) (all one vs) (right (one v) (all one (number_at ns i ∷ vs)) t))
+      let t : T (all one (v ∷ number_at numbers i ∷ vs)) = rw e at l.keeps.names-made in
+      name-at i h (left (one (number_at numbers i)) (all one vs) (right (one v) (all one (number_at numbers i ∷ vs)) t))
 
   -- ---- a base and its digit count
 
-  module _ (i : ℕ) (inside : suc i < count) (late : (kind_of w).is_field ≡ false) (is : (kind_of w).digits (take count numbers) ≡ digits_at (take count numbers) i) where
-    allowed : Allowed (number_at ns i) (number_at ns (suc i))
+  module _ (i : ℕ) (inside : i + 1 < length numbers) (late : (kind_of w).is_field ≡ false) (is : (kind_of w).digits numbers ≡ digits_at numbers i) where
+    allowed : Allowed (number_at numbers i) (number_at numbers (suc i))
     unfolding digits_at all
     allowed =
-        let t = digits-given l.state.p i w ns is l.keeps.ranged in
-        digits-allowed (number_at ns i) (number_at ns (suc i)) (test-≡ _ (left (is_digits (record { b = number_at ns i; k = number_at ns (suc i) })) true t))
-
-    power : nat_abs (number_at ns i) ^ nat_abs (number_at ns (suc i)) ≤ l.state.p
-    unfolding Powers digits_at gadget
-    power =
-        let powers = powers-ruled w l.state ns (prime-is late).three l.keeps.unambiguous in
-        let given : Powers l.state.p (digits_at ns i) = rw is at powers in
-        given.0
+        let t = digits-given l.state.p i w numbers is l.keeps.ranged in
+        digits-allowed (number_at numbers i) (number_at numbers (suc i)) (test-≡ _ (left (is_digits (record { b = number_at numbers i; k = number_at numbers (suc i) })) true t))
 
     pub power_below : size numbers i ^ size numbers (i + 1) ≤ l.state.p
-    power_below = rw (number_is i (omega arith), number_is (suc i) inside, ← add-one i) at power
+    unfolding Powers digits_at gadget number_at
+    power_below =
+        let powers = powers-ruled w l.state numbers (prime-is late).three l.keeps.unambiguous in
+        let given : Powers l.state.p (digits_at numbers i) = rw is at powers in
+        rw (add-one i) given.0
 
     pub digits_from : DigitsFrom numbers i
+    unfolding number_at
     digits_from =
-        let base = number_is i (omega arith) in
-        let digits = number_is (suc i) inside in
-        let a : Allowed (get_or numbers i (pos 0)) (get_or numbers (i + 1) (pos 0)) = rw (base, digits, ← add-one i) at allowed in
+        let a : Allowed (get_or numbers i (pos 0)) (get_or numbers (i + 1) (pos 0)) = rw (add-one i) allowed in
         record {
-          base-inside = omega (arith, l.numbers-long, l.few, inside);
+          base-inside = omega (arith, inside);
           base-natural = not-below (get_or numbers i (pos 0)) a.base-counts;
-          base-most = l.small i (omega arith);
-          count-inside = omega (arith, l.numbers-long, l.few, inside);
+          base-most = l.small i (omega (arith, inside));
+          count-inside = inside;
           count-natural = not-below (get_or numbers (i + 1) (pos 0)) a.count-counts;
           group = record {
             base = a.base;
             some-digit = a.one;
             few = a.most;
-            power = refl;
             small = omega (arith, power_below, l.p-most late);
           };
         }

@@ -3,60 +3,41 @@
 use mathlib.Core.Path.{◌≡◌}
 use mathlib.Core.Bool.{false}
 use mathlib.Core.List.{List}
-use Prim.Native.Nat.{ℕ, ◌^◌, ◌<◌}
-use native.Mathlib.Omega.{arith}
-use native.Mathlib.Nat.{one-le-pow}
-use lib.IntN.{ℤ, pos}
-use lib.ListN.{take}
-use lib.Seq.{get_or-take}
+use Prim.Native.Nat.{ℕ}
+use lib.IntN.{ℤ}
+use lib.ListN.{length}
 use Rattle.meaning.specs.Word.{Word, kind_of}
 use Rattle.meaning.specs.Known.{Known}
 use Rattle.meaning.specs.Gadget.Interface.{Gadget}
-use Rattle.meaning.specs.Gadget.Digits.{value_at}
-use Rattle.groups.specs.Cells.{GroupOf}
-use Rattle.groups.specs.Numbers.{size, named, NameAt, ValueAt, DigitsFrom}
+use Rattle.groups.specs.Numbers.{size, NameAt, DigitsFrom}
+use Rattle.table.specs.Value.{ValueAt}
 use Rattle.table.specs.Line.{known_count}
 use Rattle.table.specs.LineValues.{ValuesGiven}
-use Rattle.table.proofs.LineNumbers.{values-most, value-bounded}
+use Rattle.meaning.proofs.Law.{within-length}
+use Rattle.table.proofs.LineNumbers.{value-bounded}
 use Rattle.table.proofs.LineKinds.{word-digits, OneWord, one_name, TwoWord, two-first, two-second}
 
 -- ---- values
 
--- where a number names one of the first n values, it is that one
-pub value-named : (numbers values : List ℤ) (i n : ℕ) → size numbers i < n → value_at (take n values) (size numbers i) ≡ named numbers i values
-unfolding value_at
-value-named numbers values i n h = get_or-take n values (size numbers i) (pos 0) h
+module _ {w : Word} {numbers values : List ℤ} (a : ValuesGiven w numbers values) where
+  pub values-known : length values ≡ known_count a.kept
+  values-known = within-length a.kept.state.known values a.within
 
-module _ {w : Word} {numbers : List ℤ} {count : ℕ} {values : List ℤ} (a : ValuesGiven w numbers count values) where
   value-at : {i : ℕ} → (kind_of w).is_field ≡ false → NameAt (known_count a.kept) numbers i → ValueAt numbers values i
   value-at {i} late name = record {
-    name = record {
-      inside = name.inside;
-      natural = name.natural;
-      below = omega (arith, name.below, values-most a.kept, a.values-long);
-    };
-    small = rw (get_or-take (known_count a.kept) values (size numbers i) (pos 0) name.below) at
-        (value-bounded a.kept late (take (known_count a.kept) values) a.within (size numbers i) name.below);
+    name = rw values-known name;
+    small = value-bounded a.kept late values a.within (size numbers i) name.below;
   }
 
-  -- as `one_value` and `two_values` ask it
-  pub one-given : {line : Known → (v b k : ℕ) → Gadget} → OneWord w numbers count line → ValueAt numbers values 0 × DigitsFrom numbers 1
-  one-given word = (value-at word.has-digits.late (one_name a.kept word), word-digits a.kept word.has-digits)
+  -- as `value_at` and `digits_from` ask it
+  module _ {line : Known → (v b k : ℕ) → Gadget} (word : OneWord w numbers line) where
+    pub one-given : ValueAt numbers values 0 × DigitsFrom numbers 1
+    one-given = (value-at word.has-digits.late (one_name a.kept word), word-digits a.kept word.has-digits)
 
-  pub two-given : {line : Known → (u v b k : ℕ) → Gadget} → TwoWord w numbers count line
-      → ValueAt numbers values 0 × ValueAt numbers values 1 × DigitsFrom numbers 2
-  two-given word = (
-    value-at word.has-digits.late (two-first a.kept word),
-    value-at word.has-digits.late (two-second a.kept word),
-    word-digits a.kept word.has-digits,
-  )
-
--- ---- a digit group
-
--- c = b ^ k is not 0
-pub power-positive : {b k c : ℕ} → GroupOf b k c → 0 < c
-power-positive {b} {k} {c} g = rw g.power (one-le-pow k b (omega (arith, g.base)))
-
--- with c as it was computed
-pub group-power : {b k c : ℕ} → GroupOf b k (b ^ k) → c ≡ b ^ k → GroupOf b k c
-group-power g e = rw e g
+  module _ {line : Known → (u v b k : ℕ) → Gadget} (word : TwoWord w numbers line) where
+    pub two-given : ValueAt numbers values 0 × ValueAt numbers values 1 × DigitsFrom numbers 2
+    two-given = (
+      value-at word.has-digits.late (two-first a.kept word),
+      value-at word.has-digits.late (two-second a.kept word),
+      word-digits a.kept word.has-digits,
+    )

@@ -1,10 +1,8 @@
-// The table of a list, line by line: working the line over whole numbers, the cells that it writes, and the check of its rows. One file
-// for each kind of line; what kinds share is crate `groups`. `line_works`, `line_cells` and `line_rows` take a line of any kind, by its
-// word. They call the functions of the same names for its kind, as `max_line_works`, which take a line of a list that was read: its
-// numbers keep the rules.
+// The table of a list, line by line: working the line over whole numbers, the cells that it writes, and the check of its rows. `line_works`,
+// `line_cells` and `line_rows` take a line of a list that was read, whose numbers keep the rules: by its word they read what it names and its
+// digits. One file for each kind of line has what it does with them; what kinds share is crate `groups`.
 #![tactic(auto)]
 
-mod input;
 pub mod line_cells;
 pub mod line_rows;
 pub mod line_works;
@@ -13,4 +11,5 @@ mod relu;
 mod root;
 mod span;
 mod sum;
+mod value;
 mod which;

@@ -1,37 +1,57 @@
-// Writing the cells of a line of any kind, once its own value stands in values. The one cell of an input and of a sum is that of this value:
-// a sum is not added up again.
+// Writing the cells of a line of any kind, once its own value is known. The one cell of an input and of a sum is that of this value:
+// a sum is not added up again. FORMAT 7.7
 ghost use Rattle.text.specs.Word.{word_of};
 ghost use Rattle.table.specs.LineValues.{CellsGiven, CellsYield};
 
-use super::max::max_line_cells;
-use super::relu::relu_line_cells;
-use super::root::root_line_cells;
-use super::span::span_line_cells;
-use super::which::which_line_cells;
+use super::max::max_cells;
+use super::relu::relu_value;
+use super::root::root_cells;
+use super::value::value_at;
+use super::which::which_value;
+use groups::group::form_cells;
+use groups::numbers::digits_from;
+use groups::sign::signed_cells;
 use groups::value::known_cell;
+use number::whole::{whole_at, whole_difference};
 use text::Word;
 
-// The first count numbers are the line's, and the first known values are those before it; a value that it makes is the next.
+// The values are those before the line, and beside them is the one that it makes, where it makes one.
 pub fn line_cells(
     word: Word,
     numbers: &[i64],
-    count: usize,
     p: u32,
     values: &[i64],
-    known: usize,
+    made: &[i64],
     part: &mut [u32],
 )
-    requires { CellsGiven p (word_of word) numbers.now count values.now known part.old }
-    ensures { CellsYield p (word_of word) numbers.now count values.now known part.old part.new }
+    requires { CellsGiven p (word_of word) numbers.now values.now made.now part.old }
+    ensures { CellsYield p (word_of word) numbers.now values.now made.now part.old part.new }
 {
     match word {
         Word::Field => {}
-        Word::In => known_cell(part, p, values, known),
-        Word::Span => span_line_cells(numbers, values, part),
-        Word::Sum => known_cell(part, p, values, known),
-        Word::Relu => relu_line_cells(numbers, p, values, part),
-        Word::Which => which_line_cells(numbers, p, values, part),
-        Word::Max => max_line_cells(numbers, p, values, part),
-        Word::Root => root_line_cells(numbers, p, values, part),
+        Word::In | Word::Sum => known_cell(part, p, made, 0),
+        Word::Span => {
+            let v = value_at(numbers, 0, values);
+            form_cells(part, v.whole, whole_at(numbers, 3), digits_from(numbers, 1));
+        }
+        Word::Relu => {
+            let v = value_at(numbers, 0, values);
+            signed_cells(part, p, relu_value(v), v.whole, digits_from(numbers, 1));
+        }
+        Word::Which => {
+            let u = value_at(numbers, 0, values);
+            let v = value_at(numbers, 1, values);
+            let x = whole_difference(u.whole, v.whole);
+            signed_cells(part, p, which_value(u, v), x, digits_from(numbers, 2));
+        }
+        Word::Max => {
+            let u = value_at(numbers, 0, values);
+            let v = value_at(numbers, 1, values);
+            max_cells(part, p, u, v, digits_from(numbers, 2));
+        }
+        Word::Root => {
+            let v = value_at(numbers, 0, values);
+            root_cells(part, p, v, digits_from(numbers, 1));
+        }
     }
 }

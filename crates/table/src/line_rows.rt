@@ -2,37 +2,57 @@
 ghost use Rattle.text.specs.Word.{word_of};
 ghost use Rattle.table.specs.LineRows.{RowsGiven, RowsYield};
 
-use super::max::max_line_rows;
-use super::relu::relu_line_rows;
-use super::root::root_line_rows;
-use super::span::span_line_rows;
-use super::sum::sum_line_rows;
-use super::which::which_line_rows;
-use groups::rows::Rows;
+use super::max::max_rows;
+use super::relu::relu_rows;
+use super::root::root_rows;
+use super::span::span_rows;
+use super::sum::sum_rows;
+use super::which::which_rows;
+use groups::cells::Table;
+use groups::numbers::{digits_from, place_at};
 use number::Cell;
+use number::whole::whole_at;
 use text::Word;
 
-// The first row of a line that fails, counted from 0 in the line. A field line and an input line have none.
+// The first row of a line that fails, counted from 0 in the line. Places has the cell of each value before the line. A field line and an input line have none. FORMAT 7.7
 pub fn line_rows(
     word: Word,
     numbers: &[i64],
-    count: usize,
-    table: &[u32],
-    p: u32,
+    table: Table,
     at: Cell,
     places: &[u16],
-) -> Rows
-    requires { RowsGiven p (word_of word) numbers.now count table.now at.0 places.now }
-    ensures { RowsYield p (word_of word) numbers.now count table.now at.0 places.now result }
+) -> Result<(), usize>
+    requires { RowsGiven table.p (word_of word) numbers.now table.cells.now at.0 places.now }
+    ensures { RowsYield table.entry.p (word_of word) numbers.now table.entry.cells.now at.0 places.now result }
 {
     match word {
-        Word::Field => Rows::AllHold,
-        Word::In => Rows::AllHold,
-        Word::Span => span_line_rows(numbers, table, p, at, places),
-        Word::Sum => sum_line_rows(numbers, count, table, p, at, places),
-        Word::Relu => relu_line_rows(numbers, table, p, at, places),
-        Word::Which => which_line_rows(numbers, table, p, at, places),
-        Word::Max => max_line_rows(numbers, table, p, at, places),
-        Word::Root => root_line_rows(numbers, table, p, at, places),
+        Word::Field | Word::In => Ok(()),
+        Word::Span => {
+            let v = place_at(numbers, 0, places);
+            span_rows(table, v, at, digits_from(numbers, 1), whole_at(numbers, 3))
+        }
+        Word::Sum => sum_rows(table, at, numbers, places),
+        Word::Relu => relu_rows(
+            table,
+            place_at(numbers, 0, places),
+            at,
+            digits_from(numbers, 1),
+        ),
+        Word::Which => {
+            let u = place_at(numbers, 0, places);
+            let v = place_at(numbers, 1, places);
+            which_rows(table, u, v, at, digits_from(numbers, 2))
+        }
+        Word::Max => {
+            let u = place_at(numbers, 0, places);
+            let v = place_at(numbers, 1, places);
+            max_rows(table, u, v, at, digits_from(numbers, 2))
+        }
+        Word::Root => root_rows(
+            table,
+            place_at(numbers, 0, places),
+            at,
+            digits_from(numbers, 1),
+        ),
     }
 }

@@ -1,95 +1,55 @@
 // A line `span v b k L`: L ≤ v ≤ L + c - 1 with c = b^k. It makes no value. Its cells and its rows are those of the group over v with
 // shift L. FORMAT 3.7, 7.9
 ghost use Rattle.std.specs.Prelude.{◌≡◌, cond, [], ℕ, ◌^◌, ◌≤◌, ◌<◌, ◌+◌, ℤ, length};
-ghost use Rattle.algebra.specs.Digits.{Below};
 ghost use Rattle.meaning.specs.Number.{between};
-ghost use Rattle.meaning.specs.Word.{span};
 ghost use Rattle.meaning.specs.Known.{Known, place_of};
 ghost use Rattle.meaning.specs.Row.{holds};
 ghost use Rattle.meaning.specs.Refusal.{value, refused_by};
 ghost use Rattle.meaning.specs.Gadget.Span.{span_top, span_line};
 ghost use Rattle.number.specs.Bounded.{Bounded};
 ghost use Rattle.groups.specs.Rows.{rows_meaning, first_refusal};
-ghost use Rattle.groups.specs.Cells.{worked_meaning, GroupOf, power_bound};
-ghost use Rattle.table.specs.LineValues.{ValuesGiven, WorkYield, CellsGiven, CellsYield};
-ghost use Rattle.table.specs.LineRows.{RowsGiven, RowsYield};
+ghost use Rattle.groups.specs.Cells.{worked_meaning, power_bound};
 
-use groups::group::{form_cells, group_rows, power_of};
-use groups::named::{one_place, one_value};
-use groups::rows::Rows;
-use groups::value::Worked;
-use number::residue::{difference, remainder_of, residue_at};
-use number::whole::{whole_at, whole_sum, wide_whole, within};
+use super::value::Value;
+use groups::cells::Table;
+use groups::digits::Digits;
+use groups::group::group_rows;
+use number::residue::{difference, remainder_of};
+use number::whole::{whole_sum, wide_whole, within};
 use number::{Cell, Whole};
+use refusal::Refusal;
 
 // ---- working
 
-// Of every b and k with the power c.
-fn span_works(v: Whole, c: u64, shift: Whole) -> Worked
-    requires { (0 < c) × (c ≤ power_bound) × Bounded power_bound shift.0 }
-    ensures { (b k : ℕ) → c ≡ b ^ k
-        → worked_meaning result ≡ cond (between shift.0 v.0 (span_top b k shift.0)) (value []) (refused_by 18) }
+#[tactic(auto, unfolding(meaning::specs::Gadget::Span::span_top))]
+pub fn span_works(v: Value, digits: Digits, shift: Whole) -> Result<Option<Whole>, Refusal>
+    requires { Bounded power_bound shift.0 }
+    ensures { worked_meaning result ≡ cond (between shift.0 v.whole.0 (span_top digits.base digits.count shift.0)) (value []) (refused_by 18) }
 {
-    let top = whole_sum(shift, wide_whole(c - 1));
-    if within(shift, v, top) {
-        Worked::NoValue
+    let top = whole_sum(shift, wide_whole(digits.power() - 1));
+    if within(shift, v.whole, top) {
+        Ok(None)
     } else {
-        Worked::False
+        Err(Refusal::StatementFalse)
     }
-}
-
-pub fn span_line_works(numbers: &[i64], values: &[i64]) -> Worked
-    requires { ValuesGiven span numbers.now 4 values.now }
-    ensures { (next : ℤ) → WorkYield span numbers.now 4 values.now next result }
-{
-    let read = one_value(numbers, values);
-    let c = power_of(read.base, read.count);
-    span_works(read.value, c, whole_at(numbers, 3))
-}
-
-// ---- cells
-
-// The cells are the same modulo every p.
-pub fn span_line_cells(numbers: &[i64], values: &[i64], part: &mut [u32])
-    requires { (p : ℕ) × (known : ℕ) × CellsGiven p span numbers.now 4 values.now known part.old }
-    ensures { (p known : ℕ)
-        → CellsYield p span numbers.now 4 values.now known part.old part.new }
-{
-    let read = one_value(numbers, values);
-    form_cells(
-        part,
-        read.value,
-        whole_at(numbers, 3),
-        read.base,
-        read.count,
-    );
 }
 
 // ---- rows
 
-fn span_rows(table: &[u32], p: u32, place: Cell, at: Cell, b: u32, k: usize, shift: Whole) -> Rows
-    requires { (0 < p) × Below p table.now × (place.0 < length table.now) × (at.0 + k ≤ length table.now)
-        × GroupOf b k (b ^ k) × (b ^ k ≤ p) }
-    ensures { (s : Known) (v : ℕ) → s.p ≡ p → place_of s v ≡ place.0 → s.cells ≡ at.0
-        → rows_meaning result ≡ first_refusal (holds p table.now) 0 (span_line s v b k shift.0).rows }
+pub fn span_rows(
+    table: Table,
+    place: Cell,
+    at: Cell,
+    digits: Digits,
+    shift: Whole,
+) -> Result<(), usize>
+    requires { (0 < table.p) × (place.0 < length table.cells.now) × (at.0 + digits.count ≤ length table.cells.now)
+        × (digits.base ^ digits.count ≤ table.p) }
+    ensures { let p = table.entry.p in let t = table.entry.cells.now in
+        (s : Known) (v : ℕ) → s.p ≡ p → place_of s v ≡ place.0 → s.cells ≡ at.0
+        → rows_meaning result ≡ first_refusal (holds p t) 0 (span_line s v digits.base digits.count shift.0).rows }
 {
-    let lowest = remainder_of(shift, p);
-    let number = difference(residue_at(table, place), lowest, p);
-    group_rows(table, number, 0, at, b, k)
-}
-
-pub fn span_line_rows(numbers: &[i64], table: &[u32], p: u32, at: Cell, places: &[u16]) -> Rows
-    requires { RowsGiven p span numbers.now 4 table.now at.0 places.now }
-    ensures { RowsYield p span numbers.now 4 table.now at.0 places.now result }
-{
-    let read = one_place(numbers, places);
-    span_rows(
-        table,
-        p,
-        read.place,
-        at,
-        read.base,
-        read.count,
-        whole_at(numbers, 3),
-    )
+    let lowest = remainder_of(shift, table.p);
+    let number = difference(table.at(place), lowest, table.p);
+    group_rows(table.cells, number, 0, at, digits)
 }

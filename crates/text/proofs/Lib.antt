@@ -6,3 +6,4 @@ pub mod Ends
 pub mod Sizing
 pub mod Signed
 pub mod Words
+pub mod Codes

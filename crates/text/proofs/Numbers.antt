@@ -14,12 +14,11 @@ use lib.ListN.{length, get_or, drop}
 use mir.Syntax.{w64}
 use mir.Val.{SFits, to_z, of_z}
 use mir.ValLaws.{to_z_pos, to_z-of_z}
+use Rattle.std.specs.Char.{is_ascii_digit}
 use Rattle.meaning.specs.Text.{same_bytes, is_digit, all_digits, decimal, is_plain, largest, sized, number}
 use Rattle.meaning.proofs.Results.{none-refused, refused_none}
-use Rattle.text.specs.declared.Number.{Number}
-use Rattle.text.specs.declared.Number.TheVariants.{Of, NoNumber}
-use Rattle.text.specs.declared.Size.{Size}
-use Rattle.text.specs.declared.Size.TheVariants.{Plain, NoSize}
+use Rattle.std.specs.Prelude.{Option as Answer, Some, None}
+use Rattle.text.specs.declared.Field.{Field}
 use Rattle.text.specs.Number.{plain_size, SizeRead, NumberSpelled, NumberYield}
 use Rattle.text.specs.Place.{index_of, Found, field_at}
 use Rattle.text.proofs.Places.{index-past, index-end, found-next, field-empty, field-byte, field-more}
@@ -27,10 +26,6 @@ use Rattle.text.proofs.Places.{index-past, index-end, found-next, field-empty, f
 -- ---- a digit
 
 module _ (x : ℕ) where
-  pub digit-below : x < 48 → is_digit x ≡ false
-  unfolding is_digit
-  digit-below low = simp (lt-leb 48 x low)
-
   pub digit-from : 48 ≤ x → is_digit x ≡ leb x 57
   unfolding is_digit
   digit-from low = simp (le-leb 48 x low)
@@ -40,6 +35,10 @@ module _ (x : ℕ) where
 
   pub digit-above : 57 < x → is_digit x ≡ false
   digit-above high = digit-from (omega arith) ∙ lt-leb x 57 high
+
+  pub ascii-digit : is_digit x ≡ is_ascii_digit x
+  unfolding is_digit
+  ascii-digit = refl
 
   digit_at : (t u : Bool) → leb 48 x ≡ t → leb x 57 ≡ u → t && u ≡ true → (48 ≤ x) × (x ≤ 57)
   digit_at true true p q both = (leb-true 48 x p, leb-true x 57 q)
@@ -132,37 +131,37 @@ sized-none-at true n sign q = cc
 sized-none-at false n sign q = refl
 
 -- what `size_from` answered, as the definition asks it
-module _ (line : List ℕ) (at : ℕ) {r : Size} (read : SizeRead line at r) where
-  size-is-none : r ≡ NoSize → plain_size (field_at line at) ≡ none
+module _ (line : List ℕ) (at : ℕ) {r : Answer (Field ℕ)} (read : SizeRead line at r) where
+  size-is-none : r ≡ None → plain_size (field_at line at) ≡ none
   unfolding SizeRead
   size-is-none q = refused_none 3 _ (rw q at read)
 
-  sized-none : (sign : ℕ → ℤ) → r ≡ NoSize → sized (field_at line at) sign ≡ none
+  sized-none : (sign : ℕ → ℤ) → r ≡ None → sized (field_at line at) sign ≡ none
   unfolding sized plain_size
   sized-none sign q =
       let xs = field_at line at in sized-none-at (is_plain xs && leb (decimal 0 xs) largest) (decimal 0 xs) sign (size-is-none q)
 
-  module _ {n place : ℕ} (q : r ≡ Plain n place) where
-    size_is : plain_size (field_at line at) ≡ some n
+  module _ {f : Field ℕ} (q : r ≡ Some f) where
+    size_is : plain_size (field_at line at) ≡ some f.value
     unfolding SizeRead
     size_is = (rw q at read).0
 
-    size-ends : Found 9 line at place
+    size-ends : Found 9 line at f.end
     unfolding SizeRead
     size-ends = (rw q at read).1
 
-    sized-is : (sign : ℕ → ℤ) → sized (field_at line at) sign ≡ some (sign n)
+    sized-is : (sign : ℕ → ℤ) → sized (field_at line at) sign ≡ some (sign f.value)
     unfolding sized plain_size
-    sized-is sign = let xs = field_at line at in sized-at (is_plain xs && leb (decimal 0 xs) largest) (decimal 0 xs) sign n size_is
+    sized-is sign = let xs = field_at line at in sized-at (is_plain xs && leb (decimal 0 xs) largest) (decimal 0 xs) sign f.value size_is
 
-    size_small : n ≤ largest
-    size_small = plain-small (field_at line at) n size_is
+    size_small : f.value ≤ largest
+    size_small = plain-small (field_at line at) f.value size_is
 
-    pub size_fits : SFits w64 (pos n)
-    size_fits = sfits_pos n size_small
+    pub size_fits : SFits w64 (pos f.value)
+    size_fits = sfits_pos f.value size_small
 
-    pub size-fits-minus : SFits w64 (pos 0 -ℤ to_z w64 n)
-    size-fits-minus = rw (minus_is n size_small) (sfits_neg n size_small)
+    pub size-fits-minus : SFits w64 (pos 0 -ℤ to_z w64 f.value)
+    size-fits-minus = rw (minus_is f.value size_small) (sfits_neg f.value size_small)
 
 -- ---- the sign that the first byte says
 
@@ -190,14 +189,14 @@ module _ (line : List ℕ) (at : ℕ) where
       zero_more : field_at line at ≡ 48 ∷ field_at line (at + 1)
       zero_more = field-more line at h (λ e. omega arith) ∙ rw zero-byte
 
-      pub zero_number : index_of 9 (drop (at + 1) line) ≡ 0 → NumberYield line at (Of (pos 0) (at + 1))
+      pub zero_number : index_of 9 (drop (at + 1) line) ≡ 0 → NumberYield line at (Some (record { value = pos 0; end = at + 1 }))
       unfolding NumberSpelled number same_bytes
       zero_number q = (
         rw (zero_more, field-empty line (at + 1) q),
         record { low = omega arith; high = omega arith; is = omega (arith, q, index-past 9 line at h (λ e. omega arith)) },
       )
 
-      pub zero-none : (length (field_at line (at + 1)) ≡ 0 → ⊥) → NumberYield line at NoNumber
+      pub zero-none : (length (field_at line (at + 1)) ≡ 0 → ⊥) → NumberYield line at None
       unfolding NumberSpelled
       zero-none more = none-refused 3 (rw zero_more (number-zero-more (field_at line (at + 1)) more))
 
@@ -205,14 +204,15 @@ module _ (line : List ℕ) (at : ℕ) where
       minus-sized : number (field_at line at) ≡ sized (field_at line (at + 1)) (λ n. neg_ℤ (pos n))
       minus-sized = rw (field-more line at h (λ e. omega arith), minus) (number-minus-is (field_at line (at + 1)))
 
-      module _ {r : Size} (read : SizeRead line (at + 1) r) where
-        pub minus-none : r ≡ NoSize → NumberYield line at NoNumber
+      module _ {r : Answer (Field ℕ)} (read : SizeRead line (at + 1) r) where
+        pub minus-none : r ≡ None → NumberYield line at None
         unfolding NumberSpelled
         minus-none q = none-refused 3 (minus-sized ∙ sized-none line (at + 1) read _ q)
 
-        pub minus_number : {n place : ℕ} → r ≡ Plain n place → NumberYield line at (Of (to_z w64 (of_z w64 (pos 0 -ℤ to_z w64 n))) place)
+        pub minus_number : {f : Field ℕ} → r ≡ Some f → NumberYield line at (Some (record { value = to_z w64 (of_z w64 (pos 0 -ℤ to_z w64 f.value)); end = f.end }))
         unfolding NumberSpelled
-        minus_number {n} q =
+        minus_number {f} q =
+            let n = f.value in
             let small = size_small line (at + 1) read q in (
               rw (minus_is n small, to_z-of_z w64 (neg_ℤ (pos n)) (sfits_neg n small)) (minus-sized ∙ sized-is line (at + 1) read q _),
               found-next 9 line at h (λ e. omega arith) (size-ends line (at + 1) read q),
@@ -227,28 +227,29 @@ module _ (line : List ℕ) (at : ℕ) where
       | no h ↦ rw (field-empty line at (index-end 9 line at (omega arith)))
     ]
 
-    module _ {r : Size} (read : SizeRead line at r) where
-      pub plain-none : r ≡ NoSize → NumberYield line at NoNumber
+    module _ {r : Answer (Field ℕ)} (read : SizeRead line at r) where
+      pub plain-none : r ≡ None → NumberYield line at None
       unfolding NumberSpelled
       plain-none q = none-refused 3 (plain-sized ∙ sized-none line at read _ q)
 
-      pub plain-number : {n place : ℕ} → r ≡ Plain n place → NumberYield line at (Of (to_z w64 (of_z w64 (pos n))) place)
+      pub plain-number : {f : Field ℕ} → r ≡ Some f → NumberYield line at (Some (record { value = to_z w64 f.value; end = f.end }))
       unfolding NumberSpelled
-      plain-number {n} q =
-          (rw (to_z-of_z w64 (pos n) (size_fits line at read q)) (plain-sized ∙ sized-is line at read q _), size-ends line at read q)
+      plain-number {f} q =
+          let small = size_small line at read q in
+          (rw (to_z_pos w64 f.value (omega arith)) (plain-sized ∙ sized-is line at read q _), size-ends line at read q)
 
 -- what `number_at` and `number_of` answered
-module _ (bytes : List ℕ) (Ends : ℕ → Type 0) {r : Number} (read : NumberSpelled bytes Ends r) where
-  pub number-is-none : r ≡ NoNumber → number bytes ≡ none
+module _ (bytes : List ℕ) (Ends : ℕ → Type 0) {r : Answer (Field ℤ)} (read : NumberSpelled bytes Ends r) where
+  pub number-is-none : r ≡ None → number bytes ≡ none
   unfolding NumberSpelled
   number-is-none q = refused_none 3 _ (rw q at read)
 
-  module _ {z : ℤ} {place : ℕ} (q : r ≡ Of z place) where
-    pub number_is : number bytes ≡ some z
+  module _ {f : Field ℤ} (q : r ≡ Some f) where
+    pub number_is : number bytes ≡ some f.value
     unfolding NumberSpelled
     number_is = (rw q at read).0
 
-    pub number-ends : Ends place
+    pub number-ends : Ends f.end
     unfolding NumberSpelled
     number-ends = (rw q at read).1
 

@@ -13,6 +13,15 @@ use borrow.Author.Tests.{eqb-true, ltb-true, ltb-false, lt-ltb, le-ltb, eq-eqb, 
 use lib.Dec.{ltb, eqb, leb-suc-suc}
 use lib.ListN.{length, get_or, take, drop, length-drop, drop_of_length-le}
 use lib.Seq.{drop-drop, get_or-drop, take_all}
+use Rattle.std.specs.Prelude.{Option as Answer, Some, None, ◌==◌}
+use Rattle.std.specs.List.{position, position_or_len}
+use Rattle.std.proofs.lemmas.List.Recursion.{is_position_or_len}
+use Rattle.std.specs.Option.{option_copied, option_eq}
+use Rattle.std.specs.List.{slice_get}
+use denote.Bor.{Bor}
+use native.Mathlib.Decide.{dec_lt}
+use Rattle.std.proofs.lemmas.Option.{cond_some, none-some, slice_get-get_or, slice_get_past}
+use Rattle.std.proofs.lemmas.List.Sums.{prefix_len-le-length}
 use Rattle.meaning.specs.Text.{on_first, split, without_last, lines_of, is_ended}
 use Rattle.text.specs.Place.{index_of, Found, field_at, lines_from}
 use Rattle.text.proofs.Bytes.{drop_more}
@@ -37,6 +46,33 @@ pub found-next : (separator : ℕ) (xs : List ℕ) (at : ℕ) {place : ℕ} → 
     → Found separator xs (at + 1) place → Found separator xs at place
 found-next separator xs at h q found =
     record { low = omega (arith, found.low); high = found.high; is = omega (arith, found.is, index-past separator xs at h q) }
+
+-- ---- what a search by `position` finds
+
+index-position : (separator : ℕ) (xs : List ℕ) → index_of separator xs ≡ position_or_len (λ x. x == separator) xs
+unfolding index_of
+index-position separator xs = is_position_or_len (index_of separator) (λ x. x == separator) refl (λ x ys. head (x == separator) (index_of separator ys)) xs
+  where
+    head : (t : Bool) (n : ℕ) → cond t 0 (suc n) ≡ cond t 0 (1 + n)
+    head true n = refl
+    head false n = omega arith
+
+no-place : {n m : ℕ} (t : Bool) → ltb n m ≡ t → cond t (Some n) None ≡ None → m ≤ n
+no-place true e q = absurd (none-some _ (sym q))
+no-place {n} {m} false e q = ltb-false n m e
+
+module _ (separator : ℕ) (xs : List ℕ) (at : ℕ) (inside : at ≤ length xs) (r : Answer ℕ) (is : r ≡ position (λ x. x == separator) (drop at xs)) where
+  pub found-some : {i : ℕ} → r ≡ Some i → Found separator xs at (at + i)
+  found-some {i} q =
+      let found = cond_some _ _ _ (sym is ∙ q) in
+      record { low = omega arith; high = omega (arith, ltb-true _ _ found.0, found.1, length-drop at xs); is = ap (λ (n : ℕ). at + n) (sym found.1 ∙ sym (index-position separator (drop at xs))) }
+
+  pub found-none : r ≡ None → Found separator xs at (length xs)
+  found-none q =
+      let place = index_of separator (drop at xs) in
+      let within : place ≤ length (drop at xs) = rw (index-position separator (drop at xs)) (prefix_len-le-length _ (drop at xs)) in
+      let past : length (drop at xs) ≤ place = rw (index-position separator (drop at xs)) (no-place _ refl (sym is ∙ q)) in
+      record { low = inside; high = omega arith; is = omega (arith, length-drop at xs, within, past) }
 
 -- ---- the field at a place
 
@@ -100,19 +136,6 @@ module _ {separator : ℕ} {xs : List ℕ} {at i : ℕ} (searched : Searched sep
   pub search-stop : index_of separator (drop i xs) ≡ 0 → Found separator xs at i
   search-stop here = record { low = searched.low; high = searched.high; is = omega (arith, searched.same, here) }
 
-  pub search-here : i < length xs → get_or xs i 0 ≡ separator → Found separator xs at i
-  search-here h q = search-stop (index-here separator xs i h q)
-
-  pub search-end : length xs ≤ i → Found separator xs at i
-  search-end h = search-stop (index-end separator xs i h)
-
-  pub search-on : {place : ℕ} → Found separator xs i place → Found separator xs at place
-  search-on found = record {
-    low = omega (arith, searched.low, found.low);
-    high = found.high;
-    is = omega (arith, searched.same, found.is);
-  }
-
 -- ---- the part before the first separator, and those after it
 
 -- the parts after the one that ends at a place: none, where that is the end
@@ -175,18 +198,36 @@ fields-one xs h = fields-from xs 0 ∙ rw (parts_none 9 xs (index_of 9 xs) h, fi
 
 -- ---- an ended text
 
-pub ended-empty : (text : List ℕ) → length text ≡ 0 → is_ended text ≡ false
+ended-empty : (text : List ℕ) → length text ≡ 0 → is_ended text ≡ false
 unfolding is_ended
 ended-empty [] h = refl
 ended-empty (x ∷ xs) h = let z : ⊥ = omega arith in absurd z
 
-pub ended-last : (text : List ℕ) → (length text ≡ 0 → ⊥) → is_ended text ≡ eqb (get_or text (length text - 1) 0) 10
+ended-last : (text : List ℕ) → (length text ≡ 0 → ⊥) → is_ended text ≡ eqb (get_or text (length text - 1) 0) 10
 unfolding is_ended
 ended-last [] h = absurd (h refl)
 ended-last (x ∷ []) h = refl
 ended-last (x ∷ (y ∷ xs)) h =
     let e : length (x ∷ (y ∷ xs)) - 1 ≡ suc (length (y ∷ xs) - 1) = omega arith in
     rw e (ended-last (y ∷ xs) (λ z. omega arith))
+
+-- the last byte, where there is one, says it
+some-last : (o : Answer (Bor ℕ)) (x : ℕ) (ten : Bor ℕ) → option_copied o ≡ Some x → option_eq (λ a b. eqb a.now b.now) o (Some ten) ≡ eqb x ten.now
+some-last None x ten q = absurd (none-some x q)
+some-last (Some y) x ten q = let e : y.now ≡ x = cc in rw e
+
+none-last : (o : Answer (Bor ℕ)) (ten : Bor ℕ) → option_copied o ≡ None → option_eq (λ a b. eqb a.now b.now) o (Some ten) ≡ false
+none-last None ten q = refl
+none-last (Some y) ten q = absurd (none-some y.now (sym q))
+
+pub ended-by-last : (text : List ℕ) (last : Answer (Bor ℕ)) (ten : Bor ℕ) → option_copied last ≡ slice_get text (length text - 1) → ten.now ≡ 10
+    → option_eq (λ a b. eqb a.now b.now) last (Some ten) ≡ is_ended text
+ended-by-last text last ten q e = elim (dec_lt 0 (length text)) [
+  | yes h ↦
+      let some-byte = slice_get-get_or text (length text - 1) 0 (omega arith) in
+      some-last last (get_or text (length text - 1) 0) ten (q ∙ some-byte) ∙ rw e (sym (ended-last text (λ z. omega arith)))
+  | no h ↦ none-last last ten (q ∙ slice_get_past text (length text - 1) (omega arith)) ∙ sym (ended-empty text (omega arith))
+]
 
 ended-index-at : (t : Bool) (n m : ℕ) → n < m → cond t 0 (suc n) < suc m
 ended-index-at true n m h = omega arith

@@ -1,22 +1,24 @@
 -- Laws of a size, as `size_from` reads it: the first digit, one more, and each way out. It reads up to ten digits before it looks at how
 -- large they make the size.
-use mathlib.Core.Path.{◌≡◌, refl, ◌∙◌}
-use mathlib.Core.Bool.{true, false}
+use mathlib.Core.Path.{◌≡◌, refl, sym, ◌∙◌}
+use mathlib.Core.Bool.{Bool, true, false, ◌||◌}
 use mathlib.Core.List.{List}
-use mathlib.Core.Logic.{◌⊎◌}
+use mathlib.Core.Logic.{◌⊎◌, ⊎_elim}
 use mathlib.Core.Option.{none}
 use Prim.Native.Nat.{ℕ, suc, ◌+◌, ◌*◌, ◌-◌, ◌^◌, ◌≤◌, ◌<◌}
 use native.Mathlib.Decide.{dec_lt}
 use native.Mathlib.Nat.{pow-suc, pow-le-pow_right}
 use native.Mathlib.Omega.{arith}
-use lib.ListN.{length, get_or, take}
-use Rattle.meaning.specs.Text.{is_ended, is_digit, largest}
+use lib.Dec.{eqb}
+use lib.ListN.{get_or, take}
+use Rattle.meaning.specs.Text.{is_digit, largest}
 use Rattle.meaning.proofs.Results.{none-refused}
-use Rattle.text.specs.declared.Size.TheVariants.{Plain, NoSize}
+use Rattle.std.specs.Prelude.{Some, None}
+use Rattle.std.specs.Bool.{then_some}
 use Rattle.text.specs.Number.{plain_size, SizeRead}
-use Rattle.text.specs.Place.{end_of, up_to, field_at}
+use Rattle.text.specs.Place.{field_at}
 use Rattle.text.proofs.Places.{Searched, search-past, search-stop}
-use Rattle.text.proofs.Ends.{InLine, in-line, cut-length, cut-byte, before-end, place-next, field-ends}
+use Rattle.text.proofs.Ends.{InLine, cut-length, cut-byte, before-end, place-next, field-ends, ends-field, no-field-end}
 use Rattle.text.proofs.Numbers.{digit-bounds, digit-is, digit-above, digits_after, digits-end, digits-not, digits-next, digits-over, size-empty, size_low, size-digits}
 
 -- ---- how many digits a number has
@@ -37,10 +39,6 @@ digit-longer {n} {k} l h e =
     let power : 10 ^ suc k ≡ 10 ^ k * 10 = pow-suc 10 k in
     rw e (record { low = omega (arith, l.low, power); high = omega (arith, l.high, power) })
 
--- ten digits have room in a machine word
-pub digits-room : {n k : ℕ} → DigitsLong n k → k ≤ 10 → n < 10 ^ 10
-digits-room l h = omega (arith, l.high, ten-powers h)
-
 -- an eleventh makes any number too large
 pub digits-most : {n k : ℕ} (d : ℕ) → DigitsLong n k → 10 ≤ k → largest < 10 * n + d
 digits-most d l h = omega (arith, l.low, ten-powers h)
@@ -48,11 +46,11 @@ digits-most d l h = omega (arith, l.low, ten-powers h)
 -- ---- no size
 
 module _ {text : List ℕ} {at end : ℕ} (l : InLine text at end) where
-  no_size : plain_size (field_at (take end text) at) ≡ none → SizeRead (take end text) at NoSize
+  no_size : plain_size (field_at (take end text) at) ≡ none → SizeRead (take end text) at None
   unfolding SizeRead
   no_size q = none-refused 3 q
 
-  pub size-starts-low : get_or text at 0 ≤ 48 → SizeRead (take end text) at NoSize
+  size-starts-low : get_or text at 0 ≤ 48 → SizeRead (take end text) at None
   size-starts-low low = elim (dec_lt at end) [
     | yes h ↦ no_size (size_low (take end text) at (omega (arith, cut-length l)) (rw (cut-byte l h) low))
     | no h ↦ no_size (size-empty (take end text) at (omega (arith, cut-length l)))
@@ -65,10 +63,14 @@ module _ {text : List ℕ} {at end : ℕ} (l : InLine text at end) where
     starts : plain_size (field_at (take end text) at) ≡ digits_after 0 (field_at (take end text) at)
     starts = size-digits (take end text) at (omega (arith, cut-length l, inside)) (rw (cut-byte l inside) high)
 
-    pub size-starts-high : 57 < get_or text at 0 → SizeRead (take end text) at NoSize
+    size-starts-high : 57 < get_or text at 0 → SizeRead (take end text) at None
     size-starts-high over =
         let byte = cut-byte l inside in
         no_size (starts ∙ digits-not (take end text) at 0 (omega (arith, cut-length l, inside)) (rw byte (digit-above _ over)) (rw byte (λ e. omega arith)))
+
+  -- no digit above 0 stands first
+  pub no_first : (get_or text at 0 < 49) ⊎ (57 < get_or text at 0) → SizeRead (take end text) at None
+  no_first = ⊎_elim (λ low. size-starts-low (omega arith)) (λ high. size-starts-high (omega arith) high)
 
 -- ---- the digits before i spell n
 
@@ -121,17 +123,17 @@ module _ {text : List ℕ} {at end n i : ℕ} (s : Sizing text at end n i) where
         left = s.left ∙ digit-left s.place digit n;
       }
 
-  none_left : digits_after n (field_at (take end text) i) ≡ none → SizeRead (take end text) at NoSize
+  none_left : digits_after n (field_at (take end text) i) ≡ none → SizeRead (take end text) at None
   unfolding SizeRead
   none_left q = none-refused 3 (s.left ∙ q)
 
-  pub sizing-most : is_digit (get_or text i 0) ≡ true → 10 ≤ i - at → SizeRead (take end text) at NoSize
+  pub sizing-most : is_digit (get_or text i 0) ≡ true → 10 ≤ i - at → SizeRead (take end text) at None
   sizing-most digit full = none_left (digit-left s.place digit n ∙ digits-over _ _ (digits-most (get_or text i 0 - 48) s.long full))
 
-  pub sizing-over : largest < n → SizeRead (take end text) at NoSize
+  sizing-over : largest < n → SizeRead (take end text) at None
   sizing-over over = none_left (digits-over n _ over)
 
-  pub sizing-end : n ≤ largest → (get_or text i 0 ≡ 9) ⊎ (get_or text i 0 ≡ 10) → SizeRead (take end text) at (Plain n i)
+  sizing-end : n ≤ largest → (get_or text i 0 ≡ 9) ⊎ (get_or text i 0 ≡ 10) → SizeRead (take end text) at (Some (record { value = n; end = i }))
   unfolding SizeRead
   sizing-end small stop =
       let here = field-ends s.place stop in (
@@ -139,17 +141,21 @@ module _ {text : List ℕ} {at end n i : ℕ} (s : Sizing text at end n i) where
         search-stop s.searched here,
       )
 
-  pub sizing-stop : is_digit (get_or text i 0) ≡ false → (get_or text i 0 ≡ 9 → ⊥) → (get_or text i 0 ≡ 10 → ⊥) → SizeRead (take end text) at NoSize
+  sizing-stop : is_digit (get_or text i 0) ≡ false → (get_or text i 0 ≡ 9 → ⊥) → (get_or text i 0 ≡ 10 → ⊥) → SizeRead (take end text) at None
   sizing-stop no_digit no-tab no_end =
       let h = before-end s.place no_end in
       let byte = cut-byte s.place h in
       none_left (digits-not (take end text) i n (omega (arith, cut-length s.place, h)) (rw byte no_digit) (rw byte no-tab))
 
--- ---- the same as the check applies them: a number that starts at 0 or below, and one with an eleventh digit
-
-pub starts_low : (text : List ℕ) (at : ℕ) → is_ended text ≡ true → at < length text → get_or text at 0 ≤ 48 → SizeRead (up_to text at) at NoSize
-starts_low text at ended h low = size-starts-low (in-line text ended at h) low
-
-pub has_most : (text : List ℕ) (at n i byte : ℕ) → Sizing text at (end_of text at) n i → byte ≡ get_or text i 0 → is_digit byte ≡ true → 10 ≤ i - at
-    → SizeRead (up_to text at) at NoSize
-has_most text at n i byte sizing same digit full = sizing-most sizing (rw same at digit) full
+  -- after the digits: a small size where the field ends here
+  pub sizing-last : (t : Bool) → is_digit (get_or text i 0) ≡ false → (largest < n → t ≡ false)
+      → (n ≤ largest → t ≡ (eqb (get_or text i 0) 9 || eqb (get_or text i 0) 10)) → SizeRead (take end text) at (then_some t (record { value = n; end = i }))
+  sizing-last t no_digit over small = elim (dec_lt largest n) [
+    | yes h ↦ rw (over h) (sizing-over h)
+    | no h ↦ at_end t (omega arith) (small (omega arith))
+  ]
+    where
+      at_end : (t : Bool) → n ≤ largest → t ≡ (eqb (get_or text i 0) 9 || eqb (get_or text i 0) 10)
+          → SizeRead (take end text) at (then_some t (record { value = n; end = i }))
+      at_end true h q = sizing-end h (ends-field _ (sym q))
+      at_end false h q = let stop = no-field-end _ (sym q) in sizing-stop no_digit stop.0 stop.1

@@ -1,29 +1,29 @@
 -- Laws of words: the two bytes that tell which word a field may be, the comparison with that word's spelling, and what it says of all words.
 use mathlib.Core.Path.{◌≡◌, refl, sym, ap, ◌∙◌}
-use mathlib.Core.Bool.{Bool, true, false, cond, ◌&&◌}
-use mathlib.Core.List.{List, [], ◌∷◌}
-use mathlib.Core.Logic.{◌≢◌, ◌⊎◌}
+use mathlib.Core.Bool.{Bool, true, false, cond, ◌&&◌, ◌||◌}
+use mathlib.Core.List.{List, [], ◌∷◌, ◌++◌, append_assoc, append-nil}
+use mathlib.Core.Logic.{◌≢◌}
 use mathlib.Core.Option.{none}
 use Prim.Native.Nat.{ℕ, zero, suc, ◌+◌, ◌≤◌, ◌<◌}
 use native.Mathlib.Omega.{arith}
 use borrow.Author.Tests.{ltb-true}
 use lib.Dec.{eqb, ltb}
-use lib.ListN.{length, get_or, take, drop, length-drop, drop_of_length-le, length-take}
-use lib.Seq.{get_or-take, get_or-drop}
-use Rattle.meaning.specs.Text.{bytes, same_bytes}
+use lib.ListN.{length, get_or, take, drop, length-drop, length-take, length-append, take-append-drop, get_or-append}
+use lib.Seq.{get_or-take, get_or-drop, take_all, take-suc}
+use Rattle.std.proofs.lemmas.List.{drop-append-le}
+use Rattle.std.specs.Bool.{then_some}
+use Rattle.meaning.specs.Text.{bytes, same_bytes, is_ended}
 use Rattle.meaning.specs.Word.{Word, field, input, span, sum, relu, which, max, root, words, kind_of}
 use Rattle.meaning.specs.Line.{word_among}
 use Rattle.meaning.specs.Refusal.{all}
 use Rattle.meaning.proofs.Words.{every-word, all_above, same-spelled, among-spelling}
 use Rattle.meaning.proofs.Results.{none-refused}
 use Rattle.text.specs.declared.Word.{Word as Read}
-use Rattle.text.specs.declared.Spelled.{Spelled}
-use Rattle.text.specs.declared.Spelled.TheVariants.{Known, NoWord}
-use Rattle.text.specs.Word.{word_of, WordYield, OnlyWord, Spells}
-use Rattle.text.specs.Place.{index_of, Found, field_at}
-use Rattle.text.proofs.Bytes.{drop_more}
+use Rattle.std.specs.Prelude.{None}
+use Rattle.text.specs.Word.{word_of, WordYield, OnlyWord}
+use Rattle.text.specs.Place.{index_of, end_of, field_at, up_to}
 use Rattle.text.proofs.Places.{Searched, search-past, search-stop, field-empty, field-more}
-use Rattle.text.proofs.Ends.{InLine, cut-length, cut-byte, before-end, place-next, field-ends}
+use Rattle.text.proofs.Ends.{InLine, in-line, place_inside, cut-length, cut-byte, before-end, place-next, field-ends, ends-field, no-field-end}
 
 -- ---- what comparing asks of a spelling
 
@@ -76,7 +76,7 @@ field-at {text} {at} {end} l k h =
     get_or-take n (drop at line) k 0 (omega (arith, long)) ∙ get_or-drop at line k 0
     ∙ get_or-take end text (at + k) 0 (omega (arith, long, length-drop at line, cut-length l))
 
-pub word-by-bytes : {text : List ℕ} {at end : ℕ} → InLine text at end → (w : Word) → field_at (take end text) at ≡ (kind_of w).spelling → w ≡ word_by_bytes (get_or text at 0) (get_or text (at + 1) 0)
+word-by-bytes : {text : List ℕ} {at end : ℕ} → InLine text at end → (w : Word) → field_at (take end text) at ≡ (kind_of w).spelling → w ≡ word_by_bytes (get_or text at 0) (get_or text (at + 1) 0)
 word-by-bytes {text} {at} {end} l w q =
     let long : 1 < length (kind_of w).spelling = ltb-true 1 (length (kind_of w).spelling) (spelling-comparable w).0 in
     let e : at + 0 ≡ at = omega arith in
@@ -86,83 +86,71 @@ word-by-bytes {text} {at} {end} l w q =
     let second : get_or (kind_of w).spelling 1 0 ≡ get_or text (at + 1) 0 = ap (λ (xs : List ℕ). get_or xs 1 0) (sym q) ∙ field-at l 1 (omega (arith, same)) in
     sym (word-by-spelling w) ∙ rw (first, second)
 
--- ---- a field beside a spelling
+-- ---- the same as the check applies them: a place in an ended text
 
-same_rest : {x : ℕ} {xs ys : List ℕ} → x ∷ xs ≡ x ∷ ys → xs ≡ ys
-same_rest q = cc
+pub second_inside : (text : List ℕ) (at : ℕ) → is_ended text ≡ true → at < length text → get_or text at 0 ≢ 10 → at + 1 < length text
+second_inside text at ended h q = place_inside (place-next (in-line text ended at h) q)
 
--- the first i bytes of the field are those of the spelling: what is left of both is the same just where all is
-pub record Spelling (text : List ℕ) (at end : ℕ) (spelled : List ℕ) (i : ℕ) : Type 0 where
+pub only_by_bytes : (text : List ℕ) (at : ℕ) → is_ended text ≡ true → at < length text → (w : Read)
+    → word_by_bytes (get_or text at 0) (get_or text (at + 1) 0) ≡ word_of w → OnlyWord (up_to text at) at w
+only_by_bytes text at ended h w is other q = word-by-bytes (in-line text ended at h) other q ∙ is
+
+-- ---- a text that goes on with a spelling, or with other bytes
+
+-- the text goes on with the field
+field-front : {text : List ℕ} {at end : ℕ} → InLine text at end
+    → let left = drop at (take end text) in drop at text ≡ field_at (take end text) at ++ (drop (index_of 9 left) left ++ drop end text)
+unfolding field_at
+field-front {text} {at} {end} l =
+    let line = take end text in
+    let left = drop at line in
+    let inside : at ≤ length line = omega (arith, cut-length l, l.found.low) in
+    ap (drop at) (sym (take-append-drop end text)) ∙ drop-append-le at line (drop end text) inside
+    ∙ ap (λ (xs : List ℕ). xs ++ drop end text) (sym (take-append-drop (index_of 9 left) left)) ∙ append_assoc (take (index_of 9 left) left) (drop (index_of 9 left) left) (drop end text)
+
+-- the text's next i bytes are those of a spelling: what is left of the field is the same as what is left of the spelling just where all is
+record Spelling (text : List ℕ) (at end : ℕ) (spelled : List ℕ) (i : ℕ) : Type 0 where
   pub place : InLine text (at + i) end
-  pub short : i ≤ length spelled
   pub searched : Searched 9 (take end text) at (at + i)
-  pub forth : field_at (take end text) at ≡ spelled → field_at (take end text) (at + i) ≡ drop i spelled
-  pub back : field_at (take end text) (at + i) ≡ drop i spelled → field_at (take end text) at ≡ spelled
+  pub left : field_at (take end text) at ≡ take i spelled ++ field_at (take end text) (at + i)
 
-pub spelling-start : {text : List ℕ} {at end : ℕ} → InLine text at end → (spelled : List ℕ) → Spelling text at end spelled 0
+spelling-start : {text : List ℕ} {at end : ℕ} → InLine text at end → (spelled : List ℕ) → Spelling text at end spelled 0
 spelling-start {text} {at} {end} l spelled =
     let e : at + 0 ≡ at = omega arith in record {
       place = rw e l;
-      short = omega arith;
       searched = rw e (record { low = omega arith; high = omega (arith, cut-length l, l.found.low); same = refl });
-      forth = rw e (λ q. q);
-      back = rw e (λ q. q);
+      left = rw e refl;
     }
 
-module _ {text : List ℕ} {at end : ℕ} (w : Word) {i : ℕ} (s : Spelling text at end (kind_of w).spelling i) where
-  module _ (h : i < length (kind_of w).spelling) where
-    left-spelled : drop i (kind_of w).spelling ≡ get_or (kind_of w).spelling i 0 ∷ drop (i + 1) (kind_of w).spelling
-    left-spelled = drop_more (kind_of w).spelling i h
+spelling-next : {text : List ℕ} {at end : ℕ} {spelled : List ℕ} {i : ℕ} → Spelling text at end spelled i → i < length spelled → 10 < get_or spelled i 0
+    → get_or text (at + i) 0 ≡ get_or spelled i 0 → Spelling text at end spelled (suc i)
+spelling-next {text} {at} {end} {spelled} {i} s h letter q =
+    let line = take end text in
+    let next : (at + i) + 1 ≡ at + suc i = omega arith in
+    let inside : at + i < end = before-end s.place (λ e. omega arith) in
+    let byte : get_or line (at + i) 0 ≡ get_or spelled i 0 = cut-byte s.place inside ∙ q in
+    let within : at + i < length line = omega (arith, cut-length s.place, inside) in
+    let no-tab : get_or line (at + i) 0 ≡ 9 → ⊥ = λ t. omega arith in
+    record {
+      place = rw next at (place-next s.place (λ t. omega arith));
+      searched = search-past s.searched within no-tab (sym next);
+      left =
+          s.left ∙ ap (λ (xs : List ℕ). take i spelled ++ xs) (rw (byte, next) at (field-more line (at + i) within no-tab))
+          ∙ sym (append_assoc (take i spelled) (get_or spelled i 0 ∷ []) (field_at line (at + suc i)))
+          ∙ ap (λ (xs : List ℕ). xs ++ field_at line (at + suc i)) (sym (take-suc spelled i 0 h));
+    }
 
-    pub spelling-differs : (get_or text (at + i) 0 ≢ get_or (kind_of w).spelling i 0) → field_at (take end text) at ≢ (kind_of w).spelling
-    spelling-differs q e =
-        let left = s.forth e ∙ left-spelled in
-        let long = ap length left in
-        let e₀ : (at + i) + 0 ≡ at + i = omega arith in
-        q (sym (rw e₀ at (field-at s.place 0 (omega (arith, long)))) ∙ ap (λ (xs : List ℕ). get_or xs 0 0) left)
+-- as far as the text goes on with the spelling of a word
+spelling-to : {text : List ℕ} {at end : ℕ} → InLine text at end → (w : Word) → (rest : List ℕ) → drop at text ≡ (kind_of w).spelling ++ rest
+    → (i : ℕ) → i ≤ length (kind_of w).spelling → Spelling text at end (kind_of w).spelling i
+spelling-to l w rest q zero h = spelling-start l (kind_of w).spelling
+spelling-to {text} {at} l w rest q (suc i) h =
+    let p = (kind_of w).spelling in
+    let byte : get_or text (at + i) 0 ≡ get_or p i 0 =
+    sym (get_or-drop at text i 0) ∙ ap (λ (xs : List ℕ). get_or xs i 0) q ∙ get_or-append p rest 0 i (omega arith) in
+    spelling-next (spelling-to l w rest q i (omega arith)) (omega arith) (above_at p (spelling-comparable w).1 i (omega arith)) byte
 
-    module _ (q : get_or text (at + i) 0 ≡ get_or (kind_of w).spelling i 0) where
-      letter : 10 < get_or text (at + i) 0
-      letter = rw q (above_at (kind_of w).spelling (spelling-comparable w).1 i h)
-
-      inside : at + i < end
-      inside = before-end s.place (λ e. omega (arith, letter))
-
-      left-field : field_at (take end text) (at + i) ≡ get_or (kind_of w).spelling i 0 ∷ field_at (take end text) (at + (i + 1))
-      left-field =
-          let byte = cut-byte s.place inside in
-          let e : (at + i) + 1 ≡ at + (i + 1) = omega arith in
-          rw (byte, q, e) at (field-more (take end text) (at + i) (omega (arith, cut-length s.place, inside)) (rw byte (λ t. omega (arith, letter))))
-
-      pub spelling-next : Spelling text at end (kind_of w).spelling (i + 1)
-      spelling-next =
-          let e : (at + i) + 1 ≡ at + (i + 1) = omega arith in
-          let byte = cut-byte s.place inside in record {
-            place = rw e at (place-next s.place (λ t. omega (arith, letter)));
-            short = omega arith;
-            searched = search-past s.searched (omega (arith, cut-length s.place, inside)) (rw byte (λ t. omega (arith, letter))) (sym e);
-            forth = λ t. same_rest (sym left-field ∙ s.forth t ∙ left-spelled);
-            back = λ t. s.back (left-field ∙ rw t (sym left-spelled));
-          }
-
-  module _ (h : length (kind_of w).spelling ≤ i) where
-    none-spelled : drop i (kind_of w).spelling ≡ []
-    none-spelled = drop_of_length-le (kind_of w).spelling h
-
-    pub spelling-end : (get_or text (at + i) 0 ≡ 9) ⊎ (get_or text (at + i) 0 ≡ 10) → (field_at (take end text) at ≡ (kind_of w).spelling) × Found 9 (take end text) at (at + i)
-    spelling-end stop =
-        let here = field-ends s.place stop in (
-          s.back (field-empty (take end text) (at + i) here ∙ sym none-spelled),
-          search-stop s.searched here,
-        )
-
-    pub spelling-more : (get_or text (at + i) 0 ≡ 9 → ⊥) → (get_or text (at + i) 0 ≡ 10 → ⊥) → field_at (take end text) at ≢ (kind_of w).spelling
-    spelling-more no-tab no_end e =
-        let inside = before-end s.place no_end in
-        let byte = cut-byte s.place inside in
-        let more = field-more (take end text) (at + i) (omega (arith, cut-length s.place, inside)) (rw byte no-tab) in
-        let long = ap length (sym more ∙ s.forth e ∙ none-spelled) in
-        omega (arith, long)
+-- ---- a word, as the check asks for it
 
 -- ---- the word among all words
 
@@ -175,10 +163,47 @@ among_none (w ∷ ws) f no_word = rw (differs (same_bytes (kind_of w).spelling f
     differs true q = absurd (no_word w (sym (same-spelled (kind_of w).spelling f q)))
     differs false q = refl
 
--- the only word that a field may be was compared with it
-pub word_read : (line : List ℕ) (at : ℕ) (w : Read) (r : Spelled) → OnlyWord line at w → Spells line at w r → WordYield line at r
-unfolding WordYield Spells
-word_read line at w (Known found place) only s =
-    (rw (s.1, among-spelling (word_of w), s.0), s.2)
-word_read line at w NoWord only s =
-    none-refused 3 (among_none words (field_at line at) (λ other q. s (q ∙ ap (λ (v : Word). (kind_of v).spelling) (only other q))))
+module _ (text : List ℕ) (at : ℕ) (ended : is_ended text ≡ true) (inside : at < length text) (w : Read) (only : OnlyWord (up_to text at) at w) where
+  abbrev spelled : List ℕ
+  spelled = (kind_of (word_of w)).spelling
+
+  abbrev line : List ℕ
+  line = up_to text at
+
+  l : InLine text at (end_of text at)
+  l = in-line text ended at inside
+
+  -- the field is none, where it is not the only word that it may be
+  no_word : field_at line at ≢ spelled → WordYield line at None
+  unfolding WordYield
+  no_word differs = none-refused 3 (among_none words (field_at line at) (λ other q. differs (q ∙ ap (λ (v : Word). (kind_of v).spelling) (only other q))))
+
+  -- where the text does not go on with the spelling
+  pub other_word : ((rest : List ℕ) → drop at text ≢ spelled ++ rest) → WordYield line at None
+  other_word differs = no_word (λ q. differs _ (rw q at (field-front l)))
+
+  module _ (rest : List ℕ) (goes-on : drop at text ≡ spelled ++ rest) where
+    s : Spelling text at (end_of text at) spelled (length spelled)
+    s = spelling-to l (word_of w) rest goes-on (length spelled) (omega arith)
+
+    pub after_word : at + length spelled < length text
+    after_word = place_inside s.place
+
+    field_is : field_at line at ≡ spelled ++ field_at line (at + length spelled)
+    field_is = s.left ∙ ap (λ (xs : List ℕ). xs ++ field_at line (at + length spelled)) (take_all (length spelled) spelled (omega arith))
+
+    -- the field is the word where it ends after the spelling, and longer where it does not
+    pub word_there : (t : Bool) → t ≡ (eqb (get_or text (at + length spelled) 0) 9 || eqb (get_or text (at + length spelled) 0) 10)
+        → WordYield line at (then_some t (record { value = w; end = at + length spelled }))
+    unfolding WordYield
+    word_there true q =
+        let here = field-ends s.place (ends-field _ (sym q)) in
+        let is : field_at line at ≡ spelled = field_is ∙ rw (field-empty line (at + length spelled) here) (append-nil spelled) in
+        (rw is (among-spelling (word_of w)), search-stop s.searched here)
+    word_there false q =
+        let stop = no-field-end _ (sym q) in
+        let before = before-end s.place stop.1 in
+        let more = field-more line (at + length spelled) (omega (arith, cut-length s.place, before)) (rw (cut-byte s.place before) stop.0) in
+        no_word (λ e.
+        let long = ap length (sym e ∙ field_is ∙ ap (λ (xs : List ℕ). spelled ++ xs) more) in
+        omega (arith, long, length-append spelled (get_or line (at + length spelled) 0 ∷ field_at line (at + length spelled + 1))))

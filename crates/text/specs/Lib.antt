@@ -3,3 +3,4 @@
 pub mod Place
 pub mod Number
 pub mod Word
+pub mod Code

@@ -1,5 +1,5 @@
 -- How the word reader's answers are read as values of the definitions. A field that is no word is refusal 3.
-use Rattle.std.specs.Prelude.{◌≡◌, Bool, List, ◌≢◌, ℕ, length, ℤ}
+use Rattle.std.specs.Prelude.{◌≡◌, Bool, List, ℕ, length, ℤ, Option as Answer, Some, None}
 use Rattle.std.proofs.Math.Option.{some}
 use Rattle.meaning.specs.Refusal.{refused_by, or_refused}
 use Rattle.meaning.specs.Word.{field, input, span, sum, relu, which, max, root, words, kind_of}
@@ -7,8 +7,7 @@ use Rattle.meaning.specs.Line.{word_among}
 use Rattle.meaning.specs.Word.{Word as Meant}
 use Rattle.text.specs.declared.Word.{Word}
 use Rattle.text.specs.declared.Word.TheVariants.{Field, In, Span, Sum, Relu, Which, Max, Root}
-use Rattle.text.specs.declared.Spelled.{Spelled}
-use Rattle.text.specs.declared.Spelled.TheVariants.{Known, NoWord}
+use Rattle.text.specs.declared.Field.{Field as Yielded}
 use Rattle.text.specs.Place.{Found, field_at}
 
 unfoldable pub word_of : Word → Meant
@@ -22,18 +21,13 @@ word_of Max = max
 word_of Root = root
 
 -- the answer is the word of the field at a place, and the place where that field ends
-unfoldable pub WordYield : List ℕ → ℕ → Spelled → Type 0
-WordYield line at (Known w place) = (word_among words (field_at line at) ≡ some (word_of w)) × Found 9 line at place
-WordYield line at NoWord = or_refused 3 (word_among words (field_at line at)) ≡ refused_by 3
+unfoldable pub WordYield : List ℕ → ℕ → Answer (Yielded Word) → Type 0
+WordYield line at (Some f) = (word_among words (field_at line at) ≡ some (word_of f.value)) × Found 9 line at f.end
+WordYield line at None = or_refused 3 (word_among words (field_at line at)) ≡ refused_by 3
 
 -- the field at a place is this word or none
 abbrev pub OnlyWord : List ℕ → ℕ → Word → Type 0
 OnlyWord line at w = (other : Meant) → field_at line at ≡ (kind_of other).spelling → other ≡ word_of w
-
--- the answer is this word, with the place where its field ends, just where the field at a place is that word
-unfoldable pub Spells : List ℕ → ℕ → Word → Spelled → Type 0
-Spells line at w (Known found place) = (found ≡ w) × (field_at line at ≡ (kind_of (word_of w)).spelling) × Found 9 line at place
-Spells line at w NoWord = field_at line at ≢ (kind_of (word_of w)).spelling
 
 -- the answer says of any numbers, so many, whether as many belong to the word
 abbrev pub CountYield : Word → (count : ℕ) → Bool → Type 0

@@ -5,148 +5,93 @@
 // contract says that it is the definition's. Nothing is read past a slice's end and no sum overflows, however long the bytes are.
 #![tactic(auto)]
 
+mod code;
+
 ghost use Rattle.std.specs.Prelude.{◌≡◌, true, ◌||◌, ◌≤◌, ◌<◌, eqb, length};
-ghost use Rattle.meaning.specs.Text.{same_bytes, is_ended, is_digit};
+ghost use Rattle.meaning.specs.Text.{is_ended};
 ghost use Rattle.meaning.specs.Word.{kind_of};
 ghost use Rattle.text.specs.Number.{SizeRead, NumberYield};
-ghost use Rattle.text.specs.Word.{word_of, WordYield, OnlyWord, Spells, CountYield};
+ghost use Rattle.text.specs.Word.{word_of, WordYield, OnlyWord, CountYield};
 ghost use Rattle.text.specs.Place.{Found, up_to};
 
-// Bytes with a meaning of their own.
-const TAB: u8 = 9;
+pub use code::UnknownCode;
 
-const LINE_END: u8 = 10;
+// Bytes that end a field, and a line.
+const TAB: u8 = b'\t';
 
-const MINUS: u8 = 45;
-
-const ZERO: u8 = 48;
-
-const NINE: u8 = 57;
+const LINE_END: u8 = b'\n';
 
 // The largest size of a number, and the most numbers that a line can have: those of a sum with 16 pairs.
 pub const LARGEST: u64 = 2147483647;
 
 pub const MOST_NUMBERS: usize = 33;
 
-// ---- numbers
+// A number with more digits is too large.
+const MOST_DIGITS: usize = 10;
 
-// A number, and the place where its field ends.
+// What a field spells, and the place where the field ends.
 #[derive(Clone, Copy)]
-pub enum Number {
-    Of(i64, usize),
-    NoNumber,
-}
-
-// The size of a number above 0, and the place where its field ends.
-#[derive(Clone, Copy)]
-enum Size {
-    Plain(u64, usize),
-    NoSize,
-}
-
-// Whether two byte strings are equal.
-pub fn is_same(left: &[u8], right: &[u8]) -> bool
-    ensures { result ≡ same_bytes left.now right.now }
-{
-    if left.len() != right.len() {
-        return false;
-    }
-    let mut i = 0;
-    while i < left.len() {
-        if left[i] != right[i] {
-            return false;
-        }
-        i += 1;
-    }
-    true
-}
-
-// Whether a byte is a digit.
-fn is_digit(byte: u8) -> bool
-    ensures { result ≡ is_digit byte }
-{
-    if byte < ZERO {
-        return false;
-    }
-    byte <= NINE
+pub struct Field<T> {
+    pub value: T,
+    pub end: usize,
 }
 
 // Whether a byte ends a field: a tab does, and the end of the line.
 fn is_end(byte: u8) -> bool
     ensures { result ≡ (eqb byte 9 || eqb byte 10) }
 {
-    if byte == TAB {
-        return true;
-    }
-    byte == LINE_END
+    byte == TAB || byte == LINE_END
 }
 
-// The size that the field at `at` spells: digits without a leading zero. Each byte is read once. No byte is held to the text's end, as the
-// line's end, which is no digit, comes before it; and the size is held to the limit once: ten digits are room enough for every size that is
-// small, and an eleventh is refused.
-#[tactic(auto, using(crate::proofs::Sizing::starts_low, crate::proofs::Sizing::has_most))]
-fn size_from(text: &[u8], at: usize) -> Size
+// ---- numbers
+
+// The size that the field at `at` spells: digits without a leading zero. Each byte is read once. The size is held to the limit once, at the end.
+fn size_from(text: &[u8], at: usize) -> Option<Field<u64>>
     requires { (is_ended text.now ≡ true) × (at < length text.now) }
     ensures { SizeRead (up_to text.now at) at result }
 {
     let first = text[at];
-    if first <= ZERO {
-        return Size::NoSize;
+    if !(b'1'..=b'9').contains(&first) {
+        return None;
     }
-    if NINE < first {
-        return Size::NoSize;
-    }
-    let mut n = (first - ZERO) as u64;
-    let mut i = at + 1;
-    let mut byte = text[i];
-    while is_digit(byte) {
-        if 10 <= i - at {
-            return Size::NoSize;
+    let mut n = u64::from(first - b'0');
+    for i in at + 1..text.len() {
+        let byte = text[i];
+        if !byte.is_ascii_digit() {
+            return (n <= LARGEST && is_end(byte)).then_some(Field { value: n, end: i });
         }
-        n = 10 * n + ((byte - ZERO) as u64);
-        i += 1;
-        byte = text[i];
+        if MOST_DIGITS <= i - at {
+            return None;
+        }
+        n = 10 * n + u64::from(byte - b'0');
     }
-    if LARGEST < n {
-        return Size::NoSize;
-    }
-    if is_end(byte) {
-        return Size::Plain(n, i);
-    }
-    Size::NoSize
+    None
 }
 
-// The number that the field at `at` spells. A zero is one where its field ends just after it. Otherwise `from` is where the digits
-// start, and so tells the sign. One call reads them with either sign: with two this function is too large for the compiler to put it
-// into the loop over the numbers, and each number pays for a call. FORMAT 2.5, 2.6
-pub fn number_at(text: &[u8], at: usize) -> Number
+// The number that the field at `at` spells. A zero is one where its field ends just after it. One call reads the digits with either sign:
+// with two this function is too large for the compiler to put it into the loop over the numbers, and each number pays for a call.
+// FORMAT 2.5, 2.6
+pub fn number_at(text: &[u8], at: usize) -> Option<Field<i64>>
     requires { (is_ended text.now ≡ true) × (at < length text.now) }
     ensures { NumberYield (up_to text.now at) at result }
 {
     let first = text[at];
-    if first == ZERO {
-        let next = at + 1;
-        if is_end(text[next]) {
-            return Number::Of(0, next);
-        }
-        return Number::NoNumber;
+    if first == b'0' {
+        let end = at + 1;
+        return is_end(text[end]).then_some(Field { value: 0, end });
     }
-    let mut from = at;
-    if first == MINUS {
-        from = at + 1;
-    }
-    let Size::Plain(n, end) = size_from(text, from) else {
-        return Number::NoNumber;
-    };
-    if from == at {
-        return Number::Of(n as i64, end);
-    }
-    Number::Of(-(n as i64), end)
+    let negative = first == b'-';
+    let size = size_from(text, if negative { at + 1 } else { at })?;
+    let n = size.value as i64;
+    Some(Field {
+        value: if negative { -n } else { n },
+        end: size.end,
+    })
 }
 
 // ---- words
 
-#[derive(Clone, Copy)]
+#[derive(Clone, Copy, PartialEq, Eq)]
 pub enum Word {
     Field,
     In,
@@ -158,152 +103,93 @@ pub enum Word {
     Root,
 }
 
-// A word, and the place where its field ends.
-#[derive(Clone, Copy)]
-pub enum Spelled {
-    Known(Word, usize),
-    NoWord,
+impl Word {
+    ghost use Rattle.meaning.specs.Word.{kind_of};
+    ghost use Rattle.text.specs.Word.{word_of};
+
+    // How the word is spelled. FORMAT 3.1
+    #[tactic(auto, unfolding(meaning::specs::Word::kind_of, meaning::specs::Text::bytes, crate::specs::Word::word_of))]
+    pub fn spelling(self) -> &'static [u8]
+        ensures { result.now ≡ (kind_of (word_of self)).spelling }
+    {
+        match self {
+            Word::Field => b"field",
+            Word::In => b"in",
+            Word::Span => b"span",
+            Word::Sum => b"sum",
+            Word::Relu => b"relu",
+            Word::Which => b"which",
+            Word::Max => b"max",
+            Word::Root => b"root",
+        }
+    }
 }
 
 // The only word that the field at `at` may be: the first byte tells it, or the first two.
+#[tactic(auto, using(crate::proofs::Words::second_inside))]
 fn only_word(text: &[u8], at: usize) -> Word
     requires { (is_ended text.now ≡ true) × (at < length text.now) }
     ensures { OnlyWord (up_to text.now at) at result }
 {
-    let first = text[at];
-    if first == b's' {
-        if text[at + 1] == b'u' {
-            return Word::Sum;
-        }
-        return Word::Span;
-    }
-    if first == b'r' {
-        if text[at + 1] == b'e' {
-            return Word::Relu;
-        }
-        return Word::Root;
-    }
-    match first {
+    match text[at] {
         b'f' => Word::Field,
         b'i' => Word::In,
+        b's' if text[at + 1] == b'u' => Word::Sum,
+        b's' => Word::Span,
+        b'r' if text[at + 1] == b'e' => Word::Relu,
+        b'r' => Word::Root,
         b'w' => Word::Which,
         _ => Word::Max,
     }
 }
 
-// Whether the field at `at` is this word, of this spelling.
-fn is_word(text: &[u8], at: usize, word: Word, spelled: &[u8]) -> Spelled
-    requires { (is_ended text.now ≡ true) × (at < length text.now) × (spelled.now ≡ (kind_of (word_of word)).spelling) }
-    ensures { Spells (up_to text.now at) at word result }
-{
-    let mut i: usize = 0;
-    while i < spelled.len() {
-        if text[at + i] != spelled[i] {
-            return Spelled::NoWord;
-        }
-        i += 1;
-    }
-    let end = at + i;
-    if is_end(text[end]) {
-        return Spelled::Known(word, end);
-    }
-    Spelled::NoWord
-}
-
 // The word that the field at `at` spells. FORMAT 3.1
-pub fn word_at(text: &[u8], at: usize) -> Spelled
+pub fn word_at(text: &[u8], at: usize) -> Option<Field<Word>>
     requires { (is_ended text.now ≡ true) × (at < length text.now) }
     ensures { WordYield (up_to text.now at) at result }
 {
-    let only = only_word(text, at);
-    match only {
-        Word::Field => is_word(text, at, Word::Field, b"field"),
-        Word::In => is_word(text, at, Word::In, b"in"),
-        Word::Span => is_word(text, at, Word::Span, b"span"),
-        Word::Sum => is_word(text, at, Word::Sum, b"sum"),
-        Word::Relu => is_word(text, at, Word::Relu, b"relu"),
-        Word::Which => is_word(text, at, Word::Which, b"which"),
-        Word::Max => is_word(text, at, Word::Max, b"max"),
-        Word::Root => is_word(text, at, Word::Root, b"root"),
+    let word = only_word(text, at);
+    let spelling = word.spelling();
+    if !text[at..].starts_with(spelling) {
+        return None;
     }
+    let end = at + spelling.len();
+    is_end(text[end]).then_some(Field {
+        value: word,
+        end: end,
+    })
 }
 
 // Whether so many numbers may follow a word. A sum has a constant, and then pairs.
+#[tactic(auto, unfolding(meaning::specs::Word::kind_of, crate::specs::Word::word_of))]
 pub fn is_count(word: Word, count: usize) -> bool
     ensures { CountYield word count result }
 {
     match word {
         Word::Field => count == 1,
         Word::In => count == 0,
-        Word::Span => count == 4,
-        Word::Sum => {
-            if count % 2 == 1 {
-                return count <= MOST_NUMBERS;
-            }
-            false
-        }
-        Word::Relu => count == 3,
-        Word::Which => count == 4,
-        Word::Max => count == 4,
-        Word::Root => count == 3,
+        Word::Sum => count % 2 == 1 && count <= MOST_NUMBERS,
+        Word::Relu | Word::Root => count == 3,
+        Word::Span | Word::Which | Word::Max => count == 4,
     }
 }
 
-// ---- places
-
-// The place of the first such byte at or after `at`, or the end.
-fn find(bytes: &[u8], byte: u8, at: usize) -> usize
-    requires { at ≤ length bytes.now }
-    ensures { Found byte bytes.now at result }
-{
-    let mut i = at;
-    while i < bytes.len() {
-        if bytes[i] == byte {
-            return i;
-        }
-        i += 1;
-    }
-    i
-}
-
-// The same, four bytes a turn: this takes about three fifths of the time.
-fn find_far(bytes: &[u8], byte: u8, at: usize) -> usize
-    requires { at ≤ length bytes.now }
-    ensures { Found byte bytes.now at result }
-{
-    let mut i = at;
-    while 3 < bytes.len() - i {
-        if bytes[i] == byte {
-            return i;
-        }
-        if bytes[i + 1] == byte {
-            return i + 1;
-        }
-        if bytes[i + 2] == byte {
-            return i + 2;
-        }
-        if bytes[i + 3] == byte {
-            return i + 3;
-        }
-        i += 4;
-    }
-    find(bytes, byte, i)
-}
+// ---- lines
 
 // Where the line that starts at `at` ends.
 pub fn line_end(text: &[u8], at: usize) -> usize
     requires { at ≤ length text.now }
     ensures { Found 10 text.now at result }
 {
-    find_far(text, LINE_END, at)
+    match text[at..].iter().position(|&byte| byte == LINE_END) {
+        Some(i) => at + i,
+        None => text.len(),
+    }
 }
 
 // Whether the last line of the text is ended, as each before it is. A text without bytes has no line, and is not ended. FORMAT 2.1
 pub fn is_ended(text: &[u8]) -> bool
     ensures { result ≡ is_ended text.now }
 {
-    if text.len() == 0 {
-        return false;
-    }
-    text[text.len() - 1] == LINE_END
+    text.last() == Some(&LINE_END)
 }

@@ -24,8 +24,9 @@ use Rattle.meaning.proofs.Words.{every-word, among-spelling}
 use Rattle.meaning.proofs.Reading.{reads-exactly}
 use Rattle.meaning.proofs.Accepted.{refused-not-zero, by-reading}
 use Rattle.meaning.proofs.Write.{lines-given, writes-back as meant-back, is-read-back as meant-read-back}
-use Rattle.service.specs.Reply.{reply_meaning}
-use Rattle.service.specs.declared.reply.Reply.{Reply}
+use Rattle.std.specs.Prelude.{Result}
+use Rattle.refusal.specs.Refusal.{answered}
+use Rattle.refusal.specs.declared.refused.Refused.{Refused}
 use Rattle.given_lines.specs.Line.{all_sized}
 use Rattle.writer.specs.Claims.{Writes, code_among, code_of, codes_of, counts_of, all_numbers, EachListCanBeGiven, RowsOfReadListsFit, WritesBack, IsReadBack, OneSpelling, RefusedAsItsText, ShortBuffers, RefusedWritingChangesNothing, LeavesTheRest}
 use Rattle.given_lines.proofs.Taking.{counted-most, no-count-line, no-size-line}
@@ -160,23 +161,21 @@ rows-of-read-lists-fit text ls s e =
 
 -- ---- a reply that keeps the promise
 
-module _ {words counts : List ℕ} {numbers : List ℤ} {buffer : List ℕ} {r : Reply} {after : List ℕ} (promise : Writes words counts numbers buffer r after) where
+module _ {words counts : List ℕ} {numbers : List ℤ} {buffer : List ℕ} {r : Result ℕ Refused} {after : List ℕ} (promise : Writes words counts numbers buffer r after) where
   abbrev gs : List Given
   gs = lines_given words counts numbers
 
-  replied-number : r.number ≡ (write_reply gs buffer).answer.number
-  unfolding reply_meaning
+  replied-number : (answered r).number ≡ (write_reply gs buffer).answer.number
   replied-number = ap (λ (q : Meant). q.number) promise.replied
 
-  replied-place : r.place ≡ (write_reply gs buffer).answer.place
-  unfolding reply_meaning
+  replied-place : (answered r).place ≡ (write_reply gs buffer).answer.place
   replied-place = ap (λ (q : Meant). q.place) promise.replied
 
   -- the text stands at the start of the buffer, and the place is its length
   abbrev Stands : List ℕ → Type 0
-  Stands text = (r.place ≡ length text) × (after ≡ text ++ drop (length text) buffer) × (length text ≤ length buffer)
+  Stands text = ((answered r).place ≡ length text) × (after ≡ text ++ drop (length text) buffer) × (length text ≤ length buffer)
 
-  wrote : r.number ≡ 0 → Stands (text_of gs)
+  wrote : (answered r).number ≡ 0 → Stands (text_of gs)
   wrote z = by (write-outcome gs buffer)
     where
       by : Outcome (text_of gs) buffer (write_reply gs buffer) → Stands (text_of gs)
@@ -213,7 +212,7 @@ pub short-buffers : ShortBuffers
 unfolding write_reply on_reading
 short-buffers words counts numbers buffer r after promise ls s e =
     let text : List ℕ = text_of (lines_given words counts numbers) in
-    let is : reply_meaning r ≡ (written text buffer).answer = promise.replied ∙ rw e refl in
+    let is : answered r ≡ (written text buffer).answer = promise.replied ∙ rw e refl in
     rw is (written-short text buffer)
 
 -- ---- memory

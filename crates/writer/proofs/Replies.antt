@@ -12,17 +12,16 @@ use Rattle.meaning.specs.Refusal.{text_limit, Reading, refused, read, on_reading
 use Rattle.meaning.specs.Reply.{Reply, reply, Writing, writing, written, write_reply}
 use Rattle.meaning.specs.Write.{Given, text_of, lines_given}
 use Rattle.output.specs.Written.{Written}
-use Rattle.reader.specs.Read.{counted, refused_at, survey_of, survey_meaning}
-use Rattle.reader.specs.declared.reading.Surveyed.TheVariants.{NotRead}
-use Rattle.service.specs.Reply.{reply_meaning}
-use Rattle.service.specs.declared.reply.Reply.{Reply as Replied}
-use Rattle.service.proofs.ReadList.{survey-refused}
-use Rattle.writer.specs.Survey.{IsRead, RefusalYield}
+use Rattle.std.specs.Prelude.{Result}
+use Rattle.refusal.specs.Refusal.{number_of, refused_reply, answered}
+use Rattle.refusal.specs.declared.refused.Refused.{Refused}
+use Rattle.reader.specs.Read.{counted, refused_at, survey_of}
+use Rattle.writer.specs.Survey.{IsRead, IsFirstRefusal}
 use Rattle.writer.specs.Claims.{Writes}
 
 -- a reply and a buffer together keep the promise of `write`
-pub writes-by : {words counts : List ℕ} {numbers : List ℤ} {buffer after : List ℕ} {r : Replied}
-    → writing (reply_meaning r) after ≡ write_reply (lines_given words counts numbers) buffer → Writes words counts numbers buffer r after
+pub writes-by : {words counts : List ℕ} {numbers : List ℤ} {buffer after : List ℕ} {r : Result ℕ Refused}
+    → writing (answered r) after ≡ write_reply (lines_given words counts numbers) buffer → Writes words counts numbers buffer r after
 writes-by e = record { replied = ap (λ (w : Writing). w.answer) e; left = ap (λ (w : Writing). w.buffer) e }
 
 -- ---- the refusals of the text
@@ -41,12 +40,19 @@ module _ (gs : List Given) (buffer : List ℕ) where
   write-no-line e = write-refused 2 0 (rw e refl)
 
   -- a line is refused, where the text is not too long
-  pub write-not-read : {n i : ℕ} {r : Replied} → RefusalYield (text_of gs) n i r → (length (text_of gs) ≤ text_limit → refused_at n i ≡ survey_of (reading (text_of gs)))
-      → writing (reply_meaning r) buffer ≡ write_reply gs buffer
-  unfolding survey_meaning
-  write-not-read {n} {i} {r} reply-is not-read = elim (native.Mathlib.Decide.dec_lt text_limit (length (text_of gs))) [
-    | yes h ↦ ap (λ (a : Reply). writing a buffer) (reply-is.over h) ∙ write-too-long h
-    | no h ↦ ap (λ (a : Reply). writing a buffer) (reply-is.within (omega arith)) ∙ write-refused n i (survey-refused (text_of gs) (NotRead n i) (not-read (omega arith)) n i refl)
+  refused-by : (r : Reading) (n i : ℕ) → refused_at n i ≡ survey_of r → r ≡ refused n i
+  unfolding survey_of on_reading
+  refused-by (refused m j) n i e = cc
+  refused-by (read ls s) n i e = cc
+
+  pub write-not-read : {f r : Refused} → IsFirstRefusal (text_of gs) f r
+      → (length (text_of gs) ≤ text_limit → refused_at (number_of f.refusal) f.place ≡ survey_of (reading (text_of gs)))
+      → writing (refused_reply r) buffer ≡ write_reply gs buffer
+  write-not-read {f} {r} is not-read = elim (native.Mathlib.Decide.dec_lt text_limit (length (text_of gs))) [
+    | yes h ↦ ap (λ (a : Reply). writing a buffer) (is.over h) ∙ write-too-long h
+    | no h ↦
+        ap (λ (q : Refused). writing (refused_reply q) buffer) (is.within (omega arith))
+        ∙ write-refused (number_of f.refusal) f.place (refused-by (reading (text_of gs)) (number_of f.refusal) f.place (not-read (omega arith)))
   ]
 
   -- ---- a text that is read

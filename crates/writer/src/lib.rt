@@ -4,66 +4,51 @@
 
 mod survey;
 
-ghost use Rattle.meaning.specs.Write.{text_of, lines_given};
-ghost use Rattle.writer.specs.Survey.{RefusalYield};
+ghost use Rattle.meaning.specs.Write.{text_of};
+ghost use Rattle.given_lines.specs.Given.{lines_of};
+ghost use Rattle.writer.specs.Survey.{IsFirstRefusal};
 ghost use Rattle.writer.specs.Claims.{Writes};
 
-use given_lines::{Length, text_length, write_text};
-use service::Reply;
-use survey::{Found, survey_given};
+use given_lines::{Given, text_length, write_text};
+use refusal::{Refusal, Refused};
+use survey::survey_given;
 
-// The public call: for all lines and every buffer the reply of the definitions, and the buffer that it leaves.
-// FORMAT 9.23, 9.26, 9.27, 10.21
-pub fn write(words: &[u8], counts: &[usize], numbers: &[i64], buffer: &mut [u8]) -> Reply
+// The public call: for all lines and every buffer the reply of the definitions, with the text's length where it is written, and the buffer that it
+// leaves. FORMAT 9.23, 9.26, 9.27, 10.21
+pub fn write(
+    words: &[u8],
+    counts: &[usize],
+    numbers: &[i64],
+    buffer: &mut [u8],
+) -> Result<usize, Refused>
     ensures { Writes words.now counts.now numbers.now buffer.old result buffer.new }
 {
-    if words.len() == 0 {
-        return Reply {
-            number: 2,
-            place: 0,
-        };
+    if words.is_empty() {
+        return Err(Refusal::TextNotEnded.at(0));
     }
-    let found = survey_given(words, counts, numbers);
-    match found {
-        Found::NotRead(number, place) => first_refusal(words, counts, numbers, number, place),
-        Found::TooLong => Reply {
-            number: 1,
-            place: 0,
-        },
-        Found::Text(length) => {
+    let given = Given {
+        words,
+        counts,
+        numbers,
+    };
+    match survey_given(given) {
+        Err(refused) => Err(first_refusal(given, refused)),
+        Ok(length) => {
             if buffer.len() < length {
-                return Reply {
-                    number: 21,
-                    place: 0,
-                };
+                return Err(Refusal::BufferTooShort.at(0));
             }
-            Reply {
-                number: 0,
-                place: write_text(buffer, words, counts, numbers),
-            }
+            Ok(write_text(buffer, given))
         }
     }
 }
 
-// The refusal of lines of which one is refused: a text that is too long is refused before any line is read. It is measured here alone, as a list that
+// The refusal of lines that a survey refuses so: a text that is too long is refused before any line is read. It is measured here alone, as a list that
 // is read has its bytes counted on the way. FORMAT 10.1, 13.1
-fn first_refusal(
-    words: &[u8],
-    counts: &[usize],
-    numbers: &[i64],
-    number: u32,
-    place: usize,
-) -> Reply
-    ensures { RefusalYield (text_of (lines_given words.now counts.now numbers.now)) number place result }
+fn first_refusal(given: Given<'_>, refused: Refused) -> Refused
+    ensures { IsFirstRefusal (text_of (lines_of given.entry)) refused result }
 {
-    let Length::Of(_) = text_length(words, counts, numbers) else {
-        return Reply {
-            number: 1,
-            place: 0,
-        };
+    let Some(_) = text_length(given) else {
+        return Refusal::TextTooLong.at(0);
     };
-    Reply {
-        number: number,
-        place: place,
-    }
+    refused
 }

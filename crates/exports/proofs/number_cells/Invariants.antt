@@ -1,11 +1,6 @@
 -- `exports::number_cells`: before each cell, those before it hold their own numbers.
-use Prim.Native.Nat.{◌-◌}
-use lib.ListN.{length}
 use Rattle.exports.proofs.Numbered.{Numbering}
 use Rattle.exports.proofs.number_cells.Given as goal
 
 abbrev pub invariant-loop-i : goal.invariant-loop-i
 invariant-loop-i l = Numbering l.initial.cells l.cells l.i
-
-abbrev pub decreases-loop-i : goal.decreases-loop-i
-decreases-loop-i l = length l.initial.cells - l.i

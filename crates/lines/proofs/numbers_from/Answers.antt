@@ -15,87 +15,82 @@ use Rattle.lines.proofs.Lines.{ReadingNumbers, reading-start, reading-end, readi
 use borrow.Author.Rules.{rules}
 use native.Mathlib.Omega.{arith}
 use Rattle.lines.proofs.numbers_from.Goals as goal
-use Rattle.lines.proofs.numbers_from.Goals.{In-Of}
+use Rattle.lines.proofs.numbers_from.Goals.{In_ok-number}
 
 pub loop-count-init : goal.loop-count-init
 loop-count-init c = (
   in-line c.args.text.now c.requires.0 c.args.from c.requires.1,
-  search rules,
   reading-start _ _ c.requires.2,
 )
 
-pub returns-in_default : goal.returns-in_default
+pub returns-in_err-number : goal.returns-in_err-number
 unfolding NumbersYield fields_of
-returns-in_default c =
+returns-in_err-number c =
     let now = c.loop-count in
     let line = up_to c.args.text.now c.args.from in
-    let none = reading-none now.invariant.2 now.invariant.1 (fields-from line now.at) (number-is-none _ _ (rw (same_line now.invariant.0) at c.number_at.ensures) c.in_default.is) in
-    record { yields = none.0; left = none.1 }
+    let none = reading-none now.invariant.1 (omega arith) (fields-from line now.at) (number-is-none _ _ (rw (same_line now.invariant.0) at c.number_at.ensures) c.in_err-number.was) in
+    record { yields = rw c.from_residual.ensures none.0; left = none.1 }
 
 -- what `number_at` answered, in the line
-number : (c : In-Of) → let s = c.args in
+number : (c : In_ok-number) → let s = c.args in
     NumberYield (up_to s.text.now s.from) c.loop-count.at c.number_at.result
 number c = rw (same_line c.loop-count.invariant.0) at c.number_at.ensures
 
 -- after a number: where its field ends, which is in the line
-ends : (c : In-Of) → let s = c.args in
-    Found 9 (up_to s.text.now s.from) c.loop-count.at c.in-Of.end
-ends c = number-ends _ _ (number c) c.in-Of.is
+ends : (c : In_ok-number) → let s = c.args in
+    Found 9 (up_to s.text.now s.from) c.loop-count.at c.in_ok-number.number.end
+ends c = number-ends _ _ (number c) c.in_ok-number.was
 
-place : (c : In-Of) → let s = c.args in
-    InLine s.text.now c.in-Of.end (end_of s.text.now s.from)
+place : (c : In_ok-number) → let s = c.args in
+    InLine s.text.now c.in_ok-number.number.end (end_of s.text.now s.from)
 place c = let l = c.loop-count.invariant.0 in place-later l (ends c).low (omega (arith, cut-length l, (ends c).high))
 
 -- and what is read with it
-turn : (c : In-Of) → let s = c.args in
+turn : (c : In_ok-number) → let s = c.args in
     let now = c.loop-count in
     let line = up_to s.text.now s.from in
-    ReadingNumbers (fields_from line s.from) (parts_after 9 line c.in-Of.end) s.numbers.now (set now.numbers now.count c.in-Of.n) (now.count + 1)
+    ReadingNumbers (fields_from line s.from) (parts_after 9 line c.in_ok-number.number.end) s.numbers.now (set now.numbers now.count c.in_ok-number.number.value) (now.count + 1)
 unfolding fields_of
 turn c =
     let s = c.args in
     let now = c.loop-count in
     let line = up_to s.text.now s.from in
-    reading-turn now.invariant.2 now.invariant.1 (fields-found line (ends c)) (number_is _ _ (number c) c.in-Of.is)
+    reading-turn now.invariant.1 (omega arith) (fields-found line (ends c)) (number_is _ _ (number c) c.in_ok-number.was)
     c.loop-count-test.true
 
 -- the number that was read is what its bits say
-kept : (c : In-Of) → to_z w64 (of_z w64 c.in-Of.n) ≡ c.in-Of.n
+kept : (c : In_ok-number) → to_z w64 (of_z w64 c.in_ok-number.number.value) ≡ c.in_ok-number.number.value
 kept c = search rules
 
 pub bounds-text-end : goal.bounds-text-end
-bounds-text-end c = omega (arith, place_inside (place (goal.at.bounds-text-end c).In-Of))
+bounds-text-end c = omega (arith, place_inside (place (goal.at.bounds-text-end c).In_ok-number))
 
 pub returns-then-text-end-ne-TAB : goal.returns-then-text-end-ne-TAB
 unfolding NumbersYield
 returns-then-text-end-ne-TAB c =
-    let at-of = (goal.at.returns-then-text-end-ne-TAB c).In-Of in
+    let at-of = (goal.at.returns-then-text-end-ne-TAB c).In_ok-number in
     let line = up_to c.args.text.now c.args.from in
     let l = place at-of in
-    let end = c.in-Of.end in
+    let end = c.in_ok-number.number.end in
     let last = ends-line l (ends at-of) c.if-text-end-ne-TAB.true in
     let all = reading-end (turn at-of) (omega arith) (parts_none 9 line end (omega (arith, cut-length l, last))) in
     record { yields = rw (kept at-of) (all.0, omega arith, omega (arith, cut-length l, last, l.found.low)); left = rw (kept at-of) all.1 }
-
-pub loop-count-smaller : goal.loop-count-smaller
-loop-count-smaller c = omega (arith, (ends (goal.at.loop-count-smaller c).In-Of).low, place_inside (place (goal.at.loop-count-smaller c).In-Of))
 
 pub loop-count-preserved : goal.loop-count-preserved
 unfolding fields_of
 loop-count-preserved c =
     let s = c.args in
     let line = up_to s.text.now s.from in
-    let l = place (goal.at.loop-count-preserved c).In-Of in
-    let end = c.in-Of.end in
+    let l = place (goal.at.loop-count-preserved c).In_ok-number in
+    let end = c.in_ok-number.number.end in
     let inside = before-end l (λ e. omega (arith, c.if-text-end-ne-TAB.false)) in (
       place-next l (λ e. omega (arith, c.if-text-end-ne-TAB.false)),
-      search rules,
-      rw (kept (goal.at.loop-count-preserved c).In-Of) (rw (parts_more 9 line end (omega (arith, cut-length l, inside))) at (turn (goal.at.loop-count-preserved c).In-Of)),
+      rw (kept (goal.at.loop-count-preserved c).In_ok-number) (rw (parts_more 9 line end (omega (arith, cut-length l, inside))) at (turn (goal.at.loop-count-preserved c).In_ok-number)),
     )
 
 pub returns : goal.returns
 unfolding NumbersYield fields_of
 returns c =
     let now = c.loop-count in
-    let full = reading-full now.invariant.2 now.invariant.1 (fields-from (up_to c.args.text.now c.args.from) now.at) c.loop-count-test.false in
+    let full = reading-full now.invariant.1 (omega arith) (fields-from (up_to c.args.text.now c.args.from) now.at) c.loop-count-test.false in
     record { yields = full.0; left = full.1 }

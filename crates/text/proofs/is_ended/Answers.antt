@@ -1,11 +1,7 @@
 -- The last byte says it.
-use mathlib.Core.Path.{sym}
-use Rattle.text.proofs.Places.{ended-empty, ended-last}
+use mathlib.Core.Path.{refl, ◌∙◌}
+use Rattle.text.proofs.Places.{ended-by-last}
 use Rattle.text.proofs.is_ended.Goals as goal
 
-pub returns-then-text-eq0 : goal.returns-then-text-eq0
-returns-then-text-eq0 c = sym (ended-empty _ c.if-text-eq0.true)
-
 pub returns : goal.returns
-returns c =
-    sym (ended-last c.args.text.now c.if-text-eq0.false)
+returns c = c.eq.ensures ∙ ended-by-last c.args.text.now c.last.result _ c.last.ensures.value refl

@@ -1,74 +1,45 @@
 -- The digits before `i` spell `n`, which has as many digits: what is left of the field says what the whole field says.
-use mathlib.Core.Path.{◌≡◌, refl, sym, ◌∙◌}
-use mathlib.Core.Bool.{true}
-use Prim.Native.Nat.{◌*◌, ◌+◌, ◌-◌}
-use lib.ListN.{get_or}
-use Rattle.meaning.specs.Text.{is_digit}
-use Rattle.text.specs.Place.{end_of}
-use Rattle.text.proofs.Ends.{InLine, in-line, place_inside, ends-field, no-field-end}
-use Rattle.text.proofs.Numbers.{digit-bounds}
-use Rattle.text.proofs.Sizing.{Sizing, size-starts-high, sizing-start, sizing-next, sizing-over, sizing-end, sizing-stop}
+use mathlib.Core.Path.{sym, ◌∙◌}
+use Prim.Native.Nat.{◌<◌, ◌≤◌}
 use native.Mathlib.Omega.{arith}
+use borrow.Author.Tests.{lt-leb}
+use lib.ListN.{get_or}
+use mathlib.Core.Logic.{◌⊎◌}
+use Rattle.std.proofs.lemmas.Grind.{common_steps}
+use Rattle.text.specs.Place.{end_of}
+use Rattle.text.proofs.Ends.{InLine, in-line}
+use Rattle.text.proofs.Numbers.{ascii-digit}
+use Rattle.text.proofs.Sizing.{no_first, sizing-start, sizing-next, sizing-most, sizing-last}
 use Rattle.text.proofs.size_from.Goals as goal
-use Rattle.text.proofs.size_from.Goals.{Else-first-gt-NINE, In-loop-at, Start}
+use Rattle.text.proofs.size_from.Goals.{Start, then-n-le-LARGEST, else-n-le-LARGEST}
 
-start-line : (c : Start) → InLine c.args.text.now c.args.at (end_of c.args.text.now c.args.at)
-start-line c = in-line c.args.text.now c.requires.0 c.args.at c.requires.1
+line : (c : Start) → InLine c.args.text.now c.args.at (end_of c.args.text.now c.args.at)
+line c = in-line c.args.text.now c.requires.0 c.args.at c.requires.1
 
--- after the first digit
-start-sizing : (c : Else-first-gt-NINE) → let s = c.args in
-    Sizing s.text.now s.at (end_of s.text.now s.at) (get_or s.text.now s.at 0 - 48) (s.at + 1)
-start-sizing c =
-    sizing-start (in-line c.args.text.now c.requires.0 c.args.at c.requires.1) (omega arith) c.if-first-gt-NINE.false
+pub returns-then-not-contains : goal.returns-then-not-contains
+returns-then-not-contains c =
+    let outside : (get_or c.args.text.now c.args.at 0 < 49) ⊎ (57 < get_or c.args.text.now c.args.at 0) = grind (arith, common_steps) in
+    no_first (line (goal.at.returns-then-not-contains c).Start) outside
 
--- in a turn: a digit, and the size with it
-digit : (c : In-loop-at) → let now = c.loop-at in
-    is_digit (get_or c.args.text.now now.i 0) ≡ true
-digit c = rw c.loop-at.invariant.1 at (sym c.is_digit.ensures ∙ c.loop-at-test.true)
+pub loop-i-init : goal.loop-i-init
+loop-i-init c =
+    let inside : (48 < get_or c.args.text.now c.args.at 0) × (get_or c.args.text.now c.args.at 0 ≤ 57) = grind (arith, common_steps) in
+    (rw c.from-n.ensures (sizing-start (line (goal.at.loop-i-init c).Start) inside.0 inside.1), omega arith)
 
-pub returns-then-first-gt-NINE : goal.returns-then-first-gt-NINE
-returns-then-first-gt-NINE c =
-    size-starts-high (start-line (goal.at.returns-then-first-gt-NINE c).Start) (omega arith) c.if-first-gt-NINE.true
+pub returns-then-not-is_ascii_digit : goal.returns-then-not-is_ascii_digit
+returns-then-not-is_ascii_digit c =
+    let no_digit = ascii-digit _ ∙ sym c.is_ascii_digit.ensures.value ∙ c.if-not-is_ascii_digit.true in
+    rw c.then_some.ensures (sizing-last c.loop-i.invariant.0 _ no_digit
+    (λ over. elim c.if-n-le-LARGEST.branch [ then-n-le-LARGEST w ↦ absurd (omega (arith, w.if-n-le-LARGEST.true)) | else-n-le-LARGEST w ↦ w.then_some-is ∙ lt-leb _ _ over ])
+    (λ small. elim c.if-n-le-LARGEST.branch [ then-n-le-LARGEST w ↦ w.then_some-is ∙ w.is_end.ensures | else-n-le-LARGEST w ↦ absurd (omega (arith, w.if-n-le-LARGEST.false)) ]))
 
-pub bounds-text-i : goal.bounds-text-i
-bounds-text-i c = omega (arith, place_inside (start-sizing (goal.at.bounds-text-i c).Else-first-gt-NINE).place)
+pub returns-then-i-at-ge-MOST_DIGITS : goal.returns-then-i-at-ge-MOST_DIGITS
+returns-then-i-at-ge-MOST_DIGITS c =
+    sizing-most c.loop-i.invariant.0 (ascii-digit _ ∙ sym c.is_ascii_digit.ensures.value ∙ c.if-not-is_ascii_digit.false) c.if-i-at-ge-MOST_DIGITS.true
 
-pub loop-at-init : goal.loop-at-init
-loop-at-init c =
-    let sizing = start-sizing (goal.at.loop-at-init c).Else-first-gt-NINE in
-    (sizing, refl, omega arith)
-
-next : (c : In-loop-at) → let s = c.args in
-    let now = c.loop-at in
-    Sizing s.text.now s.at (end_of s.text.now s.at) (10 * now.n + (get_or s.text.now now.i 0 - 48)) (now.i + 1)
-next c = sizing-next c.loop-at.invariant.0 (rw c.loop-at.invariant.1 at (sym c.is_digit.ensures ∙ c.loop-at-test.true))
-
-pub overflow_sub-n-in-loop-at : goal.overflow_sub-n-in-loop-at
-overflow_sub-n-in-loop-at c = omega (arith, (digit-bounds _ (digit (goal.at.overflow_sub-n-in-loop-at c).In-loop-at)).0)
-
-pub bounds-text-i-in-loop-at : goal.bounds-text-i-in-loop-at
-bounds-text-i-in-loop-at c = omega (arith, place_inside (next (goal.at.bounds-text-i-in-loop-at c).In-loop-at).place)
-
-pub loop-at-smaller : goal.loop-at-smaller
-loop-at-smaller c = omega (arith, (next (goal.at.loop-at-smaller c).In-loop-at).place.found.low)
-
-pub loop-at-preserved : goal.loop-at-preserved
-loop-at-preserved c = (rw c.loop-at.invariant.1 (next (goal.at.loop-at-preserved c).In-loop-at), refl, omega arith)
-
-pub returns-then-n-gt-LARGEST : goal.returns-then-n-gt-LARGEST
-returns-then-n-gt-LARGEST c =
-    let now = c.loop-at in
-    sizing-over now.invariant.0 c.if-n-gt-LARGEST.true
-
-pub returns-then-is_end : goal.returns-then-is_end
-returns-then-is_end c =
-    let now = c.loop-at in
-    let stop = ends-field now.byte (sym c.is_end.ensures ∙ c.if-is_end.true) in
-    sizing-end now.invariant.0 c.if-n-gt-LARGEST.false (rw now.invariant.1 at stop)
+pub loop-i-preserved : goal.loop-i-preserved
+loop-i-preserved c =
+    (rw c.from.ensures (sizing-next c.loop-i.invariant.0 (ascii-digit _ ∙ sym c.is_ascii_digit.ensures.value ∙ c.if-not-is_ascii_digit.false)), omega arith)
 
 pub returns : goal.returns
-returns c =
-    let now = c.loop-at in
-    let stop = no-field-end now.byte (sym c.is_end.ensures ∙ c.if-is_end.false) in
-    let no_digit = sym c.is_digit.ensures ∙ c.loop-at-test.false in
-    sizing-stop now.invariant.0 (rw now.invariant.1 at no_digit) (rw now.invariant.1 at stop.0) (rw now.invariant.1 at stop.1)
+returns c = absurd (omega (arith, c.loop-i.invariant.0.place.found.low, c.loop-i.invariant.0.place.inside))

@@ -1,63 +1,41 @@
 -- The one word that the field may be is compared with it.
-use mathlib.Core.Path.{refl}
-use Rattle.meaning.specs.Text.{bytes}
+use mathlib.Core.Path.{◌≡◌, ◌∙◌, sym}
+use mathlib.Core.Bool.{true, false}
+use mathlib.Core.List.{List, ◌++◌}
+use Prim.Native.Nat.{ℕ, ◌-◌}
+use native.Mathlib.Omega.{arith}
+use lib.ListN.{length, drop, length-drop}
+use lib.Seq.{take_all}
+use Rattle.std.proofs.lemmas.Slice.Eq.{starts_is}
+use Rattle.std.proofs.lemmas.Bool.Decides.{Decides-eqb}
 use Rattle.meaning.specs.Word.{kind_of}
 use Rattle.text.specs.Word.{word_of}
-use Rattle.text.proofs.Words.{word_read}
+use Rattle.text.proofs.Words.{other_word, after_word, word_there}
 use Rattle.text.proofs.word_at.Goals as goal
+use Rattle.text.proofs.word_at.Goals.{After-starts_with}
 
-pub is_word-requires : goal.is_word-requires
-unfolding kind_of word_of bytes
-is_word-requires c = (c.requires.0, c.requires.1, refl)
+false-true : false ≡ true → ⊥
+false-true q = let z : ◌≡◌ {A = ℕ} 0 1 = cc in omega arith
 
-pub is_word-requires-in-In : goal.is_word-requires-in-In
-unfolding kind_of word_of bytes
-is_word-requires-in-In c = (c.requires.0, c.requires.1, refl)
+-- what `starts_with` said of the text from the place on
+started : (c : After-starts_with) → let left = drop c.args.at c.args.text.now in let spelled = (kind_of (word_of c.only_word-word.result)).spelling in
+    (c.starts_with.result ≡ true → left ≡ spelled ++ drop (length spelled) left) × ((rest : List ℕ) → left ≡ spelled ++ rest → c.starts_with.result ≡ true)
+started c =
+    let left = drop c.args.at c.args.text.now in
+    let whole = take_all (length c.args.text.now - c.args.at) left (omega (arith, length-drop c.args.at c.args.text.now)) in
+    starts_is Decides-eqb left (kind_of (word_of c.only_word-word.result)).spelling c.starts_with.result
+    (rw (whole, c.spelling-spelling.ensures) at c.starts_with.ensures.value)
 
-pub is_word-requires-in-Span : goal.is_word-requires-in-Span
-unfolding kind_of word_of bytes
-is_word-requires-in-Span c = (c.requires.0, c.requires.1, refl)
+pub returns-then-not-starts_with : goal.returns-then-not-starts_with
+returns-then-not-starts_with c =
+    other_word c.args.text.now c.args.at c.requires.0 c.requires.1 _ c.only_word-word.ensures (λ rest q. let both = sym c.if-not-starts_with.true ∙ (started (goal.at.returns-then-not-starts_with c).After-starts_with).1 rest q in false-true both)
 
-pub is_word-requires-in-Sum : goal.is_word-requires-in-Sum
-unfolding kind_of word_of bytes
-is_word-requires-in-Sum c = (c.requires.0, c.requires.1, refl)
+pub bounds-text-end : goal.bounds-text-end
+bounds-text-end c =
+    rw c.spelling-spelling.ensures (after_word c.args.text.now c.args.at c.requires.0 c.requires.1 _ c.only_word-word.ensures _
+    ((started (goal.at.bounds-text-end c).After-starts_with).0 c.if-not-starts_with.false))
 
-pub is_word-requires-in-Relu : goal.is_word-requires-in-Relu
-unfolding kind_of word_of bytes
-is_word-requires-in-Relu c = (c.requires.0, c.requires.1, refl)
-
-pub is_word-requires-in-Which : goal.is_word-requires-in-Which
-unfolding kind_of word_of bytes
-is_word-requires-in-Which c = (c.requires.0, c.requires.1, refl)
-
-pub is_word-requires-in-Max : goal.is_word-requires-in-Max
-unfolding kind_of word_of bytes
-is_word-requires-in-Max c = (c.requires.0, c.requires.1, refl)
-
-pub is_word-requires-in-Root : goal.is_word-requires-in-Root
-unfolding kind_of word_of bytes
-is_word-requires-in-Root c = (c.requires.0, c.requires.1, refl)
-
-pub returns-in-Field : goal.returns-in-Field
-returns-in-Field c = word_read _ _ _ _ (rw c.in-Field.is at c.only_word-only.ensures) c.is_word.ensures
-
-pub returns-in-In : goal.returns-in-In
-returns-in-In c = word_read _ _ _ _ (rw c.in-In.is at c.only_word-only.ensures) c.is_word-in-In.ensures
-
-pub returns-in-Span : goal.returns-in-Span
-returns-in-Span c = word_read _ _ _ _ (rw c.in-Span.is at c.only_word-only.ensures) c.is_word-in-Span.ensures
-
-pub returns-in-Sum : goal.returns-in-Sum
-returns-in-Sum c = word_read _ _ _ _ (rw c.in-Sum.is at c.only_word-only.ensures) c.is_word-in-Sum.ensures
-
-pub returns-in-Relu : goal.returns-in-Relu
-returns-in-Relu c = word_read _ _ _ _ (rw c.in-Relu.is at c.only_word-only.ensures) c.is_word-in-Relu.ensures
-
-pub returns-in-Which : goal.returns-in-Which
-returns-in-Which c = word_read _ _ _ _ (rw c.in-Which.is at c.only_word-only.ensures) c.is_word-in-Which.ensures
-
-pub returns-in-Max : goal.returns-in-Max
-returns-in-Max c = word_read _ _ _ _ (rw c.in-Max.is at c.only_word-only.ensures) c.is_word-in-Max.ensures
-
-pub returns-in-Root : goal.returns-in-Root
-returns-in-Root c = word_read _ _ _ _ (rw c.in-Root.is at c.only_word-only.ensures) c.is_word-in-Root.ensures
+pub returns : goal.returns
+returns c =
+    rw (c.then_some.ensures, c.spelling-spelling.ensures) (word_there c.args.text.now c.args.at c.requires.0 c.requires.1 _ c.only_word-word.ensures _
+    ((started (goal.at.returns c).After-starts_with).0 c.if-not-starts_with.false) _ (rw c.spelling-spelling.ensures at c.is_end.ensures))

@@ -7,7 +7,7 @@ use lib.IntN.{pos}
 use mir.Syntax.{w64}
 use mir.Val.{SFits}
 use Rattle.meaning.specs.Text.{number_text}
-use Rattle.meaning.specs.Write.{word_with}
+use Rattle.given_lines.specs.Given.{word_meaning}
 use Rattle.given_lines.proofs.Texts.{word-most}
 use Rattle.given_lines.proofs.Lengths.{number-most, line-start, line-turn, line-over, line-end}
 use borrow.Author.Rules.{rules}
@@ -15,14 +15,14 @@ use Rattle.given_lines.proofs.measure.line_length.Goals as goal
 use Rattle.given_lines.proofs.measure.line_length.Goals.{After-number_length}
 
 pub overflow_add-total : goal.overflow_add-total
-overflow_add-total c = omega (arith, word-most (word_with c.args.code))
+overflow_add-total c = omega (arith, word-most (word_meaning c.args.line.word))
 
 pub overflow_add-total-2 : goal.overflow_add-total-2
-overflow_add-total-2 c = omega (arith, word-most (word_with c.args.code))
+overflow_add-total-2 c = omega (arith, word-most (word_meaning c.args.line.word))
 
 -- the length that is added is that of number i, and it is short
 measured : (c : After-number_length)
-    → (c.number_length.result ≡ length (number_text (get_or c.args.numbers.now c.loop-i.i (pos 0)))) × (c.number_length.result ≤ 20)
+    → (c.number_length.result ≡ length (number_text (get_or c.args.line.numbers.now c.loop-i.i (pos 0)))) × (c.number_length.result ≤ 20)
 measured c =
     let fits : SFits w64 c.whole_at.result.0 = search rules in
     (c.number_length.ensures ∙ ap (λ z. length (number_text z)) c.whole_at.ensures, omega (arith, c.number_length.ensures, number-most fits))

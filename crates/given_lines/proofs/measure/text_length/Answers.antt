@@ -1,12 +1,15 @@
 -- Before each line, `MeasuringText` holds of the bytes that are counted.
-use Rattle.given_lines.proofs.Lengths.{text-turn, text-over, text-end}
+use Rattle.given_lines.proofs.Lengths.{text-start, text-turn, text-over, text-end}
 use Rattle.given_lines.proofs.measure.text_length.Goals as goal
 
-pub returns-in_default : goal.returns-in_default
-returns-in_default c = text-over c.loop-i.invariant c.line_at-line.ensures c.in_default.ensures
+pub loop-line-init : goal.loop-line-init
+loop-line-init c = rw (c.into_iter-line-iterator.ensures.into_iter_gives, c.lines-line-items.ensures) (text-start _)
 
-pub loop-i-preserved : goal.loop-i-preserved
-loop-i-preserved c = text-turn c.loop-i.invariant c.line_at-line.ensures c.in-Of.ensures
+pub returns-in_err-total : goal.returns-in_err-total
+returns-in_err-total c = rw c.from_residual.ensures (text-over c.loop-line.invariant c.in-Some.ensures.steps c.in_err-total.ensures)
+
+pub loop-line-preserved : goal.loop-line-preserved
+loop-line-preserved c = text-turn c.loop-line.invariant c.in-Some.ensures.steps c.in_ok-total.ensures
 
 pub returns : goal.returns
-returns c = text-end c.loop-i.invariant c.loop-i-test.false
+returns c = text-end c.loop-line.invariant c.in-None.ensures.steps.0

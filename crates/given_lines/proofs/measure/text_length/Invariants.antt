@@ -1,11 +1,7 @@
 -- Before each line, `MeasuringText` holds of the bytes that are counted.
-use Prim.Native.Nat.{◌-◌}
-use lib.ListN.{length}
+use Rattle.given_lines.specs.Given.{lines_of, lines_left}
 use Rattle.given_lines.proofs.Lengths.{MeasuringText}
 use Rattle.given_lines.proofs.measure.text_length.Given as goal
 
-abbrev pub invariant-loop-i : goal.invariant-loop-i
-invariant-loop-i l = MeasuringText l.words l.counts l.numbers l.total l.at l.i
-
-abbrev pub decreases-loop-i : goal.decreases-loop-i
-decreases-loop-i l = length l.words - l.i
+abbrev pub invariant-loop-line : goal.invariant-loop-line
+invariant-loop-line l = MeasuringText (lines_of l.fn.given) (lines_left l.line-iterator) l.total

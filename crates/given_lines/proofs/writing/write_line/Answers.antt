@@ -7,32 +7,32 @@ use native.Mathlib.Omega.{arith}
 use lib.ListN.{get_or, drop}
 use lib.IntN.{pos}
 use Rattle.meaning.specs.Text.{number_text}
-use Rattle.meaning.specs.Write.{given, word_with}
-use Rattle.given_lines.specs.Given.{line_text}
+use Rattle.meaning.specs.Write.{given}
+use Rattle.given_lines.specs.Given.{word_meaning, line_text}
 use Rattle.given_lines.proofs.Texts.{Parts, parts-length, fields_ended, line-parts, field-parts, end-parts}
 use Rattle.given_lines.proofs.Begun.{Begun, begun-with, begun-end, begun-length, next-starts, next-room, begun-next, byte_inside, begun-byte}
 use Rattle.given_lines.proofs.writing.write_line.Goals as goal
 use Rattle.given_lines.proofs.writing.write_line.Goals.{After-write_tabbed-at, At-loop-i, In-loop-i}
 
 pub write_word-at-requires : goal.write_word-at-requires
-write_word-at-requires c = omega (arith, c.requires, parts-length (line-parts (word_with c.args.code) c.args.numbers.now))
+write_word-at-requires c = omega (arith, c.requires, parts-length (line-parts (word_meaning c.args.line.word) c.args.line.numbers.now))
 
 -- ---- at the loop: the line, the number at i, and what is left after it
 
 abbrev line : At-loop-i → List ℕ
-line c = line_text (given (word_with c.args.code) c.args.numbers.now)
+line c = line_text (given (word_meaning c.args.line.word) c.args.line.numbers.now)
 
 -- what is written is the tab and the number at i
 abbrev field : In-loop-i → List ℕ
-field c = 9 ∷ number_text (get_or c.args.numbers.now c.loop-i.i (pos 0))
+field c = 9 ∷ number_text (get_or c.args.line.numbers.now c.loop-i.i (pos 0))
 
 field-first : (c : In-loop-i)
-    → Parts (fields_ended (drop c.loop-i.i c.args.numbers.now)) (field c) (fields_ended (drop (c.loop-i.i + 1) c.args.numbers.now))
-field-first c = field-parts c.args.numbers.now c.loop-i.i c.loop-i-test.true
+    → Parts (fields_ended (drop c.loop-i.i c.args.line.numbers.now)) (field c) (fields_ended (drop (c.loop-i.i + 1) c.args.line.numbers.now))
+field-first c = field-parts c.args.line.numbers.now c.loop-i.i c.loop-i-test.true
 
 begun : (c : At-loop-i)
-    → Begun (line c) c.args.part.now c.loop-i.part c.loop-i.at (fields_ended (drop c.loop-i.i c.args.numbers.now))
-begun c = c.loop-i.invariant c.args.part.now (begun-with (line-parts (word_with c.args.code) c.args.numbers.now) c.requires c.write_word-at.ensures)
+    → Begun (line c) c.args.part.now c.loop-i.part c.loop-i.at (fields_ended (drop c.loop-i.i c.args.line.numbers.now))
+begun c = c.loop-i.invariant c.args.part.now (begun-with (line-parts (word_meaning c.args.line.word) c.args.line.numbers.now) c.requires c.write_word-at.ensures)
 
 -- ---- the goals
 

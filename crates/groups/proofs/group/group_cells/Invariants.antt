@@ -1,10 +1,6 @@
 -- `groups::group::group_cells`: before each digit, `GroupFilling` holds of what is written and of what is left of n.
-use Prim.Native.Nat.{◌-◌}
 use Rattle.groups.proofs.CellsGroup.{GroupFilling}
 use Rattle.groups.proofs.group.group_cells.Given as goal
 
 abbrev pub invariant-loop-i : goal.invariant-loop-i
-invariant-loop-i l = GroupFilling l.b l.k l.n l.initial.out l.out l.i l.rest
-
-abbrev pub decreases-loop-i : goal.decreases-loop-i
-decreases-loop-i l = l.k - l.i
+invariant-loop-i l = GroupFilling l.digits.base l.digits.count l.n l.initial.out l.out l.i l.rest

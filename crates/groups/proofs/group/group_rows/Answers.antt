@@ -1,133 +1,140 @@
--- `groups::group::group_rows`: the digits before `i` pass, `value` is theirs, and what is left to test says what the whole test says.
-use mathlib.Core.Path.{sym, ap, ◌∙◌}
-use mathlib.Core.Bool.{not}
-use Prim.Native.Nat.{ℕ, ◌+◌, ◌*◌, ◌≤◌}
+-- `groups::group::group_rows`: the digits of the turns before pass, `value` is theirs, and what is left to test says what the whole test says.
+use mathlib.Core.Path.{◌≡◌, sym, ◌∙◌}
+use Prim.Native.Nat.{ℕ, ◌+◌, ◌-◌, ◌*◌, ◌≤◌, ◌<◌}
 use native.Mathlib.Omega.{arith}
 use native.Mathlib.Nat.{le-mul_of_pos_right}
-use Rattle.groups.specs.Rows.{rows_meaning}
 use Rattle.groups.specs.Cells.{power_bound}
 use Rattle.groups.proofs.RowsGroup.{DigitRead, digit-read, digit-great}
 use Rattle.groups.proofs.RowsGroup.{digit-passes, digit-fails, two-pass, second-fails}
 use Rattle.groups.proofs.RowsGroup.{PowerSum, meaning-next, meaning-two, meaning-most, group-fails, group-meaning}
-use borrow.Author.Rules.{rules}
 use Rattle.groups.proofs.group.group_rows.Goals as goal
-use Rattle.groups.proofs.group.group_rows.Goals.{Else-not-is_under-2, else-i-k, then-i-k+else-not-is_under-3}
+use Rattle.groups.proofs.group.group_rows.Goals.{Else-ge-2, Else-ge-3, then-digits-eq1+else-ge-3, else-digits-eq1}
 
-pub returns-then-not-is_under : goal.returns-then-not-is_under
-unfolding rows_meaning
-returns-then-not-is_under c p f L h e =
-    let now = c.loop-i in
+pub returns-then-ge : goal.returns-then-ge
+returns-then-ge c p f L h e =
     let s = c.args in
-    let great = digit-great s.table.now s.at.0 s.b now.i c.cell_after.ensures c.residue_at-low.ensures c.is_under.ensures (ap not c.if-not-is_under.true) in
-    group-fails p s.table.now f L s.first s.at.0 s.b s.k
-    (sym (now.invariant.2 p ∙ digit-fails p s.table.now s.first s.at.0 s.b s.k now.i (omega arith) great))
+    let b = s.digits.base in
+    let k = s.digits.count in
+    let i = 2 * c.loop-pair.pair in
+    let great = digit-great s.table.now s.at.0 b i c.after.ensures c.residue_at-low.ensures c.from-base.ensures c.ge.ensures c.if-ge.true in
+    group-fails p s.table.now f L s.first s.at.0 b k
+    (sym (c.loop-pair.invariant.1 p ∙ digit-fails p s.table.now s.first s.at.0 b k i (omega (arith, c.loop-pair-test.true)) great))
 
 -- the first digit of a turn, where it passes
-low_read : (c : Else-not-is_under-2) → let s = c.args in
-    DigitRead s.table.now s.at.0 s.b c.loop-i.i c.residue_at-low.result.0
+low_read : (c : Else-ge-2) → let s = c.args in
+    DigitRead s.table.now s.at.0 s.digits.base (2 * c.loop-pair.pair) c.residue_at-low.result.0
 low_read c =
     let s = c.args in
-    digit-read s.table.now s.at.0 s.b _ c.cell_after.ensures c.residue_at-low.ensures c.is_under.ensures (ap not c.if-not-is_under.false)
+    digit-read s.table.now s.at.0 s.digits.base _ c.after.ensures c.residue_at-low.ensures c.from-base.ensures c.ge.ensures c.if-ge.false
 
-pub returns-then-not-is_under-2 : goal.returns-then-not-is_under-2
-unfolding rows_meaning
-returns-then-not-is_under-2 c p f L h e =
-    let now = c.loop-i in
+pub returns-then-ge-2 : goal.returns-then-ge-2
+returns-then-ge-2 c p f L h e =
     let s = c.args in
-    let great = digit-great s.table.now s.at.0 s.b (now.i + 1) c.cell_after-in-loop-i.ensures c.residue_at-high.ensures c.is_under-in-loop-i.ensures (ap not c.if-not-is_under-2.true) in
-    let low = digit-read s.table.now s.at.0 s.b now.i c.cell_after.ensures c.residue_at-low.ensures c.is_under.ensures (ap not c.if-not-is_under.false) in
-    let fails = second-fails p s.table.now s.first s.at.0 s.b s.k now.i c.loop-i-test.true low great in
-    group-fails p s.table.now f L s.first s.at.0 s.b s.k (sym (now.invariant.2 p ∙ fails))
+    let b = s.digits.base in
+    let k = s.digits.count in
+    let i = 2 * c.loop-pair.pair in
+    let great = digit-great s.table.now s.at.0 b (i + 1) c.after-in-loop-pair.ensures c.residue_at-high.ensures c.from-base.ensures c.ge-in-loop-pair.ensures c.if-ge-2.true in
+    let low = digit-read s.table.now s.at.0 b i c.after.ensures c.residue_at-low.ensures c.from-base.ensures c.ge.ensures c.if-ge.false in
+    let fails = second-fails p s.table.now s.first s.at.0 b k i (omega (arith, c.loop-pair-test.true)) low great in
+    group-fails p s.table.now f L s.first s.at.0 b k (sym (c.loop-pair.invariant.1 p ∙ fails))
 
 -- and the second
-high_read : (c : Else-not-is_under-2) → let now = c.loop-i in
-    let s = c.args in
-    DigitRead s.table.now s.at.0 s.b (now.i + 1) c.residue_at-high.result.0
+high_read : (c : Else-ge-2) → let s = c.args in
+    DigitRead s.table.now s.at.0 s.digits.base (2 * c.loop-pair.pair + 1) c.residue_at-high.result.0
 high_read c =
     let s = c.args in
-    digit-read s.table.now s.at.0 s.b _ c.cell_after-in-loop-i.ensures c.residue_at-high.ensures c.is_under-in-loop-i.ensures (ap not c.if-not-is_under-2.false)
+    digit-read s.table.now s.at.0 s.digits.base _ c.after-in-loop-pair.ensures c.residue_at-high.ensures c.from-base.ensures c.ge-in-loop-pair.ensures c.if-ge-2.false
 
 -- the value of the two digits of a turn, and the sum so far after them where both pass
-abbrev pair : Else-not-is_under-2 → ℕ
-pair c =
-    c.residue_at-low.result.0 + c.residue_at-high.result.0 * c.args.b
+abbrev two : Else-ge-2 → ℕ
+two c =
+    c.residue_at-low.result.0 + c.residue_at-high.result.0 * c.args.digits.base
 
-meaning : (c : Else-not-is_under-2) → let now = c.loop-i in
+more : (c : Else-ge-2) → 2 * c.loop-pair.pair + 1 < c.args.digits.count
+more c = omega (arith, c.loop-pair-test.true)
+
+meaning : (c : Else-ge-2) → let now = c.loop-pair in
     let s = c.args in
-    PowerSum s.table.now s.at.0 s.b s.k (now.i + 2) (now.value.0 + pair c * now.part) (now.part * (s.b * s.b))
+    PowerSum s.table.now s.at.0 s.digits.base s.digits.count (2 * now.pair + 2) (now.value.0 + two c * now.part) (now.part * (s.digits.base * s.digits.base))
 meaning c =
     let s = c.args in
-    meaning-two s.table.now s.at.0 s.b s.k c.loop-i.invariant.1 c.requires.1 c.loop-i-test.true (low_read c) (high_read c)
+    meaning-two s.table.now s.at.0 s.digits.base s.digits.count c.loop-pair.invariant.0 c.requires.0 (more c) (low_read c) (high_read c)
 
-most : (c : Else-not-is_under-2) → let s = c.args in
-    c.loop-i.part * (s.b * s.b) ≤ power_bound
+most : (c : Else-ge-2) → let s = c.args in
+    c.loop-pair.part * (s.digits.base * s.digits.base) ≤ power_bound
 most c =
     let s = c.args in
-    let g = c.requires.0 in
-    omega (arith, meaning-most s.table.now s.at.0 s.b s.k (meaning c) (omega (arith, g.base)) (omega arith), g.small)
+    let g = s.digits.group in
+    omega (arith, meaning-most s.table.now s.at.0 s.digits.base s.digits.count (meaning c) (omega (arith, g.base)) (omega (arith, more c)), g.small)
 
 -- what is multiplied by part is no more than the product
-part-counts : (c : Else-not-is_under-2) (n : ℕ) → n ≤ n * c.loop-i.part
-part-counts c n =
-    let now = c.loop-i in
-    le-mul_of_pos_right n (omega (arith, now.invariant.1.below))
+part-counts : (c : Else-ge-2) (n : ℕ) → n ≤ n * c.loop-pair.part
+part-counts c n = le-mul_of_pos_right n (omega (arith, c.loop-pair.invariant.0.below))
 
 pub with_digit-requires : goal.with_digit-requires
-with_digit-requires c = omega (arith, part-counts c (pair c), (meaning c).below, most c)
+with_digit-requires c = omega (arith, part-counts c (two c), (meaning c).below, most c)
 
 pub with_digit-value-requires : goal.with_digit-value-requires
 with_digit-value-requires c =
-    let passed = (goal.at.with_digit-value-requires c).Else-not-is_under-2 in
+    let passed = (goal.at.with_digit-value-requires c).Else-ge-2 in
     rw c.with_digit.ensures (omega (arith, (meaning passed).below, most passed))
 
 pub overflow_mul-part : goal.overflow_mul-part
 overflow_mul-part c =
-    let passed = (goal.at.overflow_mul-part c).Else-not-is_under-2 in
-    omega (arith, part-counts passed (c.args.b * c.args.b), most passed)
+    let passed = (goal.at.overflow_mul-part c).Else-ge-2 in
+    omega (arith, part-counts passed (c.args.digits.base * c.args.digits.base), most passed)
 
-pub overflow_mul-part-in-loop-i : goal.overflow_mul-part-in-loop-i
-overflow_mul-part-in-loop-i c = omega (arith, most (goal.at.overflow_mul-part-in-loop-i c).Else-not-is_under-2)
+pub overflow_mul-part-in-loop-pair : goal.overflow_mul-part-in-loop-pair
+overflow_mul-part-in-loop-pair c = omega (arith, most (goal.at.overflow_mul-part-in-loop-pair c).Else-ge-2)
 
-pub loop-i-preserved : goal.loop-i-preserved
-loop-i-preserved c =
-    let passed = (goal.at.loop-i-preserved c).Else-not-is_under-2 in
-    let now = c.loop-i in
-    let s = c.args in (
-      search rules,
+pub loop-pair-preserved : goal.loop-pair-preserved
+loop-pair-preserved c =
+    let passed = (goal.at.loop-pair-preserved c).Else-ge-2 in
+    let s = c.args in
+    let next : 2 * (c.loop-pair.pair + 1) ≡ 2 * c.loop-pair.pair + 2 = omega arith in
+    rw next (
       rw (c.with_digit-value.ensures, c.with_digit.ensures) (meaning passed),
-      λ p. now.invariant.2 p ∙ two-pass p s.table.now s.first s.at.0 s.b s.k now.i c.loop-i-test.true (low_read passed) (high_read passed),
+      λ p. c.loop-pair.invariant.1 p ∙ two-pass p s.table.now s.first s.at.0 s.digits.base s.digits.count (2 * c.loop-pair.pair) (more passed) (low_read passed) (high_read passed),
     )
 
-pub returns-then-not-is_under-3 : goal.returns-then-not-is_under-3
-unfolding rows_meaning
-returns-then-not-is_under-3 c p f L h e =
-    let now = c.loop-i in
+-- a last digit
+pub returns-then-ge-3 : goal.returns-then-ge-3
+returns-then-ge-3 c p f L h e =
     let s = c.args in
-    let great = digit-great s.table.now s.at.0 s.b now.i c.cell_after-then-i-k.ensures c.residue_at-digit.ensures c.is_under-then-i-k.ensures (ap not c.if-not-is_under-3.true) in
-    group-fails p s.table.now f L s.first s.at.0 s.b s.k
-    (sym (now.invariant.2 p ∙ digit-fails p s.table.now s.first s.at.0 s.b s.k now.i c.if-i-k.true great))
+    let b = s.digits.base in
+    let k = s.digits.count in
+    let i = 2 * c.loop-pair.pair in
+    let last : s.first + (k - 1) ≡ s.first + i = omega (arith, c.loop-pair-test.false, c.if-digits-eq1.true) in
+    let place : c.after-then-digits-eq1.result.0 ≡ s.at.0 + i = omega (arith, c.after-then-digits-eq1.ensures, last) in
+    let great = digit-great s.table.now s.at.0 b i place c.residue_at-last.ensures c.from-base.ensures c.ge-then-digits-eq1.ensures c.if-ge-3.true in
+    rw last (group-fails p s.table.now f L s.first s.at.0 b k
+    (sym (c.loop-pair.invariant.1 p ∙ digit-fails p s.table.now s.first s.at.0 b k i (omega (arith, last, s.digits.group.some-digit)) great)))
 
--- after a last digit that passes
-pub with_digit-value-requires-then-i-k : goal.with_digit-value-requires-then-i-k
-with_digit-value-requires-then-i-k c =
+last_one : (c : Else-ge-3) → 2 * c.loop-pair.pair + 1 ≡ c.args.digits.count
+last_one c = omega (arith, c.loop-pair-test.false, c.if-digits-eq1.true)
+
+last_read : (c : Else-ge-3) → let s = c.args in
+    DigitRead s.table.now s.at.0 s.digits.base (2 * c.loop-pair.pair) c.residue_at-last.result.0
+last_read c =
     let s = c.args in
-    let g = c.requires.0 in
-    let digit = digit-read s.table.now s.at.0 s.b _ c.cell_after-then-i-k.ensures c.residue_at-digit.ensures c.is_under-then-i-k.ensures (ap not c.if-not-is_under-3.false) in
-    let last = meaning-next s.table.now s.at.0 s.b s.k c.loop-i.invariant.1 c.requires.1 c.if-i-k.true digit in
-    omega (arith, last.below, meaning-most s.table.now s.at.0 s.b s.k last (omega (arith, g.base)) (omega arith), g.small)
+    digit-read s.table.now s.at.0 s.digits.base _ (omega (arith, c.after-then-digits-eq1.ensures, last_one c)) c.residue_at-last.ensures c.from-base.ensures
+    c.ge-then-digits-eq1.ensures c.if-ge-3.false
 
 pub returns : goal.returns
-unfolding rows_meaning
 returns c p f L h e =
-    let now = c.loop-i in
+    let now = c.loop-pair in
     let s = c.args in
     let t = s.table.now in
-    let tested = rw c.is_same.ensures at c.row_before.ensures in
-    elim c.if-i-k.branch [
-      | then-i-k+else-not-is_under-3 w ↦ let digit = digit-read t s.at.0 s.b now.i w.cell_after-then-i-k.ensures w.residue_at-digit.ensures w.is_under-then-i-k.ensures (ap not w.if-not-is_under-3.false) in
-          group-meaning p t f L s.first s.at.0 s.b s.k {i = now.i + 1} (omega (arith, w.if-i-k.true)) c.requires.1 h e
-          (meaning-next t s.at.0 s.b s.k now.invariant.1 c.requires.1 w.if-i-k.true digit)
-          (now.invariant.2 p ∙ digit-passes p t s.first s.at.0 s.b s.k now.i w.if-i-k.true digit) (rw (w.value-is, w.with_digit-value-then-i-k.ensures) at tested)
-      | else-i-k w ↦ group-meaning p t f L s.first s.at.0 s.b s.k {i = now.i} (omega (arith, w.if-i-k.false)) c.requires.1 h e now.invariant.1 (now.invariant.2 p)
+    let b = s.digits.base in
+    let k = s.digits.count in
+    let i = 2 * now.pair in
+    let tested = rw c.eq.ensures at c.row_before.ensures in
+    elim c.if-digits-eq1.branch [
+      | then-digits-eq1+else-ge-3 w ↦ let one : i + 1 ≡ k = omega (arith, c.loop-pair-test.false, w.if-digits-eq1.true) in
+          let digit = digit-read t s.at.0 b i (omega (arith, w.after-then-digits-eq1.ensures, one)) w.residue_at-last.ensures c.from-base.ensures w.ge-then-digits-eq1.ensures w.if-ge-3.false in
+          group-meaning p t f L s.first s.at.0 b k {i = i + 1} one c.requires.0 h e
+          (meaning-next t s.at.0 b k now.invariant.0 c.requires.0 (omega (arith, one)) digit)
+          (now.invariant.1 p ∙ digit-passes p t s.first s.at.0 b k i (omega (arith, one)) digit) (rw (w.value-is, w.with_digit-value-then-digits-eq1.ensures) at tested)
+      | else-digits-eq1 w ↦ group-meaning p t f L s.first s.at.0 b k {i = i} (omega (arith, c.loop-pair-test.false, w.if-digits-eq1.false)) c.requires.0 h e now.invariant.0 (now.invariant.1 p)
           (rw w.value-is at tested)
     ]

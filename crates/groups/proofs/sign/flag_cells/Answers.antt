@@ -14,19 +14,19 @@ top : (c : After-difference-t)
     → let a = c.args in c.difference-t.result.0 ≡ remainder a.p (pos a.digit.0 -ℤ pos (a.b - 1))
 top c =
     let a = c.args in
-    c.difference-t.ensures.1 ∙ ap (λ (n : ℕ). remainder a.p (pos a.digit.0 -ℤ pos n)) c.own_residue.ensures
+    c.difference-t.ensures.1 ∙ ap (λ (n : ℕ). remainder a.p (pos a.digit.0 -ℤ pos n)) c.from.ensures
 
-pub returns-then-is_zero : goal.returns-then-is_zero
-returns-then-is_zero c =
+pub returns-then-eq : goal.returns-then-eq
+returns-then-eq c =
     let a = c.args in
-    (rw (c.own_residue-then-is_zero.ensures, c.own_residue-then-is_zero-2.ensures) at c.two_cells.ensures)
+    (rw (c.from-then-eq.ensures, c.from-then-eq-2.ensures) at c.two_cells.ensures)
     ∙ ap (λ (l : List ℕ). l ++ drop 2 a.out.now)
-    (flag-zero a.p (sym (top (goal.at.returns-then-is_zero c).After-difference-t) ∙ eqb-true _ _ (sym c.is_zero.ensures ∙ c.if-is_zero.true)))
+    (flag-zero a.p (sym (top (goal.at.returns-then-eq c).After-difference-t) ∙ eqb-true _ _ (sym (rw c.from-2.ensures at c.eq.ensures) ∙ c.if-eq.true)))
 
-pub returns-else-is_zero : goal.returns-else-is_zero
-returns-else-is_zero c =
+pub returns-else-eq : goal.returns-else-eq
+returns-else-eq c =
     let a = c.args in
-    (rw c.own_residue-else-is_zero.ensures at c.two_cells-else-is_zero.ensures)
+    (rw c.from-else-eq.ensures at c.two_cells-else-eq.ensures)
     ∙ ap (λ (l : List ℕ). l ++ drop 2 a.out.now)
-    (flag-other a.p (λ e. eqb-false _ _ (sym c.is_zero.ensures ∙ c.if-is_zero.false) (top (goal.at.returns-else-is_zero c).After-difference-t ∙ e))
-    (c.inverse_of-w.ensures ∙ ap (inverse a.p) (top (goal.at.returns-else-is_zero c).After-difference-t)))
+    (flag-other a.p (λ e. eqb-false _ _ (sym (rw c.from-2.ensures at c.eq.ensures) ∙ c.if-eq.false) (top (goal.at.returns-else-eq c).After-difference-t ∙ e))
+    (c.inverse_of-w.ensures ∙ ap (inverse a.p) (top (goal.at.returns-else-eq c).After-difference-t)))

@@ -5,4 +5,4 @@ use Rattle.number.proofs.Remainder.{remainder-positive}
 use Rattle.number.proofs.residue.product.Goals as goal
 
 pub returns : goal.returns
-returns c = rw c.reduced.ensures (mod-lt _ c.requires, sym (remainder-positive _ _))
+returns c = rw (c.reduced.ensures, ← c.from.ensures, ← c.from-2.ensures) (mod-lt _ c.requires, sym (remainder-positive _ _))

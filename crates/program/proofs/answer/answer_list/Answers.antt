@@ -6,9 +6,9 @@ use Rattle.program.proofs.answer.answer_list.Goals as goal
 
 pub answer_inputs-requires : goal.answer_inputs-requires
 answer_inputs-requires c =
-    rw c.cell_number.ensures
-    (list_read c.requires (survey-counted _ _ c.survey-found.ensures.yields c.survey-found.ensures.prime _ _ c.in-Counted.is))
+    rw c.from.ensures
+    (list_read c.requires (survey-counted _ _ c.survey.ensures.yields c.survey.ensures.prime _ c.in-Ok.is))
 
-pub returns-in-NotRead : goal.returns-in-NotRead
-returns-in-NotRead c =
-    answered-as (list-refused c.requires _ _ (survey-refused _ _ c.survey-found.ensures.yields _ _ c.in-NotRead.is)) c.answer_refusal.ensures
+pub returns-in-Err : goal.returns-in-Err
+returns-in-Err c =
+    answered-as (list-refused c.requires _ _ (survey-refused _ _ c.survey.ensures.yields _ c.in-Err.is)) c.answer_refusal.ensures

@@ -13,7 +13,7 @@ loop-i-init c = summing_start _ _ (omega arith) c.decimal_length-total.ensures
 
 pub loop-i-preserved : goal.loop-i-preserved
 loop-i-preserved c =
-    summing-turn c.loop-i.invariant c.loop-i-test.true _ c.pair_length-total.ensures.yields c.pair_length-total.ensures.short
+    summing-turn c.loop-i.invariant c.loop-i-test.true _ (rw c.from.ensures at c.pair_length-total.ensures.yields) c.pair_length-total.ensures.short
 
 pub returns : goal.returns
 returns c = summing-end c.loop-i.invariant c.loop-i-test.false

@@ -1,11 +1,6 @@
 -- Before each cell, `AddingLengths` holds of the bytes before its line.
-use Prim.Native.Nat.{◌-◌}
-use lib.ListN.{length}
 use Rattle.program.proofs.Lengths.{AddingLengths}
 use Rattle.program.proofs.answer_text.table_length.Given as goal
 
 abbrev pub invariant-loop-i : goal.invariant-loop-i
 invariant-loop-i l = AddingLengths l.table l.total l.i
-
-abbrev pub decreases-loop-i : goal.decreases-loop-i
-decreases-loop-i l = length l.table - l.i

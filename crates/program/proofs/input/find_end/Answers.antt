@@ -1,4 +1,6 @@
 -- Before each line, `Seeking` holds: none of the lines before it is `end`.
+use mathlib.Core.Path.{◌∙◌}
+use Rattle.text.proofs.Bytes.{bytes-equal}
 use Rattle.meaning.specs.Text.{bytes}
 use Rattle.meaning.proofs.Results.{none-refused}
 use Rattle.program.specs.Input.{EndYield}
@@ -8,15 +10,15 @@ use Rattle.program.proofs.input.find_end.Goals as goal
 pub loop-at-init : goal.loop-at-init
 loop-at-init c = seeking-start _
 
-pub returns-then-is_same : goal.returns-then-is_same
+pub returns-then-eq : goal.returns-then-eq
 unfolding bytes EndYield
-returns-then-is_same c =
-    seeking-found c.loop-at.invariant c.requires c.loop-at-test.true c.line_end-end.ensures c.is_same.ensures c.if-is_same.true
+returns-then-eq c =
+    seeking-found c.loop-at.invariant c.requires c.loop-at-test.true c.line_end-end.ensures (c.eq.ensures ∙ bytes-equal _ _) c.if-eq.true
 
 pub loop-at-preserved : goal.loop-at-preserved
 unfolding bytes
 loop-at-preserved c =
-    seeking-turn c.loop-at.invariant c.requires c.loop-at-test.true c.line_end-end.ensures c.is_same.ensures c.if-is_same.false
+    seeking-turn c.loop-at.invariant c.requires c.loop-at-test.true c.line_end-end.ensures (c.eq.ensures ∙ bytes-equal _ _) c.if-eq.false
 
 pub returns : goal.returns
 unfolding EndYield

@@ -1,24 +1,22 @@
--- The reply to what `survey` found.
-use mathlib.Core.Path.{◌≡◌}
-use mathlib.Core.List.{List}
-use Prim.Native.Nat.{ℕ}
-use Rattle.meaning.specs.Reply.{Answer, read_reply}
-use Rattle.reader.specs.Read.{answer_meaning, Exact}
-use Rattle.reader.proofs.Exact.{refused-replied, counts-replied, reads-exactly-as-replied}
+-- The reply to what `survey` found. A reply that is the definitions' is exact.
+use mathlib.Core.Path.{◌≡◌, ◌∙◌}
+use Rattle.meaning.specs.Reply.{read_reply}
+use Rattle.reader.specs.Read.{answer_meaning}
+use Rattle.reader.proofs.Exact.{passed-on, refused-replied, counts-replied, reads-exactly-as-replied}
 use Rattle.reader.proofs.reading.read.Goals as goal
+use Rattle.reader.proofs.reading.read.Goals.{After-from_residual, After-from}
 
--- a reply that is the definitions' is exact
-answered : {text : List ℕ} (a : Answer) → a ≡ read_reply text → (a ≡ read_reply text) × Exact text a
-answered {text} a e = (e, reads-exactly-as-replied text a e)
+refused : (c : After-from_residual) → answer_meaning c.from_residual.result ≡ read_reply c.args.list.now
+refused c = passed-on _ _ c.from_residual.ensures.1 ∙ refused-replied c.args.list.now _ c.survey.ensures.yields c.in_err-found.was
 
-pub returns-in-NotRead : goal.returns-in-NotRead
-unfolding answer_meaning
-returns-in-NotRead c =
-    let is = answered _ (refused-replied c.args.list.now _ c.survey-found.ensures.yields _ _ c.in-NotRead.is) in
-    record { replied = is.0; exact = is.1 }
+pub returns-in_err-found-clause-replied : goal.returns-in_err-found-clause-replied
+returns-in_err-found-clause-replied c = refused c
 
-pub returns-in-Counted : goal.returns-in-Counted
-unfolding answer_meaning
-returns-in-Counted c =
-    let is = answered _ (counts-replied c.args.list.now _ c.survey-found.ensures.yields _ _ c.in-Counted.is) in
-    rw c.cell_number.ensures (record { replied = is.0; exact = is.1 })
+pub returns-in_err-found-clause-exact : goal.returns-in_err-found-clause-exact
+returns-in_err-found-clause-exact c = reads-exactly-as-replied _ _ (refused c)
+
+pub returns-clause-replied : goal.returns-clause-replied
+returns-clause-replied c = rw c.from.ensures (counts-replied c.args.list.now _ c.survey.ensures.yields c.in_ok-found.was)
+
+pub returns-clause-exact : goal.returns-clause-exact
+returns-clause-exact c = reads-exactly-as-replied _ _ (rw c.from.ensures (counts-replied c.args.list.now _ c.survey.ensures.yields c.in_ok-found.was))

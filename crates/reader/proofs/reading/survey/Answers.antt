@@ -1,28 +1,31 @@
 -- The text as a whole, line 0, then the lines after it.
 use mathlib.Core.Path.{◌≡◌, sym, ap, ◌∙◌}
 use mathlib.Core.Bool.{true}
-use Prim.Native.Nat.{◌+◌}
+use Prim.Native.Nat.{ℕ, ◌+◌}
 use native.Mathlib.Omega.{arith}
+use lib.Seq.{length-take-le}
+use borrow.Author.Rules.{rules}
+use Rattle.std.specs.Prelude.{Result}
 use Rattle.meaning.specs.Text.{is_ended}
 use Rattle.meaning.specs.Line.{line_of}
 use Rattle.meaning.specs.Known.{fresh}
 use Rattle.text.specs.Place.{end_of, line_at}
 use Rattle.lines.proofs.Answers.{no-line-meaning, line-meaning, line-next}
-use Rattle.reader.specs.Read.{survey_meaning, PrimeFound, prime_in, first_meaning}
+use Rattle.refusal.specs.declared.refused.Refusal.{Refusal}
+use Rattle.reader.specs.Read.{first_meaning}
 use Rattle.reader.specs.Step.{step_option}
-use Rattle.reader.specs.declared.first.First.{First}
-use Rattle.reader.proofs.Steps.{no-line-step, line_step, line-parsed}
-use Rattle.reader.proofs.Whole.{ended_some, first-within, lines_start, survey-not-ended, first-stopped, first-is-prime, survey-after}
-use borrow.Author.Rules.{rules}
+use Rattle.reader.proofs.Steps.{no-line-step, line_step, numbers-fit, line-parsed}
+use Rattle.reader.proofs.Whole.{ended_some, first-within, lines_start, survey-too-long, survey-not-ended, first-stopped, first-is-prime, survey-after}
 use Rattle.reader.proofs.reading.survey.Goals as goal
-use Rattle.reader.proofs.reading.survey.Goals.{After-first_parsed-first, Else-not-is_ended}
+use Rattle.reader.proofs.reading.survey.Goals.{After-first_parsed, Else-not-is_ended, In-Some}
 
-pub returns-then-not-is_ended : goal.returns-then-not-is_ended
-unfolding survey_meaning PrimeFound
-returns-then-not-is_ended c = record {
-  yields = survey-not-ended c.args.list.now (omega arith) (sym c.is_ended.ensures ∙ c.if-not-is_ended.true);
-  prime = tt;
-}
+pub returns-then-list-gt65536-clause-yields : goal.returns-then-list-gt65536-clause-yields
+returns-then-list-gt65536-clause-yields c = rw (c.at.ensures.refusal, c.at.ensures.place) (survey-too-long c.args.list.now (omega arith))
+
+pub returns-then-not-is_ended-clause-yields : goal.returns-then-not-is_ended-clause-yields
+returns-then-not-is_ended-clause-yields c =
+    rw (c.at-then-not-is_ended.ensures.refusal, c.at-then-not-is_ended.ensures.place)
+    (survey-not-ended c.args.list.now (omega arith) (sym c.is_ended.ensures ∙ c.if-not-is_ended.true))
 
 -- after the test of the last byte
 ended : (c : Else-not-is_ended) → is_ended c.args.list.now ≡ true
@@ -33,56 +36,54 @@ line_of-requires c =
     let e = ended (goal.at.line_of-requires c).Else-not-is_ended in
     (e, ended_some c.args.list.now e, search rules)
 
-pub returns-in_default : goal.returns-in_default
-unfolding survey_meaning PrimeFound
-returns-in_default c =
+pub returns-in_default-clause-yields : goal.returns-in_default-clause-yields
+returns-in_default-clause-yields c =
     let text = c.args.list.now in
-    let e = ended (goal.at.returns-in_default c).Else-not-is_ended in
-    record {
-      yields = first-stopped text (omega arith) e (lines_start text e) 3 (no-line-step 0 fresh (no-line-meaning c.line_of.ensures.read c.in_default.is));
-      prime = tt;
-    }
+    let e = ended (goal.at.returns-in_default-clause-yields c).Else-not-is_ended in
+    rw (c.at-in_default.ensures.refusal, c.at-in_default.ensures.place)
+    (first-stopped text (omega arith) e (lines_start text e) 3 (no-line-step 0 fresh (no-line-meaning c.line_of.ensures.read c.in_default.is)))
 
-pub first_parsed-first-requires : goal.first_parsed-first-requires
-first_parsed-first-requires c = line-parsed c.line_of.ensures.read (search rules) c.in-Line.is
+pub slice_bounds-numbers-end : goal.slice_bounds-numbers-end
+slice_bounds-numbers-end c = numbers-fit c.line_of.ensures.read (search rules) c.in-Some.is
+
+pub slice_bounds-taken-end : goal.slice_bounds-taken-end
+slice_bounds-taken-end c = sym (length-take-le _ _ (slice_bounds-numbers-end (goal.at.slice_bounds-taken-end c).In-Some))
+
+pub first_parsed-requires : goal.first_parsed-requires
+first_parsed-requires c = line-parsed c.line_of.ensures.read (search rules) c.in-Some.is
 
 -- line 0, as it was read
-first_read : (c : After-first_parsed-first) {x : First} → c.first_parsed-first.result ≡ x → first_meaning x ≡ step_option 0 fresh (line_of (line_at c.args.list.now 0))
-first_read c is = ap first_meaning (sym is) ∙ line_step 0 fresh (line-meaning c.line_of.ensures.read c.in-Line.is) c.first_parsed-first.ensures.yields
+first_read : (c : After-first_parsed) {x : Result ℕ Refusal} → c.first_parsed.result ≡ x → first_meaning x ≡ step_option 0 fresh (line_of (line_at c.args.list.now 0))
+first_read c is = ap first_meaning (sym is) ∙ line_step 0 fresh (line-meaning c.line_of.ensures.read c.in-Some.is) c.first_parsed.ensures.yields
 
-second : (c : After-first_parsed-first) → c.in-Line.next ≡ end_of c.args.list.now 0 + 1
-second c = line-next c.args.list.now 0 c.line_of.ensures.next c.in-Line.is
+second : (c : After-first_parsed) → c.in-Some.line.next ≡ end_of c.args.list.now 0 + 1
+second c = line-next c.args.list.now 0 c.line_of.ensures.next c.in-Some.is
 
 pub survey_from-requires : goal.survey_from-requires
-unfolding first_meaning prime_in
 survey_from-requires c =
-    let at_first = (goal.at.survey_from-requires c).After-first_parsed-first in
+    let at_first = (goal.at.survey_from-requires c).After-first_parsed in
     let text = c.args.list.now in
     let e = ended (goal.at.survey_from-requires c).Else-not-is_ended in
     let within = first-within text e in (
       e,
       omega (arith, second at_first),
       omega (arith, within, second at_first),
-      first-is-prime _ _ (first_read at_first c.in-Prime.is),
-      rw c.in-Prime.is at c.first_parsed-first.ensures.small,
+      first-is-prime _ _ (first_read at_first c.in-Ok.is),
+      c.in-Ok.ensures.small,
       search rules,
     )
 
-pub returns-in-NotFirst : goal.returns-in-NotFirst
-unfolding survey_meaning PrimeFound first_meaning
-returns-in-NotFirst c =
+pub returns-in-Err-clause-yields : goal.returns-in-Err-clause-yields
+returns-in-Err-clause-yields c =
     let text = c.args.list.now in
-    let e = ended (goal.at.returns-in-NotFirst c).Else-not-is_ended in
-    let at_first = (goal.at.returns-in-NotFirst c).After-first_parsed-first in
-    record { yields = first-stopped text (omega arith) e (lines_start text e) _ (first_read at_first c.in-NotFirst.is); prime = tt }
+    let e = ended (goal.at.returns-in-Err-clause-yields c).Else-not-is_ended in
+    let at_first = (goal.at.returns-in-Err-clause-yields c).After-first_parsed in
+    rw (c.at-in-Err.ensures.refusal, c.at-in-Err.ensures.place)
+    (first-stopped text (omega arith) e (lines_start text e) _ (first_read at_first c.in-Err.is))
 
-pub returns-in-Prime : goal.returns-in-Prime
-unfolding first_meaning
-returns-in-Prime c =
+pub returns-in-Ok-clause-yields : goal.returns-in-Ok-clause-yields
+returns-in-Ok-clause-yields c =
     let text = c.args.list.now in
-    let e = ended (goal.at.returns-in-Prime c).Else-not-is_ended in
-    let at_first = (goal.at.returns-in-Prime c).After-first_parsed-first in
-    record {
-      yields = rw (second at_first) at c.survey_from.ensures.yields ∙ survey-after text (omega arith) e (lines_start text e) _ (first_read at_first c.in-Prime.is);
-      prime = c.survey_from.ensures.prime;
-    }
+    let e = ended (goal.at.returns-in-Ok-clause-yields c).Else-not-is_ended in
+    let at_first = (goal.at.returns-in-Ok-clause-yields c).After-first_parsed in
+    rw (second at_first) at c.survey_from.ensures.yields ∙ survey-after text (omega arith) e (lines_start text e) _ (first_read at_first c.in-Ok.is)

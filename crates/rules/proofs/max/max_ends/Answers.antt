@@ -1,57 +1,43 @@
--- Above p both rules are broken; else what is left of each is `is_narrow`.
+-- What is left of each rule where c is at most p is `is_narrow`.
 use mathlib.Core.Path.{◌≡◌, sym, ap, ◌∙◌}
 use mathlib.Core.List.{[], ◌∷◌}
-use native.Mathlib.Omega.{arith}
-use lib.IntN.{pos}
-use mathlib.Core.Bool.{and-false}
-use Rattle.meaning.specs.Known.{Ends, digit_rule, above}
-use Rattle.rules.specs.Yield.{makes, made_meaning, ends_meaning}
-use Rattle.rules.proofs.Digits.{Power, power-above, power-within, rule-above, rule-within}
+use mathlib.Core.Bool.{Bool}
+use lib.IntN.{ℤ, pos}
+use Prim.Native.Nat.{ℕ}
+use Rattle.meaning.specs.Known.{Ends, digit_rule}
+use Rattle.rules.specs.Yield.{makes}
+use Rattle.rules.specs.Rule.{narrow}
+use Rattle.rules.specs.Digits.{PowerWithin}
+use Rattle.rules.proofs.Digits.{rule-within}
 use Rattle.rules.proofs.max.max_ends.Goals as goal
-use Rattle.rules.proofs.max.max_ends.Goals.{After-is_narrow, After-is_narrow-2, In-Of}
+use Rattle.rules.proofs.max.max_ends.Goals.{then-not-is_narrow-via-then-not-is_narrow, then-not-is_narrow-via-else-not-is_narrow+then-not-is_narrow-2}
 
-pub returns-in_default : goal.returns-in_default
-unfolding made_meaning
-returns-in_default c =
-    let a = c.args in
-    rw (rule-above a.p a.b a.k (above (ends_meaning a.u) (ends_meaning a.v)) (pos 0) (power-above _ _ _ c.capped_power.ensures c.in_default.is))
+-- the rule over one of the differences, as the code tests it
+kept : {p b k n : ℕ} {es ds : Ends} {zero : ℤ} {t : Bool} → PowerWithin p b k n → ds ≡ es → zero ≡ pos 0 → t ≡ narrow p n ds zero → digit_rule p b k es (pos 0) ≡ t
+kept r is none test = rule-within _ _ _ _ _ r ∙ sym (rw (is, none) at test)
 
-power : (c : In-Of) → let a = c.args in Power a.p a.b a.k c.in-Of.c
-power c = power-within _ _ _ c.capped_power.ensures c.requires.1 c.in-Of.is
+pub returns-then-not-is_narrow-clause-yields : goal.returns-then-not-is_narrow-clause-yields
+returns-then-not-is_narrow-clause-yields c =
+    let r = c.in_ok-c.ensures.within in
+    let first = kept r c.above.ensures.1 c.from-zero.ensures c.is_narrow.ensures in
+    elim c.then-not-is_narrow.branch [
+      | then-not-is_narrow-via-then-not-is_narrow w ↦ rw (first, w.if-not-is_narrow.true)
+      | then-not-is_narrow-via-else-not-is_narrow+then-not-is_narrow-2 w ↦
+          rw (
+            first,
+            w.if-not-is_narrow.false,
+            kept r w.above-else-not-is_narrow.ensures.1 c.from-zero.ensures w.is_narrow-else-not-is_narrow.ensures,
+            w.if-not-is_narrow-2.true,
+          )
+    ]
 
-pub is_narrow-requires : goal.is_narrow-requires
-is_narrow-requires c =
-    let r = power (goal.at.is_narrow-requires c).In-Of in
-    rw c.whole_of-zero.ensures (c.requires.0, r.positive, r.within, c.above.ensures.0, record { size = omega arith })
-
--- the rule over y - u
-first : (c : After-is_narrow)
-    → let a = c.args in
-    digit_rule a.p a.b a.k (above (ends_meaning a.u) (ends_meaning a.v)) (pos 0) ≡ c.is_narrow.result
-first c = rule-within _ _ _ _ _ (power c.before.before.before) ∙ rw (← c.above.ensures.1) (sym (rw c.whole_of-zero.ensures at c.is_narrow.ensures))
-
-pub returns-then-not-is_narrow : goal.returns-then-not-is_narrow
-unfolding made_meaning
-returns-then-not-is_narrow c = rw (first (goal.at.returns-then-not-is_narrow c).After-is_narrow, c.if-not-is_narrow.true)
-
-pub is_narrow-requires-2 : goal.is_narrow-requires-2
-is_narrow-requires-2 c =
-    let r = power (goal.at.is_narrow-requires-2 c).In-Of in
-    rw c.whole_of-zero.ensures (c.requires.0, r.positive, r.within, c.above-2.ensures.0, record { size = omega arith })
-
--- and over y - v
-second : (c : After-is_narrow-2)
-    → let a = c.args in
-    digit_rule a.p a.b a.k (above (ends_meaning a.v) (ends_meaning a.u)) (pos 0) ≡ c.is_narrow-2.result
-second c =
-    rule-within _ _ _ _ _ (power c.before.before.before.before.before.before) ∙ rw (← c.above-2.ensures.1) (sym (rw c.whole_of-zero.ensures at c.is_narrow-2.ensures))
-
-pub returns-then-not-is_narrow-2 : goal.returns-then-not-is_narrow-2
-unfolding made_meaning
-returns-then-not-is_narrow-2 c = rw (second (goal.at.returns-then-not-is_narrow-2 c).After-is_narrow-2, c.if-not-is_narrow-2.true, and-false)
-
-pub returns : goal.returns
-unfolding made_meaning
-returns c =
-    rw (second (goal.at.returns c).After-is_narrow-2, c.if-not-is_narrow-2.false, first (goal.at.returns c).After-is_narrow, c.if-not-is_narrow.false)
-    (ap (λ (e : Ends). makes (e ∷ [])) c.greater.ensures)
+pub returns-clause-yields : goal.returns-clause-yields
+returns-clause-yields c =
+    let r = c.in_ok-c.ensures.within in
+    rw (
+      kept r c.above.ensures.1 c.from-zero.ensures c.is_narrow.ensures,
+      c.if-not-is_narrow.false,
+      kept r c.above-else-not-is_narrow.ensures.1 c.from-zero.ensures c.is_narrow-else-not-is_narrow.ensures,
+      c.if-not-is_narrow-2.false,
+    )
+    (ap (λ (e : Ends). makes (e ∷ [])) c.greater.ensures.greater)

@@ -1,36 +1,23 @@
--- The coefficients before `i` are in the range: those that are left say what all say.
-use mathlib.Core.Path.{◌≡◌, sym, ◌∙◌}
-use mathlib.Core.Bool.{true}
-use lib.IntN.{pos}
-use lib.ListN.{get_or}
+-- The first number, and the first of each two after it.
+use mathlib.Core.Bool.{true, false}
+use mathlib.Core.Path.{◌≡◌}
+use borrow.Author.Rules.{rules}
+use borrow.Author.Tests.{tests}
+use Rattle.std.proofs.lemmas.Iterator.{cases_from_all}
 use Rattle.meaning.specs.Number.{in_range}
 use Rattle.meaning.specs.Refusal.{all}
-use Rattle.rules.proofs.SumLine.{all_end, all-next, all-fails}
+use Rattle.rules.proofs.Pairs.{yields-firsts, tested-all}
 use Rattle.rules.proofs.sum.coefficients_ranged.Goals as goal
-use Rattle.rules.proofs.sum.coefficients_ranged.Goals.{Else-not-is_ranged}
 
-pub returns-then-not-is_ranged : goal.returns-then-not-is_ranged
+pub returns-then-in_range : goal.returns-then-in_range
 unfolding all
-returns-then-not-is_ranged c = rw (← c.is_ranged.ensures, c.if-not-is_ranged.true)
+returns-then-in_range c =
+    let ranged = in_range c.args.known.p in
+    rw (← c.whole_at.ensures, ← c.in_range.ensures, c.if-in_range.true)
+    (tested-all ranged _ _ (cases_from_all _ _ _ (λ z. ranged z ≡ true) (λ z. ranged z ≡ false) c.all.ensures.ran
+    (yields-firsts c.args.numbers.now c.requires c.chunks_exact.ensures.rest c.chunks_exact.ensures.size)
+    (λ x q k. search (rules, tests)) (λ x q k. search (rules, tests))))
 
-first : (c : Else-not-is_ranged) → let a = c.args in in_range a.p (get_or a.numbers.now 0 (pos 0)) ≡ true
-first c = sym c.is_ranged.ensures ∙ c.if-not-is_ranged.false
-
-pub returns-then-not-is_ranged-2 : goal.returns-then-not-is_ranged-2
+pub returns-else-in_range : goal.returns-else-in_range
 unfolding all
-returns-then-not-is_ranged-2 c =
-    rw (first (goal.at.returns-then-not-is_ranged-2 c).Else-not-is_ranged) (sym (c.loop-i.invariant ∙ all-fails (in_range c.args.p) c.args.numbers.now
-    c.args.count c.loop-i.i c.requires.0 c.loop-i-test.true
-    (sym c.is_ranged-in-loop-i.ensures ∙ c.if-not-is_ranged-2.true)))
-
-pub loop-i-preserved : goal.loop-i-preserved
-loop-i-preserved c =
-    c.loop-i.invariant ∙ all-next (in_range c.args.p) c.args.numbers.now c.args.count c.loop-i.i
-    c.requires.0 c.loop-i-test.true
-    (sym c.is_ranged-in-loop-i.ensures ∙ c.if-not-is_ranged-2.false)
-
-pub returns : goal.returns
-unfolding all
-returns c =
-    rw (first (goal.at.returns c).Else-not-is_ranged) (sym (c.loop-i.invariant ∙ all_end (in_range c.args.p) c.args.numbers.now
-    c.args.count c.loop-i.i c.requires.0 c.loop-i-test.false))
+returns-else-in_range c = rw (← c.whole_at.ensures, ← c.in_range.ensures, c.if-in_range.false)

@@ -1,22 +1,17 @@
--- The names before `i` are made: those that are left say what all say.
-use mathlib.Core.Path.{sym, ◌∙◌}
+-- The second of each two numbers after the first.
+use mathlib.Core.Bool.{true, false}
+use mathlib.Core.Path.{◌≡◌}
+use borrow.Author.Rules.{rules}
+use borrow.Author.Tests.{tests}
+use lib.ListN.{length}
+use Rattle.std.proofs.lemmas.Iterator.{cases_from_all}
 use Rattle.meaning.specs.Refusal.{is_made}
-use Rattle.rules.proofs.SumLine.{all_end, all-next, all-fails}
+use Rattle.rules.proofs.Pairs.{yields-seconds, tested-all}
 use Rattle.rules.proofs.sum.names_made.Goals as goal
-
-pub returns-then-not-is_made : goal.returns-then-not-is_made
-returns-then-not-is_made c =
-    sym (c.loop-i.invariant ∙ all-fails (is_made c.args.values) c.args.numbers.now c.args.count c.loop-i.i
-    c.requires.0 c.loop-i-test.true
-    (sym c.is_made.ensures ∙ c.if-not-is_made.true))
-
-pub loop-i-preserved : goal.loop-i-preserved
-loop-i-preserved c =
-    c.loop-i.invariant ∙ all-next (is_made c.args.values) c.args.numbers.now c.args.count c.loop-i.i
-    c.requires.0 c.loop-i-test.true
-    (sym c.is_made.ensures ∙ c.if-not-is_made.false)
 
 pub returns : goal.returns
 returns c =
-    sym (c.loop-i.invariant ∙ all_end (is_made c.args.values) c.args.numbers.now c.args.count c.loop-i.i
-    c.requires.0 c.loop-i-test.false)
+    let made = is_made (length c.args.known.ends.now) in
+    tested-all made _ _ (cases_from_all _ _ _ (λ z. made z ≡ true) (λ z. made z ≡ false) c.all.ensures.ran
+    (yields-seconds c.args.numbers.now c.requires c.chunks_exact.ensures.rest c.chunks_exact.ensures.size)
+    (λ x q k. search (rules, tests)) (λ x q k. search (rules, tests)))

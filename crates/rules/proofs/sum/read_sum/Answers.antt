@@ -2,61 +2,48 @@
 use mathlib.Core.Path.{◌≡◌, sym, ◌∙◌}
 use mathlib.Core.Bool.{true}
 use mathlib.Core.List.{◌∷◌}
-use Prim.Native.Nat.{◌<◌}
-use native.Mathlib.Omega.{arith}
 use lib.IntN.{pos}
-use lib.ListN.{get_or, take, drop}
+use lib.ListN.{length, get_or, drop}
 use Rattle.meaning.specs.Word.{alternate}
 use Rattle.meaning.specs.Number.{in_range}
 use Rattle.meaning.specs.Refusal.{all, is_made}
-use Rattle.rules.specs.Yield.{made_meaning}
 use Rattle.rules.specs.Rule.{early_broken}
-use Rattle.rules.proofs.Rules.{early-named}
+use Rattle.rules.proofs.Rules.{early-named, passed-on}
 use Rattle.rules.proofs.SumLine.{all_first, sum-6, sum-early, sum-late}
 use Rattle.rules.proofs.sum.read_sum.Goals as goal
-use Rattle.rules.proofs.sum.read_sum.Goals.{After-early_broken-broken, Else-not-coefficients_ranged, Start}
+use Rattle.rules.proofs.sum.read_sum.Goals.{After-early_broken, Else-not-coefficients_ranged}
 
-some : (c : Start) → 0 < c.args.count
-some c = omega (arith, c.requires.3)
-
-pub returns-then-not-coefficients_ranged : goal.returns-then-not-coefficients_ranged
-unfolding made_meaning
-returns-then-not-coefficients_ranged c =
-    λ s meaning. sym (sum-6 c.requires.0 meaning c.args.numbers.now c.args.count (some (goal.at.returns-then-not-coefficients_ranged c).Start)
-    (sym c.coefficients_ranged.ensures ∙ c.if-not-coefficients_ranged.true))
+pub returns-then-not-coefficients_ranged-clause-yields : goal.returns-then-not-coefficients_ranged-clause-yields
+returns-then-not-coefficients_ranged-clause-yields c =
+    λ s meaning. sym (sum-6 meaning c.args.numbers.now (sym c.coefficients_ranged.ensures ∙ c.if-not-coefficients_ranged.true))
 
 ranged : (c : Else-not-coefficients_ranged)
     → let a = c.args in
-    all (in_range a.p) (get_or a.numbers.now 0 (pos 0) ∷ alternate (drop 1 (take a.count a.numbers.now))) ≡ true
+    all (in_range a.known.p) (get_or a.numbers.now 0 (pos 0) ∷ alternate (drop 1 a.numbers.now)) ≡ true
 ranged c = sym c.coefficients_ranged.ensures ∙ c.if-not-coefficients_ranged.false
 
-early : (c : After-early_broken-broken)
+early : (c : After-early_broken)
     → let a = c.args in
-    c.early_broken-broken.result ≡ early_broken (all (is_made a.values) (alternate (drop 2 (take a.count a.numbers.now)))) a.values 1
-    a.cells 1
-early c = rw (← c.names_made-named.ensures) c.early_broken-broken.ensures
+    c.early_broken.result ≡ early_broken (all (is_made (length a.known.ends.now)) (alternate (drop 2 a.numbers.now))) (length a.known.ends.now) 1 a.known.cells 1
+early c = rw (← c.names_made.ensures) c.early_broken.ensures
 
-pub returns-then-broken-ne0 : goal.returns-then-broken-ne0
-unfolding made_meaning
-returns-then-broken-ne0 c =
-    λ s meaning. sym (sum-early c.requires.0 meaning c.args.numbers.now c.args.count (some (goal.at.returns-then-broken-ne0 c).Start) (ranged (goal.at.returns-then-broken-ne0 c).Else-not-coefficients_ranged)
-    (early (goal.at.returns-then-broken-ne0 c).After-early_broken-broken) c.if-broken-ne0.true)
+pub returns-in_err-early_broken-clause-yields : goal.returns-in_err-early_broken-clause-yields
+returns-in_err-early_broken-clause-yields c =
+    let at = goal.at.returns-in_err-early_broken-clause-yields c in
+    λ s meaning. passed-on _ _ c.from_residual.ensures.1
+    ∙ sym (sum-early meaning c.args.numbers.now (ranged at.Else-not-coefficients_ranged) (early at.After-early_broken) c.in_err-early_broken.was)
 
 pub sum_ends-requires : goal.sum_ends-requires
 sum_ends-requires c =
-    let a = c.args in (
+    let at = goal.at.sum_ends-requires c in (
       c.requires.0,
       c.requires.1,
-      c.requires.2,
-      c.requires.3,
-      c.requires.4,
-      all_first (in_range a.p) (get_or a.numbers.now 0 (pos 0)) (alternate (drop 1 (take a.count a.numbers.now)))
-          (ranged (goal.at.sum_ends-requires c).Else-not-coefficients_ranged),
-      early-named _ _ _ _ _ (early (goal.at.sum_ends-requires c).After-early_broken-broken) c.if-broken-ne0.false,
+      all_first (in_range c.args.known.p) (get_or c.args.numbers.now 0 (pos 0)) (alternate (drop 1 c.args.numbers.now)) (ranged at.Else-not-coefficients_ranged),
+      early-named _ (length c.args.known.ends.now) 1 c.args.known.cells 1 (sym c.in_ok-early_broken.was ∙ early at.After-early_broken),
     )
 
-pub returns : goal.returns
-returns c =
-    λ s meaning. c.sum_ends.ensures
-    ∙ sym (sum-late c.requires.0 meaning c.args.numbers.now c.args.count (some (goal.at.returns c).Start) (ranged (goal.at.returns c).Else-not-coefficients_ranged)
-    (early (goal.at.returns c).After-early_broken-broken) c.if-broken-ne0.false)
+pub returns-clause-yields : goal.returns-clause-yields
+returns-clause-yields c =
+    let at = goal.at.returns-clause-yields c in
+    λ s meaning. c.sum_ends.ensures.yields
+    ∙ sym (sum-late meaning c.args.numbers.now (ranged at.Else-not-coefficients_ranged) (early at.After-early_broken) c.in_ok-early_broken.was)

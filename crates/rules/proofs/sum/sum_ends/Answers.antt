@@ -1,91 +1,58 @@
--- The terms before `i` are added: those that are left, with the ends so far, say what the whole sum says.
-use mathlib.Core.Path.{◌≡◌, refl, sym, ◌∙◌}
-use mathlib.Core.Bool.{true}
-use Prim.Native.Nat.{◌+◌, ◌<◌}
+-- The pairs before the iterator's are added: those that are left, with the ends so far, say what the whole sum says.
+use mathlib.Core.Path.{◌≡◌, sym, ◌∙◌}
 use native.Mathlib.Omega.{arith}
 use lib.IntN.{pos, nat_abs}
-use lib.ListN.{get_or, take, drop}
-use Rattle.meaning.specs.Word.{alternate}
-use Rattle.meaning.specs.Refusal.{all, is_made}
-use Rattle.meaning.specs.Gadget.Sum.{scaled, added, ends_in_range}
-use Rattle.rules.specs.Yield.{made_meaning, ends_meaning}
-use Rattle.rules.specs.Sum.{ends_at}
-use Rattle.rules.proofs.Values.{read-sized, ready-lows, ready-highs}
-use Rattle.rules.proofs.SumLine.{all_here, read_at, sum-end, sum-next, sum-leaves, range-sized}
+use lib.ListN.{length, get_or}
+use Rattle.rules.specs.Yield.{ends_meaning}
+use Rattle.rules.specs.Ready.{ends_at}
+use Rattle.meaning.specs.Gadget.Sum.{scaled, added}
+use Rattle.rules.proofs.Pairs.{whole}
+use Rattle.rules.proofs.SumLine.{sum-starts, summing-end, name-made, coefficient-small, sum-leaves, sum-goes, range-sized}
 use Rattle.rules.proofs.sum.sum_ends.Goals as goal
-use Rattle.rules.proofs.sum.sum_ends.Goals.{After-plus-so_far, In-loop-i}
+use Rattle.rules.proofs.sum.sum_ends.Goals.{After-plus-so_far, In-Some}
 
-pub loop-i-init : goal.loop-i-init
-unfolding ends_in_range
-loop-i-init c =
-    (refl, omega (arith, c.requires.3), rw (c.constant-so_far.ensures, c.requires.5), c.requires.6, rw c.constant-so_far.ensures)
+pub loop-term-init : goal.loop-term-init
+loop-term-init c =
+    rw (c.into_iter-term-iterator.ensures.into_iter_gives, c.chunks_exact-term-items.ensures.rest, c.constant-so_far.ensures, whole c.args.numbers.now c.requires.0)
+    (c.chunks_exact-term-items.ensures.size, sum-starts c.args.numbers.now c.requires.0 c.requires.1 c.requires.2 c.requires.3)
 
--- in a turn there is a pair left, as both `i` and the count are odd
-pair : (c : In-loop-i) → c.loop-i.i + 1 < c.args.count
-pair c = omega (arith, c.requires.3, c.loop-i.invariant.0, c.loop-i-test.true)
+-- the pair of this turn
+two : (c : In-Some) → length c.in-Some.term.now ≡ 2
+two c = c.in-Some.ensures.steps.1.1 ∙ c.loop-term.invariant.0
 
--- its name is made, and so are those after it
-made : (c : In-loop-i)
-    → let a = c.args in
-    let i = c.loop-i.i in
-    (is_made a.values (get_or a.numbers.now (i + 1) (pos 0)) ≡ true)
-    × (all (is_made a.values) (alternate (drop (i + 1 + 2) (take a.count a.numbers.now))) ≡ true)
-made c =
-    all_here (is_made c.args.values) c.args.numbers.now c.args.count (c.loop-i.i + 1) c.requires.1
-    (pair c) c.loop-i.invariant.3
-
-pub ends_named-value-requires : goal.ends_named-value-requires
-ends_named-value-requires c =
-    (omega (arith, pair c, c.requires.1), ready-lows c.requires.0, ready-highs c.requires.0, (made c).0)
+pub ends_of-value-requires : goal.ends_of-value-requires
+ends_of-value-requires c =
+    rw c.whole_at.ensures (name-made _ _ c.loop-term.invariant.1 c.in-Some.ensures.steps.1.0 (two (goal.at.ends_of-value-requires c).In-Some))
 
 pub scaled-requires : goal.scaled-requires
 scaled-requires c =
-    rw c.whole_at-c.ensures (
-      record { size = c.requires.4 c.loop-i.i c.loop-i-test.true },
-      read-sized c.requires.0
-          (made (goal.at.scaled-requires c).In-loop-i).0 c.ends_named-value.ensures,
-    )
-
-pub plus-so_far-requires : goal.plus-so_far-requires
-plus-so_far-requires c =
-    (range-sized c.args.p c.loop-i.so_far c.requires.0.p-high c.loop-i.invariant.2, c.scaled.ensures.0)
+    let sums = c.loop-term.invariant.1 in
+    rw c.whole_at-in-loop-term.ensures (record { size = coefficient-small _ _ sums c.in-Some.ensures.steps.1.0 (two (goal.at.scaled-requires c).In-Some) }, c.ends_of-value.ensures.sized)
 
 -- the ends after this term
 next : (c : After-plus-so_far)
-    → let at-loop = c in
-    let a = at-loop.args in
-    let i = at-loop.loop-i.i in
+    → let pair = c.in-Some.term.now in
     ends_meaning c.plus-so_far.result
-    ≡ added (ends_meaning at-loop.loop-i.so_far)
-    (scaled (get_or a.numbers.now i (pos 0)) (ends_at a.lows.now a.highs.now (nat_abs (get_or a.numbers.now (i + 1) (pos 0)))))
-next c =
-    c.plus-so_far.ensures ∙ rw (rw c.whole_at-c.ensures at c.scaled.ensures.1, read_at c.ends_named-value.ensures)
+    ≡ added (ends_meaning c.loop-term.so_far) (scaled (get_or pair 0 (pos 0)) (ends_at c.args.known.ends.now (nat_abs (get_or pair 1 (pos 0)))))
+next c = c.plus-so_far.ensures ∙ rw (c.scaled.ensures.scaled, c.whole_at-in-loop-term.ensures, c.ends_of-value.ensures.known, c.whole_at.ensures)
 
-pub returns-then-not-is_within : goal.returns-then-not-is_within
-unfolding made_meaning
-returns-then-not-is_within c =
-    let a = c.args in
-    sym (c.loop-i.invariant.4 ∙ sum-leaves a.p a.lows.now a.highs.now a.numbers.now (ends_meaning c.loop-i.so_far)
-    a.count c.loop-i.i c.requires.1 (pair (goal.at.returns-then-not-is_within c).In-loop-i)
-    (next (goal.at.returns-then-not-is_within c).After-plus-so_far) (sym c.is_within.ensures ∙ c.if-not-is_within.true))
+pub plus-so_far-requires : goal.plus-so_far-requires
+plus-so_far-requires c = (range-sized c.args.known.p c.loop-term.so_far c.args.known.ready.p-high c.loop-term.invariant.1.ranged, c.scaled.ensures.sized)
 
-pub loop-i-preserved : goal.loop-i-preserved
-loop-i-preserved c =
-    let a = c.args in
-    let within = sym c.is_within.ensures ∙ c.if-not-is_within.false in
-    let place : c.loop-i.i + 2 + 1 ≡ c.loop-i.i + 1 + 2 = omega arith in (
-      omega (arith, c.loop-i.invariant.0),
-      omega (arith, pair (goal.at.loop-i-preserved c).In-loop-i),
-      within,
-      rw place (made (goal.at.loop-i-preserved c).In-loop-i).1,
-      c.loop-i.invariant.4 ∙ sum-next a.p a.lows.now a.highs.now a.numbers.now (ends_meaning c.loop-i.so_far) a.count
-          c.loop-i.i c.requires.1 (pair (goal.at.loop-i-preserved c).In-loop-i)
-          (next (goal.at.loop-i-preserved c).After-plus-so_far) within,
+pub returns-then-not-is_within-clause-yields : goal.returns-then-not-is_within-clause-yields
+returns-then-not-is_within-clause-yields c =
+    let at = goal.at.returns-then-not-is_within-clause-yields c in
+    sum-leaves _ _ c.loop-term.invariant.1 c.in-Some.ensures.steps.1.0 (two at.In-Some) (next at.After-plus-so_far) (sym c.is_within.ensures ∙ c.if-not-is_within.true)
+
+pub loop-term-preserved : goal.loop-term-preserved
+loop-term-preserved c =
+    let at = goal.at.loop-term-preserved c in (
+      c.next.ensures.steps.0 ∙ c.loop-term.invariant.0,
+      sum-goes _ _ c.loop-term.invariant.1 c.in-Some.ensures.steps.1.0 (two at.In-Some) (next at.After-plus-so_far) (sym c.is_within.ensures ∙ c.if-not-is_within.false),
     )
 
-pub returns : goal.returns
-unfolding made_meaning
-returns c =
-    let a = c.args in
-    sym (c.loop-i.invariant.4 ∙ sum-end a.p a.lows.now a.highs.now a.numbers.now (ends_meaning c.loop-i.so_far)
-    a.count c.loop-i.i c.requires.1 c.loop-i-test.false)
+pub returns-clause-yields : goal.returns-clause-yields
+returns-clause-yields c = summing-end _ c.loop-term.invariant.1 (omega (arith, c.in-None.ensures.steps.1.0, c.loop-term.invariant.0))
+
+pub returns-clause-sized : goal.returns-clause-sized
+returns-clause-sized c = range-sized c.args.known.p c.loop-term.so_far c.args.known.ready.p-high c.loop-term.invariant.1.ranged

@@ -1,23 +1,10 @@
--- The terms before `i` are added: those that are left, with the ends so far, say what the whole sum says.
+-- The pairs before the iterator's are added: those that are left, with the ends so far, say what the whole sum says.
 use mathlib.Core.Path.{◌≡◌}
-use mathlib.Core.Bool.{true}
-use Prim.Native.Nat.{◌+◌, ◌-◌, ◌%◌, ◌≤◌}
-use lib.IntN.{pos}
-use lib.ListN.{get_or, take, drop}
-use Rattle.meaning.specs.Word.{alternate}
-use Rattle.meaning.specs.Known.{ends}
-use Rattle.meaning.specs.Refusal.{all, is_made}
-use Rattle.meaning.specs.Gadget.Sum.{terms_of, ends_in_range}
+use Rattle.std.specs.Slice.Iter.{chunks_exact_rest, chunks_exact_size}
 use Rattle.rules.specs.Yield.{ends_meaning}
-use Rattle.rules.specs.Sum.{sum_yield}
+use Rattle.rules.proofs.SumLine.{Summing}
 use Rattle.rules.proofs.sum.sum_ends.Given as goal
 
-abbrev pub invariant-loop-i : goal.invariant-loop-i
-invariant-loop-i l =
-    (l.i % 2 ≡ 1) × (l.i ≤ l.count) × (ends_in_range l.p (ends_meaning l.so_far) ≡ true)
-    × (all (is_made l.values) (alternate (drop (l.i + 1) (take l.count l.numbers))) ≡ true)
-    × (sum_yield l.p l.lows l.highs (ends (get_or l.numbers 0 (pos 0)) (get_or l.numbers 0 (pos 0))) (terms_of (drop 1 (take l.count l.numbers)))
-    ≡ sum_yield l.p l.lows l.highs (ends_meaning l.so_far) (terms_of (drop l.i (take l.count l.numbers))))
-
-abbrev pub decreases-loop-i : goal.decreases-loop-i
-decreases-loop-i l = l.count - l.i
+abbrev pub invariant-loop-term : goal.invariant-loop-term
+invariant-loop-term l =
+    (chunks_exact_size l.term-iterator ≡ 2) × Summing l.known.p l.known.ends.now l.numbers (ends_meaning l.so_far) (chunks_exact_rest l.term-iterator)

@@ -1,55 +1,39 @@
 -- The rules up to 9 are those of a line with digits, and the rest is `which_ends`.
 use mathlib.Core.Path.{◌≡◌, sym, ◌∙◌}
 use mathlib.Core.Bool.{true}
-use native.Mathlib.Omega.{arith}
 use lib.IntN.{pos}
-use lib.ListN.{get_or}
+use lib.ListN.{length, get_or}
+use Rattle.std.specs.Prelude.{Ok}
 use Rattle.meaning.specs.Refusal.{is_made}
+use Rattle.rules.specs.declared.base.Digits.{Digits}
 use Rattle.meaning.specs.Gadget.Which.{which_line}
-use Rattle.rules.specs.Yield.{made_meaning}
 use Rattle.rules.proofs.Tests.{both_true}
-use Rattle.rules.proofs.Values.{read-sized, ready-field, ready-lows, ready-highs, ends-known}
-use Rattle.rules.proofs.Rules.{late}
-use Rattle.rules.proofs.DigitLines.{BegunBy, Begins, which_layout, which-shape, begins, digits-stop, digits-late}
+use Rattle.rules.proofs.Values.{known-ends}
+use Rattle.rules.proofs.Rules.{late, passed-on}
+use Rattle.rules.proofs.DigitLines.{BegunBy, which_layout, which-shape, begins, digits-stop, digits-late}
 use Rattle.rules.proofs.which.read_which.Goals as goal
-use Rattle.rules.proofs.which.read_which.Goals.{After-begin_line-begun, In-Digits}
+use Rattle.rules.proofs.which.read_which.Goals.{After-begin_line}
 
-yield-begun : (c : After-begin_line-begun) → let a = c.args in BegunBy which_layout a.p a.values a.cells a.numbers.now c.begin_line-begun.result
-yield-begun c = record { answer = rw (← c.are_made-named.ensures) c.begin_line-begun.ensures }
+yield-begun : (c : After-begin_line) → let k = c.args.known in BegunBy which_layout k.p k.cells k.ends.now c.args.numbers.now c.begin_line.result
+yield-begun c = record { answer = rw (c.names_both-named.ensures, c.whole_at-u.ensures, c.whole_at-v.ensures) at c.begin_line.ensures }
 
-well : (c : In-Digits)
-    → let a = c.args in Begins which_layout a.values a.numbers.now c.in-Digits.b c.in-Digits.k
-well c = begins (yield-begun c.before) c.in-Digits.is
+made : (c : After-begin_line) {d : Digits} → c.begin_line.result ≡ Ok d
+    → let values = length c.args.known.ends.now in
+    (is_made values (get_or c.args.numbers.now 0 (pos 0)) ≡ true) × (is_made values (get_or c.args.numbers.now 1 (pos 0)) ≡ true)
+made c is = both_true _ _ (begins (yield-begun c) is).are-made
 
-made : (c : In-Digits)
-    → let a = c.args in
-    (is_made a.values (get_or a.numbers.now 0 (pos 0)) ≡ true) × (is_made a.values (get_or a.numbers.now 1 (pos 0)) ≡ true)
-made c = both_true _ _ (well c).are-made
+pub ends_of-requires : goal.ends_of-requires
+ends_of-requires c = rw c.whole_at-u.ensures (made (goal.at.ends_of-requires c).After-begin_line c.in_ok-digits.was).0
 
-pub ends_named-u-requires : goal.ends_named-u-requires
-ends_named-u-requires c =
-    (omega (arith, c.requires.1), ready-lows c.requires.0, ready-highs c.requires.0, (made c).0)
+pub ends_of-requires-2 : goal.ends_of-requires-2
+ends_of-requires-2 c = rw c.whole_at-v.ensures (made (goal.at.ends_of-requires-2 c).After-begin_line c.in_ok-digits.was).1
 
-pub ends_named-v-requires : goal.ends_named-v-requires
-ends_named-v-requires c =
-    (omega (arith, c.requires.1), ready-lows c.requires.0, ready-highs c.requires.0, (made (goal.at.ends_named-v-requires c).In-Digits).1)
+pub returns-in_err-digits-clause-yields : goal.returns-in_err-digits-clause-yields
+returns-in_err-digits-clause-yields c = λ s meaning.
+    passed-on _ _ c.from_residual.ensures.1 ∙ digits-stop (yield-begun (goal.at.returns-in_err-digits-clause-yields c).After-begin_line) which-shape meaning c.in_err-digits.was
 
-pub which_ends-requires : goal.which_ends-requires
-which_ends-requires c =
-    let ready = c.requires.0 in
-    let w = well (goal.at.which_ends-requires c).In-Digits in
-    let m = made (goal.at.which_ends-requires c).In-Digits in
-    (ready-field ready, w.base-one, w.count-one, read-sized ready m.0 c.ends_named-u.ensures, read-sized ready m.1 c.ends_named-v.ensures)
-
-pub returns-in-Stops : goal.returns-in-Stops
-unfolding made_meaning
-returns-in-Stops c =
-    λ s meaning. digits-stop (yield-begun (goal.at.returns-in-Stops c).After-begin_line-begun) which-shape c.requires.0 meaning c.in-Stops.is
-
-pub returns-in-Digits : goal.returns-in-Digits
+pub returns-clause-yields : goal.returns-clause-yields
 unfolding late which_line
-returns-in-Digits c =
-    let ready = c.requires.0 in
-    let m = made (goal.at.returns-in-Digits c).In-Digits in
-    λ s meaning. c.which_ends.ensures ∙ sym (digits-late (yield-begun (goal.at.returns-in-Digits c).After-begin_line-begun) which-shape ready meaning c.in-Digits.is
-    ∙ rw (ends-known ready meaning m.0 c.ends_named-u.ensures, ends-known ready meaning m.1 c.ends_named-v.ensures, meaning.prime))
+returns-clause-yields c = λ s meaning.
+    c.which_ends.ensures.yields ∙ sym (digits-late (yield-begun (goal.at.returns-clause-yields c).After-begin_line) which-shape meaning c.in_ok-digits.was
+    ∙ rw (known-ends meaning, known-ends meaning, ← c.whole_at-u.ensures, ← c.whole_at-v.ensures, ← c.ends_of.ensures.known, ← c.ends_of-2.ensures.known, meaning.prime))

@@ -2,7 +2,7 @@
 use mathlib.Core.Path.{refl}
 use Prim.Native.Nat.{◌+◌, ◌<◌}
 use Rattle.meaning.specs.Machine.{past_u64}
-use Rattle.service.specs.Reply.{reply_meaning}
+use Rattle.meaning.proofs.Law.{below_at}
 use Rattle.service.proofs.Standing.{keeps-rules}
 use Rattle.service.proofs.Places.{placed-next}
 use Rattle.service.proofs.Checked.{checking-first, checking-end, checking-fails, checking-next, row_inside, row_fits, at-line, rows-given}
@@ -20,24 +20,23 @@ line_rows-rows-requires c =
     let took = c.take_line-line.ensures.yields (at-line w inside) in
     rows-given w inside took
 
-pub overflow_add-result : goal.overflow_add-result
-overflow_add-result c =
+pub overflow_add-counts : goal.overflow_add-counts
+overflow_add-counts c =
     let w = c.loop-at.invariant in
     let inside = c.loop-at-test.true in
     let took = c.take_line-line.ensures.yields (at-line w inside) in
     let yields = c.line_rows-rows.ensures (rows-given w inside took) in
-    let row = row_inside w _ _ took.left_is _ yields _ c.in-Fails.is in
-    let small : c.loop-at.counts.rows + c.in-Fails.row < past_u64 = row_fits w _ (keeps-rules took) row in
+    let row = row_inside w _ _ took.left_is _ yields _ c.in-Err.is in
+    let small : c.loop-at.counts.rows + c.in-Err.row < past_u64 = row_fits w _ (keeps-rules took) row in
     search (rules, small)
 
-pub returns-in-Fails : goal.returns-in-Fails
-unfolding reply_meaning
-returns-in-Fails c =
+pub returns-in-Err : goal.returns-in-Err
+returns-in-Err c =
     let w = c.loop-at.invariant in
     let inside = c.loop-at-test.true in
     let took = c.take_line-line.ensures.yields (at-line w inside) in
     let yields = c.line_rows-rows.ensures (rows-given w inside took) in
-    checking-fails w _ _ took.left_is _ yields _ c.in-Fails.is
+    λ m. rw (c.at.ensures.refusal, c.at.ensures.place) (checking-fails w _ _ took.left_is _ yields _ c.in-Err.is m)
 
 pub take_place-requires : goal.take_place-requires
 take_place-requires c =
@@ -57,5 +56,7 @@ loop-at-preserved c =
     checking-next w _ _ took.left_is _ yields c.in_default.is _ _ took.next took.long (rw c.take_place.ensures placed)
 
 pub returns : goal.returns
-unfolding reply_meaning
 returns c = checking-end c.loop-at.invariant c.loop-at-test.false
+
+pub invariant_of-remainders : goal.invariant_of-remainders
+invariant_of-remainders c = record { remainders = λ i h. below_at c.args.p c.args.table.now i c.requires.below h }

@@ -1,14 +1,11 @@
 -- `service::walk::counts_after`: what is known before the line, and how much the line adds.
 use native.Mathlib.Omega.{arith}
-use Rattle.reader.specs.Size.{counted, added}
 use Rattle.service.proofs.Standing.{counted-after}
 use Rattle.service.proofs.walk.counts_after.Goals as goal
 
 pub returns-clause-yields : goal.returns-clause-yields
-unfolding counted added
 returns-clause-yields c =
-    rw c.counts_with.ensures (λ n count s is keeps was. counted-after n s _ _ _ keeps was (c.line_size.ensures.yields n count s is keeps))
+    rw c.counts_with.ensures (λ n s is keeps was. counted-after n s _ _ _ keeps was (c.line_size.ensures.yields n s is keeps))
 
 pub returns-clause-more : goal.returns-clause-more
-unfolding counted added
 returns-clause-more c = rw c.counts_with.ensures (omega arith, omega (arith, c.line_size.ensures.small.0))

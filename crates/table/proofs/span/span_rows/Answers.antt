@@ -2,29 +2,24 @@
 use Rattle.meaning.specs.Row.{cell, constant}
 use Rattle.meaning.specs.Gadget.Span.{span_line}
 use Rattle.groups.specs.Rows.{Leaves}
-use Rattle.groups.proofs.RowsForm.{leaves-read, leaves-whole, leaves-⊖, leaves-number}
+use Rattle.groups.proofs.RowsForm.{leaves-whole, leaves-⊖, leaves-number}
 use Rattle.table.proofs.span.span_rows.Goals as goal
-use Rattle.table.proofs.span.span_rows.Goals.{After-remainder_of-lowest, After-residue_at}
+use Rattle.table.proofs.span.span_rows.Goals.{After-remainder_of-lowest}
 
--- the shift, and the value
+-- the shift
 lowest-is : (c : After-remainder_of-lowest) → let a = c.args in
-    Leaves a.p a.table.now c.remainder_of-lowest.result.0 (constant a.shift.0)
+    Leaves a.table.p a.table.cells.now c.remainder_of-lowest.result.0 (constant a.shift.0)
 lowest-is c =
-    leaves-whole c.args.p c.args.table.now c.args.shift.0 c.requires.0 c.remainder_of-lowest.ensures
-
-value-is : (c : After-residue_at) → let a = c.args in
-    Leaves a.p a.table.now c.residue_at.result.0 (cell a.place.0)
-value-is c =
     let a = c.args in
-    leaves-read a.p a.table.now a.place.0 c.requires.1 c.requires.2 c.residue_at.ensures
+    leaves-whole a.table.p a.table.cells.now a.shift.0 c.requires.0 c.remainder_of-lowest.ensures
 
 pub difference-number-requires : goal.difference-number-requires
-difference-number-requires c = ((value-is c).below, (lowest-is (goal.at.difference-number-requires c).After-remainder_of-lowest).below)
+difference-number-requires c = (c.at.ensures.below, (lowest-is (goal.at.difference-number-requires c).After-remainder_of-lowest).below)
 
 pub returns : goal.returns
 unfolding span_line
 returns c s v p-is place_is cells_is =
     let a = c.args in
     let X = cell a.place.0 in
-    let number = leaves-⊖ (value-is (goal.at.returns c).After-residue_at) (lowest-is (goal.at.returns c).After-remainder_of-lowest) c.difference-number.ensures in
-    rw (place_is, cells_is) (c.group_rows.ensures a.p X a.shift.0 c.requires.5 (leaves-number X a.shift.0 number))
+    let number = leaves-⊖ c.at.ensures (lowest-is (goal.at.returns c).After-remainder_of-lowest) c.difference-number.ensures in
+    rw (place_is, cells_is) (c.group_rows.ensures a.table.p X a.shift.0 c.requires.3 (leaves-number X a.shift.0 number))

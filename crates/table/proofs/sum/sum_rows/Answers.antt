@@ -1,64 +1,62 @@
--- `table::sum::sum_rows`: the terms before the one of number i are in the total.
-use mathlib.Core.Path.{◌≡◌, refl}
-use Prim.Native.Nat.{◌+◌, ◌<◌}
+-- `table::sum::sum_rows`: the terms before the pairs that are left are in the total.
+use mathlib.Core.Path.{◌≡◌, ◌∙◌}
+use Prim.Native.Nat.{◌<◌}
 use native.Mathlib.Omega.{arith}
-use lib.IntN.{pos}
+use lib.IntN.{pos, nat_abs}
 use lib.ListN.{get_or, length}
+use lib.Signed.{◌≤ℤ◌}
 use Rattle.meaning.specs.Number.{remainder}
 use Rattle.algebra.proofs.Congruence.{remainder-below}
-use Rattle.groups.specs.Rows.{rows_meaning}
-use Rattle.groups.proofs.RowsForm.{leaves-read}
-use Rattle.table.proofs.RowsSum.{sum-start, sum-next, sum-end, Names, pair-names}
+use Rattle.table.proofs.LineSum.{left-after-first, first-named, rest-named}
+use Rattle.table.proofs.RowsSum.{sum-start, sum-next, sum-end}
 use Rattle.table.proofs.sum.sum_rows.Goals as goal
-use Rattle.table.proofs.sum.sum_rows.Goals.{In-loop-i}
+use Rattle.table.proofs.sum.sum_rows.Goals.{In-Some}
 
-pub loop-i-init : goal.loop-i-init
-loop-i-init c =
+pub loop-term-init : goal.loop-term-init
+loop-term-init c =
     let a = c.args in
-    let c0 = get_or a.numbers.now 0 (pos 0) in
-    let e : c.remainder_of-total.result.0 ≡ remainder a.p c0 = rw c.whole_at.ensures at c.remainder_of-total.ensures in (
-      omega arith,
-      refl,
-      rw e (remainder-below a.p c0 c.requires.0),
-      sum-start a.p a.table.now a.numbers.now a.count a.places.now _ c.requires.0 (omega arith) e,
+    let total : c.remainder_of-total.result.0 ≡ remainder a.table.p (get_or a.numbers.now 0 (pos 0)) = rw c.whole_at.ensures at c.remainder_of-total.ensures in
+    let pairs = c.chunks_exact-term-items.ensures.rest ∙ left-after-first a.numbers.now (omega (arith, c.requires.2)) in
+    rw c.into_iter-term-iterator.ensures.into_iter_gives (
+      c.chunks_exact-term-items.ensures.size,
+      rw total (remainder-below a.table.p _ c.requires.0),
+      rw pairs c.requires.3.named,
+      sum-start a.table.p a.table.cells.now a.numbers.now a.places.now c.requires.0 pairs total,
     )
 
--- a pair is left, and the value that it names
-more : (c : In-loop-i) → c.loop-i.i + 1 < c.args.count
-more c =
-    omega (arith, c.loop-i-test.true, c.loop-i.invariant.1, c.requires.3)
+-- the pair has two numbers, and names a value that has a place
+two : (c : In-Some) → length c.in-Some.term.now ≡ 2
+two c = c.in-Some.ensures.steps.1.1 ∙ c.loop-term.invariant.0
 
-names : (c : In-loop-i) → let a = c.args in
-    Names a.places.now (length a.table.now) (get_or a.numbers.now (c.loop-i.i + 1) (pos 0))
-names c =
-    let a = c.args in
-    pair-names a.numbers.now a.count a.places.now (length a.table.now) c.loop-i.i c.requires.5
-    (more c) c.loop-i.invariant.1
+named : (c : In-Some) → (pos 0 ≤ℤ get_or c.in-Some.term.now 1 (pos 0)) × (nat_abs (get_or c.in-Some.term.now 1 (pos 0)) < length c.args.places.now)
+named c = first-named _ _ _ c.in-Some.ensures.steps.1.0 (two c) (length c.args.places.now) c.loop-term.invariant.2
 
-pub loop-i-preserved : goal.loop-i-preserved
-loop-i-preserved c =
+pub place_at-place-requires : goal.place_at-place-requires
+place_at-place-requires c =
+    let name = named (goal.at.place_at-place-requires c).In-Some in
+    record {
+      inside = omega (arith, two (goal.at.place_at-place-requires c).In-Some);
+      natural = name.0;
+      below = name.1;
+    }
+
+pub at-requires : goal.at-requires
+at-requires c = rw c.place_at-place.ensures (c.requires.3.inside _ (named (goal.at.at-requires c).In-Some).1)
+
+pub loop-term-preserved : goal.loop-term-preserved
+loop-term-preserved c =
     let a = c.args in
-    let i = c.loop-i.i in
-    let h = more (goal.at.loop-i-preserved c).In-loop-i in
-    let place = c.place_at-place.result.0 in
-    let inside : place < length a.table.now =
-    rw c.place_at-place.ensures (names (goal.at.loop-i-preserved c).In-loop-i).inside in (
-      omega (arith, h),
-      omega (arith, c.loop-i.invariant.1),
+    let now = (goal.at.loop-term-preserved c).In-Some in
+    let steps = c.in-Some.ensures.steps in (
+      steps.0 ∙ c.loop-term.invariant.0,
       c.sum-total.ensures.0,
-      sum-next a.p a.table.now a.numbers.now a.count a.places.now {place = place} i c.requires.0
-          c.requires.4 c.loop-i.invariant.3 h c.loop-i.invariant.1
-          (rw c.whole_at-in-loop-i.ensures at c.remainder_of-factor.ensures)
-          c.place_at-place.ensures
-          (leaves-read a.p a.table.now place c.requires.1 inside c.residue_at.ensures)
-          c.product-part.ensures c.sum-total.ensures,
+      rest-named _ _ _ steps.1.0 (two now) (length a.places.now) c.loop-term.invariant.2,
+      sum-next a.table.p a.table.cells.now a.numbers.now a.places.now _ _ _ steps.1.0 (two now) c.requires.0 c.loop-term.invariant.3
+          (rw c.whole_at-in-loop-term.ensures at c.remainder_of-factor.ensures) c.place_at-place.ensures c.at.ensures c.product-part.ensures c.sum-total.ensures,
     )
 
 pub returns : goal.returns
-unfolding rows_meaning
-returns c s n p-is cells_is known named =
+returns c s p-is cells_is known =
     let a = c.args in
-    let made = leaves-read a.p a.table.now a.at.0 c.requires.1 c.requires.2 c.residue_at-made.ensures in
-    sum-end a.p a.table.now a.numbers.now a.count a.places.now c.loop-i.i a.at.0 c.requires.4
-    c.loop-i.invariant.3 (omega (arith, c.loop-i-test.false, c.loop-i.invariant.0)) made
-    (rw c.is_same.ensures at c.row_before.ensures) s n cells_is known named
+    sum-end a.table.p a.table.cells.now a.numbers.now a.places.now _ _ a.at.0 c.loop-term.invariant.3 c.loop-term.invariant.0 c.in-None.ensures.steps.1.0
+    c.at-made.ensures (rw c.eq.ensures at c.row_before.ensures) s cells_is known

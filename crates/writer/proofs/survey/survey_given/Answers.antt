@@ -1,66 +1,84 @@
--- The walk over the lines, with where it stands before each of them as the invariant. A line that is none is refused 3, and one that is taken does what
+-- The walk over the lines, with where it stands before each of them as the invariant. A line that is none is refused 3, and one that is read does what
 -- the reader's steps say.
-use mathlib.Core.Path.{◌≡◌, sym, ap, ◌∙◌}
-use Prim.Native.Nat.{suc, ◌+◌, ◌≤◌}
+use mathlib.Core.Path.{◌≡◌, ap}
+use mathlib.Core.Logic.{inl}
+use mathlib.Core.List.{List}
+use Prim.Native.Nat.{◌+◌}
 use native.Mathlib.Omega.{arith}
 use lib.ListN.{length}
-use Rattle.meaning.specs.Write.{text_of, lines_given}
-use Rattle.given_lines.specs.Line.{most_line}
-use Rattle.given_lines.specs.Given.{left_at}
-use Rattle.writer.specs.Survey.{FoundYield}
+use Rattle.meaning.specs.Write.{Given, text_of}
+use Rattle.given_lines.specs.Given.{lines_of, lines_left}
 use Rattle.given_lines.proofs.Texts.{no_lines}
-use Rattle.writer.proofs.Surveying.{found_line, line-count, none-taken, taken_is, taken-bytes, taken-parsed, bytes-here, standing-ready, standing-end, standing-none, standing-stopped, standing-next}
+use Rattle.writer.proofs.Surveying.{length-lines_given, some-given, read-parsed, bytes-here, walked_start, standing-ready, standing-end, standing-none, standing-stopped, standing-next}
 use Rattle.writer.proofs.survey.survey_given.Goals as goal
-use Rattle.writer.proofs.survey.survey_given.Goals.{In-Line}
+use Rattle.writer.proofs.survey.survey_given.Goals.{After-into_iter-n-iterator, In-Some-line_given}
+
+abbrev all : After-into_iter-n-iterator → List Given
+all c = lines_of c.args.given
+
+-- at the start all lines are left
+lines-first : (c : After-into_iter-n-iterator) → lines_left c.into_iter-n-iterator.result.iter ≡ all c
+lines-first c = rw (c.into_iter-n-iterator.ensures.into_iter_gives, c.enumerate-n-items.ensures.source) c.lines.ensures
+
+none-counted : (c : After-into_iter-n-iterator) → c.into_iter-n-iterator.result.count ≡ 0
+none-counted c = rw c.into_iter-n-iterator.ensures.into_iter_gives c.enumerate-n-items.ensures.count
+
+count-given : (c : After-into_iter-n-iterator) → length (all c) ≡ length c.args.given.words.now
+count-given c = length-lines_given c.args.given.words.now c.args.given.counts.now c.args.given.numbers.now
+
+pub loop-n-init-derived : goal.loop-n-init-derived
+loop-n-init-derived c = ((tt, tt, inl (rw (none-counted c, lines-first c, count-given c) (omega arith))), tt)
+
+pub loop-n-init : goal.loop-n-init
+loop-n-init c = rw (lines-first c, none-counted c) (walked_start (all c) c.over-state.ensures.counts c.over-state.ensures.long)
 
 pub returns-in_default : goal.returns-in_default
-unfolding FoundYield
 returns-in_default c =
-    let found = c.line_at-line.ensures in
-    standing-none found c.loop-n.invariant.stands (none-taken c.line_given.ensures (line-count found) c.in_default.is)
+    let (is, number, next, _) = c.in-Some.ensures.steps in
+    rw (c.at.ensures.refusal, c.at.ensures.place, number) (standing-none is c.loop-n.invariant.stands c.in_default.ensures)
 
--- a line that was taken goes into the walk, and its bytes into the total
-size_is : (c : In-Line) → (c.in-Line.size ≡ suc (length (found_line c.args.numbers.now c.line_at-line.result))) × (c.in-Line.size ≤ most_line)
-size_is c = taken-bytes c.line_given.ensures (line-count c.line_at-line.ensures) c.in-Line.is
+pub advance-requires : goal.advance-requires
+advance-requires c =
+    let (is, number, next, _) = c.in-Some.ensures.steps in
+    (read-parsed c.in-Some-line_given.ensures, rw number (standing-ready c.loop-n.invariant.stands))
 
-bytes-are : (c : In-Line) → length (text_of (lines_given c.args.words.now c.args.counts.now c.args.numbers.now))
-    ≡ c.loop-n.total + c.in-Line.size + length (text_of (left_at c.args.words.now c.args.counts.now c.args.numbers.now (c.loop-n.n + 1) c.line_at-line.result.end))
-bytes-are c = omega (arith, c.loop-n.invariant.bytes, bytes-here c.line_at-line.ensures (size_is c).0)
+pub returns-in-Err : goal.returns-in-Err
+returns-in-Err c =
+    let (is, number, next, _) = c.in-Some.ensures.steps in
+    let answer = c.advance.ensures in
+    rw (c.at-in-Err.ensures.refusal, c.at-in-Err.ensures.place, number)
+    (standing-stopped is c.in-Some-line_given.ensures.is (rw number at answer.first) (rw number at answer.later) c.loop-n.invariant.stands c.in-Err.is)
 
-pub advance-advanced-requires : goal.advance-advanced-requires
-advance-advanced-requires c =
-    (taken-parsed c.line_given.ensures (line-count c.line_at-line.ensures) c.in-Line.is, standing-ready c.loop-n.invariant.stands)
-
-pub returns-in-Refused : goal.returns-in-Refused
-unfolding FoundYield
-returns-in-Refused c =
-    let found = c.line_at-line.ensures in
-    standing-stopped found (taken_is c.line_given.ensures (line-count found) c.in-Line.is) c.advance-advanced.ensures.first c.advance-advanced.ensures.later
-    c.loop-n.invariant.stands c.in-Refused.is
+-- the bytes of a line that is read, and those of the lines after it
+bytes-are : (c : In-Some-line_given) → length (text_of (lines_of c.args.given))
+    ≡ c.loop-n.total + c.in-Some-line_given.read.size + length (text_of (lines_left c.next.new.self.iter))
+bytes-are c = omega (arith, c.loop-n.invariant.bytes, bytes-here c.in-Some.ensures.steps.0 c.in-Some-line_given.ensures.sized)
 
 pub overflow_add-total : goal.overflow_add-total
-overflow_add-total c = omega (arith, c.loop-n.invariant.few, (size_is (goal.at.overflow_add-total c).In-Line).1)
+overflow_add-total c = omega (arith, c.loop-n.invariant.few, c.in-Some-line_given.ensures.short)
+
+pub returns-then-total-gt-TEXT_LIMIT : goal.returns-then-total-gt-TEXT_LIMIT
+returns-then-total-gt-TEXT_LIMIT c =
+    let bytes = bytes-are (goal.at.returns-then-total-gt-TEXT_LIMIT c).In-Some-line_given in
+    λ h. absurd (omega (arith, c.if-total-gt-TEXT_LIMIT.true))
 
 pub loop-n-preserved : goal.loop-n-preserved
 loop-n-preserved c =
-    let taken = c.line_given.ensures in
-    let found = c.line_at-line.ensures in
-    let answer = c.advance-advanced.ensures in
+    let (is, number, next, _) = c.in-Some.ensures.steps in
+    let answer = c.advance.ensures in
     record {
-      inside = found.inside;
-      taken-long = taken.long;
       few = omega arith;
-      bytes = bytes-are (goal.at.loop-n-preserved c).In-Line;
+      bytes = bytes-are (goal.at.loop-n-preserved c).In-Some-line_given;
       stands =
-          standing-next found (taken_is taken (line-count found) c.in-Line.is) answer.first answer.later c.loop-n.invariant.stands c.in-Next.is taken.long;
+          rw next
+          (standing-next is c.in-Some-line_given.ensures.is (rw number at answer.first) (rw number at answer.later) c.loop-n.invariant.stands c.in_default-advance.is);
     }
 
 pub returns : goal.returns
-unfolding FoundYield
 returns c =
-    let loop = c.loop-n in
-    let none = no_lines c.args.words.now c.args.counts.now c.args.numbers.now loop.n loop.at c.loop-n-test.false in (
-      sym (loop.invariant.bytes ∙ omega (arith, ap length none)),
-      loop.invariant.few,
-      standing-end loop.invariant.stands c.requires c.loop-n-test.false (omega (arith, loop.invariant.bytes, loop.invariant.few, ap length none)),
+    let w = c.loop-n.invariant in
+    let over = c.in-None.ensures.steps.0.0 in (
+      omega (arith, w.bytes, ap length (no_lines over)),
+      w.few,
+      standing-end w.stands (some-given c.args.given c.requires) over (omega (arith, w.bytes, w.few, ap length (no_lines over))),
     )

@@ -1,11 +1,7 @@
 -- The walk over the lines, with where it stands before each of them as the invariant.
-use Prim.Native.Nat.{◌-◌}
-use lib.ListN.{length}
+use Rattle.given_lines.specs.Given.{lines_of, lines_left}
 use Rattle.writer.proofs.Surveying.{WalkedGiven}
 use Rattle.writer.proofs.survey.survey_given.Given as goal
 
 abbrev pub invariant-loop-n : goal.invariant-loop-n
-invariant-loop-n l = WalkedGiven l.words l.counts l.numbers l.p l.taken l.lows l.highs l.known l.total l.at l.n
-
-abbrev pub decreases-loop-n : goal.decreases-loop-n
-decreases-loop-n l = length l.words - l.n
+invariant-loop-n l = WalkedGiven (lines_of l.fn.given) (lines_left l.n-iterator.iter) l.state l.total l.n-iterator.count

@@ -1,0 +1,126 @@
+// What is known before a line, and the rules that several kinds of lines have in common, each proved equal to its definition.
+ghost use Rattle.rules.specs.Ready.{Ready};
+
+use super::base::Digits;
+use super::ends::Ends;
+use number::power::capped_power;
+use number::whole::{Whole, is_below, negated, size_of, whole_difference, whole_sum, wide_whole};
+use refusal::Refusal;
+
+// As far as the rules for a line ask: p, how many cells the lines before it have, and the ends of their values.
+#[derive(Clone, Copy)]
+pub struct Known<'a> {
+    pub p: u32,
+    pub cells: usize,
+    pub ends: &'a [Ends],
+    pub ghost ready: { Ready p cells ends.now },
+}
+
+impl Known<'_> {
+    ghost use Rattle.std.specs.Prelude.{◌≡◌, true, ◌&&◌, ◌+◌, ◌*◌, ◌≤◌, ◌<◌, length, get_or, pos, nat_abs};
+    ghost use Rattle.meaning.specs.Known.{digit_rule};
+    ghost use Rattle.meaning.specs.Refusal.{is_made, cell_limit};
+    ghost use Rattle.meaning.specs.Gadget.Sign.{sign_shift};
+    ghost use Rattle.number.specs.Bounded.{Bounded};
+    ghost use Rattle.rules.specs.Yield.{ends_meaning};
+    ghost use Rattle.rules.specs.Rule.{early_broken, begun_meaning, begun, narrow};
+    ghost use Rattle.rules.specs.Ready.{BoundedEnds, greatest_apart, greatest, ends_at};
+
+    // Whether a number names one of the values that are made. FORMAT 3.3, 10.7
+    #[tactic(auto, unfolding(meaning::specs::Refusal::is_made))]
+    pub fn names(self, name: Whole) -> bool
+        ensures { result ≡ is_made (length self.entry.ends.now) name.0 }
+    {
+        is_below(name, self.ends.len())
+    }
+
+    // The same of two numbers.
+    pub fn names_both(self, u: Whole, v: Whole) -> bool
+        ensures { result ≡ is_made (length self.entry.ends.now) u.0 && is_made (length self.entry.ends.now) v.0 }
+    {
+        self.names(u) && self.names(v)
+    }
+
+    // The ends of the value that a number names.
+    pub fn ends_of(self, name: Whole) -> Ends
+        requires { is_made (length self.ends.now) name.0 ≡ true }
+        ensures sized { BoundedEnds greatest result }
+        ensures known { ends_meaning result ≡ ends_at self.entry.ends.now (nat_abs name.0) }
+    {
+        self.ends[size_of(name)]
+    }
+
+    // The first that is broken of the rules 7 (the names are made), 8 (room for the new values) and 9 (room for the cells).
+    // FORMAT 10.7, 10.8, 10.9
+    pub fn early_broken(self, named: bool, new: usize, width: usize) -> Result<(), Refusal>
+        requires { (new ≤ 1) × (width ≤ cell_limit) }
+        ensures { result ≡ early_broken named (length self.entry.ends.now) new self.entry.cells width }
+    {
+        if !named {
+            return Err(Refusal::NameNotMade);
+        }
+        if 256 < self.ends.len() + new {
+            return Err(Refusal::TooManyValues);
+        }
+        if 4096 < self.cells + width {
+            return Err(Refusal::TooManyCells);
+        }
+        Ok(())
+    }
+
+    // The base and the digit count of a line that keeps the rules 6 to 9, or the first of them that it breaks. The base stands at a place and
+    // the digit count k after it. `ranged` is what else rule 6 asks of the line, and `named` what rule 7 asks; the line makes `new` values and
+    // has `each` · k + `more` cells.
+    pub fn begin_line(
+        self,
+        numbers: &[i64],
+        at: usize,
+        ranged: bool,
+        named: bool,
+        new: usize,
+        each: usize,
+        more: usize,
+    ) -> Result<Digits, Refusal>
+        requires { (at + 1 < length numbers.now) × (new ≤ 1) × (each ≤ 4) × (more ≤ 3) }
+        ensures { begun_meaning result ≡ begun (get_or numbers.now at (pos 0)) (get_or numbers.now (at + 1) (pos 0)) ranged
+            (early_broken named (length self.entry.ends.now) new self.entry.cells (each * nat_abs (get_or numbers.now (at + 1) (pos 0)) + more)) }
+    {
+        let digits = Digits::at(numbers, at).ok_or(Refusal::NumberOffRange)?;
+        if !ranged {
+            return Err(Refusal::NumberOffRange);
+        }
+        self.early_broken(named, new, each * digits.count as usize + more)?;
+        Ok(digits)
+    }
+
+    // The digit rule with the shift -B, of relu and which. With part = b^(k-1) the power is c = part·b and B = (b-1)·part = c - part, so that
+    // nothing is divided. The product fits: part is 1, or b is at most part, which is at most p.
+    // FORMAT 6.2, 10.10
+    #[tactic(auto, using(crate::proofs::Digits::sign_rules), unfolding(meaning::specs::Gadget::Sign::sign_shift))]
+    pub fn sign_rule(self, digits: Digits, e: Ends) -> bool
+        requires { BoundedEnds greatest_apart e }
+        ensures { result ≡ digit_rule self.entry.p digits.base digits.count (ends_meaning e) (sign_shift digits.base digits.count) }
+    {
+        let Some(part) = capped_power(digits.base, digits.count - 1, self.p) else {
+            return false;
+        };
+        let c = part * digits.base;
+        if (self.p as u64) < c {
+            return false;
+        }
+        let top = c - part;
+        self.is_narrow(c, e, negated(wide_whole(top)))
+    }
+
+    // The digit rule where c = b^k is at most p: F - L and L + c - 1 - E are at most p - 1. FORMAT 6.1, 10.10
+    pub fn is_narrow(self, c: u64, e: Ends, shift: Whole) -> bool
+        requires { (1 ≤ c) × (c ≤ self.p) × BoundedEnds greatest_apart e × Bounded greatest shift.0 }
+        ensures { result ≡ narrow self.entry.p c (ends_meaning e) shift.0 }
+    {
+        let last = Whole::from(self.p - 1);
+        let above = whole_difference(e.high, shift);
+        let top = whole_sum(shift, wide_whole(c - 1));
+        let below = whole_difference(top, e.low);
+        above <= last && below <= last
+    }
+}
