@@ -40,7 +40,9 @@ fn numbers_from(text: &[u8], from: usize, numbers: &mut [i64]) -> Option<Field<u
 {
     let mut at = from;
     for count in 0..MOST_NUMBERS {
-        let number = number_at(text, at)?;
+        let Some(number) = number_at(text, at) else {
+            return None;
+        };
         numbers[count] = number.value;
         let end = number.end;
         if text[end] != TAB {

@@ -12,14 +12,14 @@ ghost use Rattle.primes.specs.Table.{primes};
 use number::root::square_root;
 
 // The primes below 256.
-static PRIMES: [u32; 54] = [
+const PRIMES: [u32; 54] = [
     2, 3, 5, 7, 11, 13, 17, 19, 23, 29, 31, 37, 41, 43, 47, 53, 59, 61, 67, 71, 73, 79, 83, 89, 97,
     101, 103, 107, 109, 113, 127, 131, 137, 139, 149, 151, 157, 163, 167, 173, 179, 181, 191, 193,
     197, 199, 211, 223, 227, 229, 233, 239, 241, 251,
 ];
 
 // The numbers below 30 that have no factor 2, 3 or 5.
-static WHEEL: [u32; 8] = [1, 7, 11, 13, 17, 19, 23, 29];
+const WHEEL: [u32; 8] = [1, 7, 11, 13, 17, 19, 23, 29];
 
 #[tactic(auto, using(crate::proofs::PrimeTable::table_decides))]
 pub fn is_odd_prime(n: u32) -> bool
