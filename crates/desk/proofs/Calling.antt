@@ -1,5 +1,5 @@
 -- One call of the desk: its two refusals, and a call that is counted.
-use Prim.Native.Nat.{ℕ, ◌+◌, ◌<◌}
+use Prim.Native.Nat.{◌+◌, ◌<◌}
 use native.Mathlib.Omega.{arith}
 use native.Mathlib.Numerals.{unary_clauses}
 use mathlib.Core.Path.{◌≡◌, refl, sym, ap, ◌∙◌}
@@ -30,6 +30,8 @@ module _ (d : Desk) where
   pub raise-refused : (r : Refused) → counted (d.heard + 1) d.accepted (d.refused + 1) ≡ raised (desk_meaning d) (refused_reply r)
   unfolding raised is_accepted
   raise-refused r = rw (ne_eqb (number_of r.refusal) 0 (not-accepted r.refusal)) (simp unary_clauses refl)
+
+pub ruleset raises = (raise-accepted, raise-refused)
 
 -- ---- the three ways of a call
 

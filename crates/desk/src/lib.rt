@@ -53,7 +53,7 @@ impl Desk {
     }
 
     // heard and one other count are one more.
-    #[tactic(auto, unfolding(meaning::specs::Desk::full_count))]
+    #[tactic(auto, using(crate::proofs::Calling::raises), unfolding(meaning::specs::Desk::full_count))]
     fn count(&mut self, reply: Result<(), Refused>)
         requires { Agrees self.old × (self.old.heard ≡ full_count → ⊥) }
         ensures { desk_meaning self.new ≡ raised_desk (desk_meaning self.old) (reply_meaning reply) }

@@ -4,8 +4,7 @@ use mathlib.Core.Path.{◌≡◌, refl, sym, ap, ◌∙◌}
 use mathlib.Core.Bool.{Bool, true, false}
 use mathlib.Core.List.{List, [], ◌∷◌}
 use mathlib.Core.Option.{none}
-use Prim.Native.Nat.{ℕ, zero, suc, ◌+◌, ◌-◌, ◌≤◌, ◌<◌}
-use native.Mathlib.Nat.{sub-zero}
+use Prim.Native.Nat.{ℕ, zero, suc, ◌+◌, ◌≤◌, ◌<◌}
 use native.Mathlib.Omega.{arith}
 use lib.Dec.{T, eqb}
 use lib.IntN.{ℤ}
@@ -31,8 +30,9 @@ use Rattle.meaning.proofs.Kept.{keeps-all}
 use Rattle.meaning.proofs.Lines.{digits-ranged}
 use Rattle.meaning.proofs.Induction.{cells-grow}
 use Rattle.meaning.proofs.Reading.{read_kept}
-use Rattle.exports.specs.Show.{up_from}
-use Rattle.exports.proofs.Numbered.{length_up, up_at, take-up}
+use Rattle.std.specs.List.{range_with_len}
+use Rattle.std.proofs.lemmas.List.FromFn.{length-range_with_len, get_or-range_with_len}
+use Rattle.exports.proofs.Numbered.{take-up}
 
 -- ---- where the cells of a line are
 
@@ -148,14 +148,14 @@ module _ (list t : List ℕ) (line : ℕ) where
     inside = omega arith;
   }
 
-  module _ (part : List ℕ) (e : part ≡ shown list (up_from 0 (length t)) line) where
-    is-part : part ≡ take w.count (drop w.first (up_from 0 (length t)))
-    is-part = e ∙ w.is (up_from 0 (length t)) (length_up 0 (length t))
+  module _ (part : List ℕ) (e : part ≡ shown list (range_with_len 0 (length t)) line) where
+    is-part : part ≡ take w.count (drop w.first (range_with_len 0 (length t)))
+    is-part = e ∙ w.is (range_with_len 0 (length t)) (length-range_with_len 0 (length t))
 
     so-many : length part ≡ w.count
     so-many =
         ap (λ (r : List ℕ). length r) is-part
-        ∙ length-stretch w.first w.count (up_from 0 (length t)) (rw (length_up 0 (length t)) w.inside)
+        ∙ length-stretch w.first w.count (range_with_len 0 (length t)) (rw (length-range_with_len 0 (length t)) w.inside)
 
     -- the part starts with its first cell's number, and an empty one is read as 0
     starts_with : (m : ℕ) → w.count ≡ m → get_or part 0 0 ≡ w.first
@@ -164,9 +164,9 @@ module _ (list t : List ℕ) (line : ℕ) where
         get_or-eq_default part 0 {n = 0} (omega arith) ∙ sym (w.empty q)
     starts_with (suc m) q =
         let h : 0 < w.count = omega arith in
-        let numbered = up_from 0 (length t) in
+        let numbered = range_with_len 0 (length t) in
         let inside = w.inside in
-        let here = up_at 0 (length t) (w.first + 0) (omega arith) in
+        let here = get_or-range_with_len 0 (length t) (w.first + 0) 0 (omega arith) in
         ap (λ (r : List ℕ). get_or r 0 0) is-part ∙ get_or-take w.count (drop w.first numbered) 0 0 h ∙ get_or-drop w.first numbered 0 0
         ∙ here ∙ omega arith
 
@@ -181,12 +181,12 @@ module _ (list t : List ℕ) (line : ℕ) where
         }
 
   -- the part is that of a longer numbered table's first cells, and its first cell was read
-  pub first-shown : (numbered part : List ℕ) (n first : ℕ) → numbered ≡ up_from 0 n → length t ≤ n
-      → part ≡ shown list (take (length t - 0) numbered) line → first ≡ get_or part 0 0 → ShownPart list t line first (length part)
+  pub first-shown : (numbered part : List ℕ) (n first : ℕ) → numbered ≡ range_with_len 0 n → length t ≤ n
+      → part ≡ shown list (take (length t) numbered) line → first ≡ get_or part 0 0 → ShownPart list t line first (length part)
   first-shown numbered part n first is most shows reads = rw reads (numbered-shown part (shows ∙ ap (λ (r : List ℕ). shown list r line) taken))
     where
-      taken : take (length t - 0) numbered ≡ up_from 0 (length t)
-      taken = rw (sub-zero (length t), is) (take-up 0 n (length t) most)
+      taken : take (length t) numbered ≡ range_with_len 0 (length t)
+      taken = rw is (take-up 0 n (length t) most)
 
 -- ---- the same of a table that is too long, as the check applies it
 

@@ -1,3 +1,2 @@
--- What the functions of the C ABI write where a reply or a part of a table cannot cross it as it is.
+-- What a reading writes where its answer cannot cross the C ABI as it is.
 pub mod Read
-pub mod Show

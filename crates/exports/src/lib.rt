@@ -1,10 +1,11 @@
 // The public calls for programs in other languages, by the C ABI: numbers pass as themselves, a slice as a pointer and a length, and a place that
 // is lent for one number as a pointer. No function asks anything of its caller but that what it lends is there and that what is written overlaps
-// nothing else that is lent. Each returns the number of its reply, but for showing and answering, which return a count.
-// FORMAT 9.1, 9.2, 9.18, 9.21, 9.22
+// nothing else that is lent. Each returns the number of its reply, since a `Result` can't cross to C, but for showing and answering, which return
+// a count. FORMAT 9.1, 9.2, 9.18, 9.21, 9.22
 #![tactic(auto)]
 
 ghost use Rattle.std.specs.Prelude.{◌≡◌, ◌+◌, ◌≤◌, length, get_or, take, drop};
+ghost use Rattle.std.specs.List.{range_with_len};
 ghost use Rattle.meaning.specs.Refusal.{cell_limit};
 ghost use Rattle.meaning.specs.Reply.{reply, making, writing, read_reply, check_reply, make_reply, write_reply, shown, shown_from};
 ghost use Rattle.meaning.specs.Write.{lines_given};
@@ -13,7 +14,6 @@ ghost use Rattle.meaning.specs.Desk.{counted, called, desk_call};
 ghost use Rattle.refusal.specs.Refusal.{answered};
 ghost use Rattle.program.specs.Answered.{Answered};
 ghost use Rattle.exports.specs.Read.{numbers, numbers_after};
-ghost use Rattle.exports.specs.Show.{up_from};
 
 use desk::Desk;
 use program::respond;
@@ -121,7 +121,7 @@ pub extern "C" fn digit_table_show(
     }
     let mut numbered: [u32; MOST_CELLS] = [0; MOST_CELLS];
     number_cells(&mut numbered);
-    let part = show(list, &numbered[0..cells], line);
+    let part = show(list, &numbered[..cells], line);
     *first = first_of(part);
     part.len()
 }
@@ -151,7 +151,7 @@ pub extern "C" fn digit_table_write(
     tell(write(words, counts, numbers, buffer), place)
 }
 
-// An answer as a number, which is returned, and a place, which is written. FORMAT 9.3, 9.18
+// An answer as C is told it: a number, which is returned, and a place, which is written. FORMAT 9.3, 9.18
 fn tell(answer: Result<usize, Refused>, place: &mut usize) -> u32
     ensures { reply result place.new ≡ answered answer }
 {
@@ -167,7 +167,7 @@ fn tell(answer: Result<usize, Refused>, place: &mut usize) -> u32
     }
 }
 
-// The first cell of a part, and 0 where it is empty.
+// The first cell of a part, and 0 where it is empty, as C is told it. FORMAT 9.20
 fn first_of(part: &[u32]) -> usize
     ensures { result ≡ get_or part.now 0 0 }
 {
@@ -177,7 +177,7 @@ fn first_of(part: &[u32]) -> usize
 // Each cell holds its own number.
 fn number_cells(cells: &mut [u32])
     requires { length cells.old ≤ cell_limit }
-    ensures { cells.new ≡ up_from 0 (length cells.old) }
+    ensures { cells.new ≡ range_with_len 0 (length cells.old) }
 {
     for (i, cell) in cells.iter_mut().enumerate() {
         *cell = i as u32;

@@ -7,7 +7,7 @@ use lib.ListN.{length, take, drop, set, length-append}
 use borrow.Rule.Slice.PartMut.{put_mid}
 use Rattle.output.specs.Written.{Written}
 use Rattle.output.proofs.Writing.{Halves, rest-starts, rest-room, written-whole, written-length, written_byte}
-use Rattle.given_lines.proofs.Texts.{Parts, parts-of, parts-length}
+use Rattle.given_lines.proofs.Texts.{Parts, parts-length}
 
 -- the part, which was `before`, holds the text up to `at`
 pub record Begun (text before part : List ℕ) (at : ℕ) (left : List ℕ) : Type 0 where
@@ -21,9 +21,6 @@ pub record Begun (text before part : List ℕ) (at : ℕ) (left : List ℕ) : Ty
 pub begun-with : {text first left before part : List ℕ} {at : ℕ} → Parts text first left → length text ≤ length before → Written first before part at
     → Begun text before part at left
 begun-with {first = first} p h w = record { done = first; parts = p; written = w; room = h }
-
-pub begun-start : {text before : List ℕ} → length text ≤ length before → Begun text before before 0 text
-begun-start {text} h = begun-with (parts-of [] text) h (record { stands = refl; counted = refl })
 
 module _ {text before part : List ℕ} {at : ℕ} {left : List ℕ} (b : Begun text before part at left) where
   -- ---- the end

@@ -16,7 +16,7 @@ use Rattle.algebra.proofs.Integer.Order.{integer}
 use Rattle.meaning.specs.Number.{between}
 use Rattle.meaning.specs.Text.{largest, decimal_of, number_text}
 use Rattle.meaning.proofs.Decimal.{length-short, length-long, some-digit}
-use Rattle.std.specs.Prelude.{Some, None}
+use Rattle.std.specs.Prelude.{Some}
 use Rattle.given_lines.specs.Line.{MoreBytesYield}
 use Rattle.given_lines.proofs.Lengths.{number-most}
 
@@ -104,6 +104,3 @@ module _ (z : ℤ) {r : Bool} (tested : r ≡ leb (nat_abs z) largest) where
   more-sized t fits e =
       let some = some_byte z in
       (omega arith, (sym tested ∙ t, omega arith, omega (arith, number-most fits)))
-
-  pub more-large : r ≡ false → MoreBytesYield z None
-  more-large t = sym tested ∙ t

@@ -14,12 +14,12 @@ use Rattle.meaning.specs.Machine.{past_i64}
 use Rattle.meaning.specs.Text.{number_text}
 use Rattle.meaning.specs.Word.{Word}
 use Rattle.meaning.specs.Refusal.{text_limit}
-use Rattle.meaning.specs.Write.{Given, given, word_text, fields_text, text_of}
+use Rattle.meaning.specs.Write.{Given, given, word_text, text_of}
 use Rattle.meaning.proofs.Decimal.{decimal-most}
 use Rattle.std.specs.Prelude.{Some, None}
 use Rattle.given_lines.specs.Given.{line_text}
 use Rattle.given_lines.specs.Measure.{LengthYield}
-use Rattle.given_lines.proofs.Texts.{parts-of, parts-length, word-most, fields_ended, line-parts, field-parts, end-parts, lines-parts, no_lines}
+use Rattle.given_lines.proofs.Texts.{parts-length, word-most, fields_ended, line-parts, field-parts, end-parts, lines-parts, no_lines}
 
 -- ---- the length of a number
 
@@ -52,9 +52,6 @@ module _ {word : Option Word} {numbers : List ℤ} {before total i : ℕ} (m : M
     sum = omega (arith, m.sum, parts-length (field-parts numbers i h));
   }
 
-  pub line-over : text_limit < total → LengthYield (before + length (line_text (given word numbers))) None
-  line-over h = omega (arith, m.sum, parts-length (parts-of (fields_text (drop i numbers)) (10 ∷ [])))
-
   pub line-end : length numbers ≤ i → total ≤ text_limit → LengthYield (before + length (line_text (given word numbers))) (Some total)
   line-end h few =
       let all : before + length (line_text (given word numbers)) ≡ total = omega (arith, m.sum, parts-length (end-parts numbers i h)) in
@@ -66,9 +63,6 @@ module _ {word : Option Word} {numbers : List ℤ} {before total i : ℕ} (m : M
 pub record MeasuringText (all left : List Given) (total : ℕ) : Type 0 where
   pub few : total ≤ text_limit
   pub sum : length (text_of all) ≡ total + length (text_of left)
-
-pub text-start : (all : List Given) → MeasuringText all all 0
-text-start all = record { few = omega arith; sum = omega arith }
 
 module _ {all left later : List Given} {g : Given} {total : ℕ} (m : MeasuringText all left total) where
   sum-with-line : left ≡ g ∷ later → length (text_of all) ≡ total + length (line_text g) + length (text_of later)

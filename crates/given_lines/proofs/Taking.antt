@@ -9,7 +9,7 @@ use native.Mathlib.Omega.{arith}
 use native.Mathlib.Numerals.{add-one}
 use borrow.Author.Tests.{leb-true, leb-false}
 use lib.Dec.{leb}
-use lib.ListN.{length, get_or, drop, length-append, length-drop, drop_of_length-le}
+use lib.ListN.{length, get_or, drop, length-append, drop_of_length-le}
 use lib.Seq.{drop-cons}
 use lib.IntN.{ℤ, pos, nat_abs}
 use Rattle.meaning.specs.Text.{largest, number, number_text}
@@ -31,9 +31,6 @@ pub record Counting (numbers : List ℤ) (total i : ℕ) : Type 0 where
   pub sized : all_sized numbers ≡ all_sized (drop i numbers)
   pub counted : length (fields_text numbers) + 2 * length (drop i numbers) ≡ total + length (fields_text (drop i numbers))
   pub few : total ≤ most_field * i + 2 * length (drop i numbers)
-
-pub counting-start : (numbers : List ℤ) → Counting numbers (2 * length numbers) 0
-counting-start numbers = record { within = omega arith; sized = refl; counted = omega arith; few = omega arith }
 
 -- the numbers from i on are number i and those after it
 module _ (numbers : List ℤ) (i : ℕ) (h : i < length numbers) where
@@ -63,10 +60,6 @@ module _ {numbers : List ℤ} {total i : ℕ} (t : Counting numbers total i) whe
       counted = omega (arith, t.counted, ap length (numbers-next numbers i h), fields-next numbers i h, bytes);
       few = omega (arith, t.few, ap length (numbers-next numbers i h), most);
     }
-
-  -- what is counted stays small
-  pub counting-few : length numbers ≤ most_numbers → total ≤ most_field * most_numbers
-  counting-few h = omega (arith, t.few, t.within, length-drop i numbers)
 
   pub counting-end : length numbers ≤ i → FieldBytesYield numbers (Some total)
   unfolding all_sized all fields_text

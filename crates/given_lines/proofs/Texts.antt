@@ -24,9 +24,6 @@ use Rattle.given_lines.specs.Given.{line_text}
 pub record Parts (text first rest : List ℕ) : Type 0 where
   pub joined : text ≡ first ++ rest
 
-pub parts-of : (first rest : List ℕ) → Parts (first ++ rest) first rest
-parts-of first rest = record { joined = refl }
-
 pub parts-length : {text first rest : List ℕ} → Parts text first rest → length text ≡ length first + length rest
 parts-length {first = first} {rest = rest} p = ap length p.joined ∙ length-append first rest
 

@@ -6,7 +6,7 @@ ghost use Rattle.given_lines.specs.Given.{line_meaning};
 
 use text::Word;
 
-// The three rows.
+// The three rows, as the C interface lends them. FORMAT 9.23
 #[derive(Clone, Copy)]
 pub struct Given<'a> {
     pub words: &'a [u8],
@@ -62,7 +62,7 @@ impl<'a> Iterator for Lines<'a> {
     }
 }
 
-// The first count, none where no count is left, and those after it. FORMAT 9.25
+// The first count, 0 where no count is left, and those after it. FORMAT 9.25
 #[inline(always)]
 fn split_count(counts: &[usize]) -> (usize, &[usize])
     ensures count { result.0 ≡ get_or counts.now 0 0 }

@@ -20,7 +20,7 @@ pub struct Readable {
     pub size: usize,
 }
 
-// Whether the size of a number is allowed. FORMAT 2.6
+// Whether the size of a number is allowed. By `magnitude`, as `output` has it: the library's `unsigned_abs` would be a second size beside it. FORMAT 2.6
 fn is_sized(x: Whole) -> bool
     ensures { result ≡ leb (nat_abs x.0) largest }
 {
@@ -54,7 +54,8 @@ fn fields_length(numbers: &[i64]) -> Option<usize>
     ensures { FieldBytesYield numbers.now result }
 {
     let mut total = 2 * numbers.len();
-    // By index: a whole number is read out of lent memory at its place (`whole_at`), a rule of the project.
+    // By index: a whole number is read out of lent memory at its place (`whole_at`), a rule of the project. An iterator of `number` over whole numbers
+    // would serve four loops alone.
     for i in 0..numbers.len() {
         let x = whole_at(numbers, i);
         if !is_below(x, 10) {
@@ -64,7 +65,7 @@ fn fields_length(numbers: &[i64]) -> Option<usize>
     Some(total)
 }
 
-// The line as it is read, if its text is one.
+// The line as it is read, if its text is a line.
 pub fn line_given(line: GivenLine<'_>) -> Option<Readable>
     ensures { ReadableYield line.entry result }
 {

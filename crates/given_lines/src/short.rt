@@ -1,5 +1,6 @@
 // Numbers of one and of two digits, which are nearly all that a list has. The compiler makes one test of each function here, and where a number passed
 // it, it knows that no more digits come: so these numbers are measured and written in few steps.
+// Each has an upper end of its own, in place of one function that is given it: of fixed ends the compiler makes the one test.
 ghost use Rattle.std.specs.Prelude.{◌≡◌, ◌&&◌, pos, neg_ℤ};
 ghost use Rattle.std.specs.Int.Signed.{le_z, lt_z};
 ghost use Rattle.meaning.specs.Number.{between};

@@ -1,5 +1,6 @@
 // The text of given lines, written at the start of a part that has room for it: each line's word, its numbers with a tab before each, and the byte
 // that ends the line. FORMAT 2.9
+// The room of a part stays a clause: it is of this text. How much was written is answered, as by std's `write`, and a place in the part goes on by it.
 ghost use Rattle.std.specs.Prelude.{◌∷◌, ◌≤◌, length};
 ghost use Rattle.meaning.specs.Text.{number_text};
 ghost use Rattle.meaning.specs.Write.{word_text, text_of};
@@ -13,15 +14,15 @@ use number::whole::{is_below, negated, size_of, whole_at};
 use output::{write_bytes, write_decimal, write_number};
 use text::Word;
 
-const TAB: u8 = 9;
+const TAB: u8 = b'\t';
 
-const LINE_END: u8 = 10;
+const LINE_END: u8 = b'\n';
 
-const MINUS: u8 = 45;
+const MINUS: u8 = b'-';
 
-const ZERO: u8 = 48;
+const ZERO: u8 = b'0';
 
-// Writes a number, one of two digits by a test of its own.
+// Writes a number, one of two digits by a test of its own (docs/SPEED.md, Writing), where `write_number` has none.
 fn write_signed(part: &mut [u8], x: Whole) -> usize
     requires { length (number_text x.0) ≤ length part.old }
     ensures { Written (number_text x.0) part.old part.new result }

@@ -16,12 +16,6 @@ pub record GroupFilling (b k n : ℕ) (before cells : List ℕ) (i rest : ℕ) :
   pub later : drop i cells ≡ drop i before
 
 module _ (b k n : ℕ) where
-  pub filling-start : (before : List ℕ) → GroupFilling b k n before before 0 n
-  filling-start before = record { within = omega arith; kept = refl; written = ap (λ (m : ℕ). digits b m n) less; later = refl }
-    where
-      less : k - 0 ≡ k
-      less = omega arith
-
   module _ {before cells : List ℕ} {i rest : ℕ} (f : GroupFilling b k n before cells i rest) where
     pub filling-turn : i < k → k ≤ length before → GroupFilling b k n before (set cells i (rest % b)) (i + 1) (rest / b)
     unfolding digits

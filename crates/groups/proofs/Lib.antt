@@ -3,7 +3,8 @@
 -- whole numbers and machine words
 pub mod Whole
 pub mod GroupNumbers
--- writing its cells
+-- working a line, and writing its cells
+pub mod SignPower
 pub mod CellsGroup
 pub mod CellsSign
 -- checking its rows

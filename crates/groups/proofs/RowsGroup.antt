@@ -6,7 +6,7 @@ use mathlib.Core.Option.{Option, none, some}
 use Prim.Native.Nat.{ℕ, suc, ◌+◌, ◌-◌, ◌*◌, ◌^◌, ◌≤◌, ◌<◌}
 use native.Mathlib.Omega.{arith}
 use native.Mathlib.Numerals.{add-one}
-use native.Mathlib.Nat.{add-zero, one-mul, mul-zero, mul-le-mul_right, pow-zero, pow-suc, pow-le-pow_right}
+use native.Mathlib.Nat.{add-zero, one-mul, mul-zero, mul-le-mul_right, pow-suc, pow-le-pow_right}
 use lib.ListN.{length, get_or}
 use lib.IntN.{ℤ, ◌-ℤ◌}
 use lib.Dec.{eqb}
@@ -48,13 +48,6 @@ module _ (t : List ℕ) (at b i : ℕ) {cell d base : ℕ} {fails : Bool} (place
 -- ---- the rows of the digits from the one of number i on
 
 module _ (p : ℕ) (t : List ℕ) (first at b k : ℕ) where
-  pub digits-start : first_refusal (holds p t) first (digit_rows at b k) ≡ first_refusal (holds p t) (first + 0) (digit_rows (at + 0) b (k - 0))
-  digits-start =
-      let e : k - 0 ≡ k = omega arith in
-      let u : at + 0 ≡ at = omega arith in
-      let v : first + 0 ≡ first = omega arith in
-      rw (e, u, v) refl
-
   pub digit-passes : (i : ℕ) {d : ℕ} → i < k → DigitRead t at b i d
       → first_refusal (holds p t) (first + i) (digit_rows (at + i) b (k - i))
       ≡ first_refusal (holds p t) (first + (i + 1)) (digit_rows (at + (i + 1)) b (k - (i + 1)))
@@ -100,12 +93,6 @@ pub record PowerSum (t : List ℕ) (at b k i v part : ℕ) : Type 0 where
   pub whole : value b (cells_at t at k) ≡ v + part * value b (cells_at t (at + i) (k - i))
 
 module _ (t : List ℕ) (at b k : ℕ) where
-  pub meaning-none : PowerSum t at b k 0 0 1
-  meaning-none =
-      let e : at + 0 ≡ at = omega arith in
-      let u : k - 0 ≡ k = omega arith in
-      record { part-is = sym (pow-zero b); below = omega arith; whole = rw (e, u) (omega arith) }
-
   pub meaning-next : {i v part d : ℕ} → PowerSum t at b k i v part → at + k ≤ length t → i < k → DigitRead t at b i d
       → PowerSum t at b k (i + 1) (v + d * part) (part * b)
   unfolding value

@@ -4,7 +4,7 @@ ghost use Rattle.meaning.specs.Known.{top_part};
 ghost use Rattle.groups.specs.Cells.{GroupOf};
 
 // As the rules of reading leave them: b is at least 2, k from 1 to 31, and c = b^k small. (The `Digits` of `rules` are those of a line that is still
-// tested, whose power may be any number.)
+// tested: their base may be any i64 from 2 on, and their c greater than any machine word, so that `power` there can fail.)
 #[derive(Clone, Copy)]
 pub struct Digits {
     pub base: u32,

@@ -20,7 +20,7 @@ use number::{Cell, Residue, Whole};
 // ---- cells
 
 // n / b, and what it leaves. For base 2, the one most in use, the divisor stands in the code, and no division is left of it.
-fn divided(n: u64, b: u32) -> u64
+pub fn divided(n: u64, b: u32) -> u64
     requires { 0 < b }
     ensures { result ≡ n / b }
 {
@@ -38,34 +38,36 @@ fn digit(n: u64, b: u32) -> Residue
     }
 }
 
-// The digits of n, from the lowest on: each is what division by b leaves.
-pub fn group_cells(out: &mut [u32], n: u64, digits: Digits)
-    requires { digits.count ≤ length out.old }
-    ensures { out.new ≡ lowest_digits digits.base digits.count n ++ drop digits.count out.old }
+// The digits of n, from the lowest on: each is what division by b leaves. Here and in the two functions below b and k stay two parameters, as any base
+// above 0 and any count will do, where `Digits` keeps what the rules ask of a line.
+pub fn group_cells(out: &mut [u32], n: u64, b: u32, k: usize)
+    requires { (0 < b) × (k ≤ length out.old) }
+    ensures { out.new ≡ lowest_digits b k n ++ drop k out.old }
 {
     let mut rest = n;
-    for i in 0..digits.count {
-        set_residue(out, Cell::from(i), digit(rest, digits.base));
-        rest = divided(rest, digits.base);
+    // By index: a remainder is written into lent memory at its place (`set_residue`), a rule of the project.
+    for i in 0..k {
+        set_residue(out, Cell::from(i), digit(rest, b));
+        rest = divided(rest, b);
     }
 }
 
 // The group over a whole number with a shift.
 #[tactic(auto, unfolding(meaning::specs::Gadget::Digits::group_cells))]
-pub fn form_cells(out: &mut [u32], form: Whole, shift: Whole, digits: Digits)
-    requires { (digits.count ≤ length out.old) × Bounded form_bound form.0 × Bounded form_bound shift.0 }
-    ensures { out.new ≡ group_cells digits.base digits.count form.0 shift.0 ++ drop digits.count out.old }
+pub fn form_cells(out: &mut [u32], form: Whole, shift: Whole, b: u32, k: usize)
+    requires { (0 < b) × (k ≤ length out.old) × Bounded form_bound form.0 × Bounded form_bound shift.0 }
+    ensures { out.new ≡ group_cells b k form.0 shift.0 ++ drop k out.old }
 {
-    group_cells(out, distance(form, shift), digits);
+    group_cells(out, distance(form, shift), b, k);
 }
 
 // Two groups with shift 0, one after the other.
-pub fn two_groups(out: &mut [u32], first: Whole, second: Whole, digits: Digits)
-    requires { (digits.count + digits.count ≤ length out.old) × Bounded form_bound first.0 × Bounded form_bound second.0 }
-    ensures { out.new ≡ group_cells digits.base digits.count first.0 (pos 0) ++ group_cells digits.base digits.count second.0 (pos 0) ++ drop (digits.count + digits.count) out.old }
+pub fn two_groups(out: &mut [u32], first: Whole, second: Whole, b: u32, k: usize)
+    requires { (0 < b) × (k + k ≤ length out.old) × Bounded form_bound first.0 × Bounded form_bound second.0 }
+    ensures { out.new ≡ group_cells b k first.0 (pos 0) ++ group_cells b k second.0 (pos 0) ++ drop (k + k) out.old }
 {
-    form_cells(out, first, Whole::from(0), digits);
-    form_cells(&mut out[digits.count..], second, Whole::from(0), digits);
+    form_cells(out, first, Whole::from(0), b, k);
+    form_cells(&mut out[k..], second, Whole::from(0), b, k);
 }
 
 // ---- rows
@@ -88,6 +90,7 @@ pub fn group_rows(
     let base = Residue::from(digits.base);
     let mut value = Residue::from(0);
     let mut part: u32 = 1;
+    // By index: `residue_at` reads a cell at its place (a rule of the project), and a pair's number gives both places and both rows.
     for pair in 0..digits.count / 2 {
         let i = 2 * pair;
         let low = residue_at(table, at.after(i));

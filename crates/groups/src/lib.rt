@@ -4,8 +4,10 @@
 // A function that writes cells is lent the part of the table that starts at the first cell that it writes. It leaves the rest of the part
 // as it was. Checking writes nothing: the table is a shared slice.
 //
-// The part and p stay two parameters, and that b^k is at most p a clause: each call lends a further part, and a line's digits are read apart from
-// the table, so that a struct of them would be made anew at every call.
+// The part and p stay two parameters: each call lends a further part, so that a struct of the two would be made anew at every call. Nor are the digits in
+// it, which both cells and rows take. That p is above 0,
+// or an odd prime, stays a clause beside them: `line_cells` is given p as a number, which may be any where the line is a `field`. That a cell lies in
+// the table stays one of each function that reads it, as of an index: a `Cell` belongs to no table, and how many more cells must follow differs by kind.
 #![tactic(auto)]
 
 pub mod cells;

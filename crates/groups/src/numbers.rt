@@ -9,7 +9,7 @@ use number::whole::{size_of, whole_at};
 use number::{Cell, Whole};
 
 // The number at a place where a name or a digit count stands.
-fn size_at(numbers: &[i64], at: usize) -> usize
+pub fn size_at(numbers: &[i64], at: usize) -> usize
     requires { (at < length numbers.now) × (pos 0 ≤ℤ get_or numbers.now at (pos 0)) }
     ensures { result ≡ size numbers.now at }
 {
@@ -35,7 +35,8 @@ pub fn value_named(numbers: &[i64], at: usize, values: &[i64]) -> Whole
     whole_at(values, size_at(numbers, at))
 }
 
-// And the cell of that value. It is kept in 16 bits, which hold the number of every cell.
+// And the cell of that value. It is kept in 16 bits, which hold the number of every cell. (Not one function for values and cells: an i64 becomes a whole
+// number by `whole_at` alone, a u16 the number of a cell by `From`.)
 pub fn place_at(numbers: &[i64], at: usize, places: &[u16]) -> Cell
     requires { NameAt (length places.now) numbers.now at }
     ensures { result.0 ≡ placed numbers.now at places.now }

@@ -11,14 +11,14 @@ ghost use Rattle.number.specs.Bounded.{Bounded};
 ghost use Rattle.groups.specs.Cells.{flag_cells, power_bound};
 ghost use Rattle.groups.specs.Rows.{rows_meaning, first_refusal, Leaves};
 
-use super::cells::Table;
+use super::cells::GroupTable;
 use super::digits::Digits;
-use super::group::{group_cells, group_rows};
+use super::group::{divided, group_cells, group_rows};
 use super::rows::row_before;
 use super::value::value_cell;
 use number::inverse::inverse_of;
 use number::residue::{difference, product, residue_at, set_residue};
-use number::whole::{distance, negated, whole_difference, within};
+use number::whole::{distance, negated, whole_difference, wide_whole, within};
 use number::{Cell, Residue, Whole};
 
 // ---- working
@@ -31,13 +31,14 @@ fn sign_shift(digits: Digits) -> Whole
     negated(Whole::from(digits.top_part()))
 }
 
-// Whether the statement is true of x.
-#[tactic(auto, unfolding(meaning::specs::Gadget::Sign::sign_statement))]
-pub fn sign_works(x: Whole, digits: Digits) -> bool
-    ensures { result ≡ sign_statement digits.base digits.count x.0 }
+// Whether the statement is true of x, with c = b^k: c / b is b^(k-1), and the rest of c is B.
+pub fn sign_works(x: Whole, b: u32, c: u64) -> bool
+    requires { (0 < b) × (c ≤ power_bound) }
+    ensures { (k : ℕ) → 1 ≤ k → c ≡ b ^ k → result ≡ sign_statement b k x.0 }
 {
-    let high = whole_difference(Whole::from(digits.top_power()), Whole::from(1));
-    within(sign_shift(digits), x, high)
+    let part = divided(c, b);
+    let high = whole_difference(wide_whole(part), Whole::from(1));
+    within(negated(wide_whole(c - part)), x, high)
 }
 
 // ---- cells
@@ -47,7 +48,7 @@ fn sign_cells(out: &mut [u32], p: u32, x: Whole, digits: Digits)
     ensures { out.new ≡ sign_cells p digits.base digits.count x.0 ++ drop (digits.count + 2) out.old }
 {
     let n = distance(x, sign_shift(digits));
-    group_cells(out, n, digits);
+    group_cells(out, n, digits.base, digits.count);
     let top = residue_at(out, Cell::from(digits.count - 1));
     flag_cells(&mut out[digits.count..], p, top, digits.base);
 }
@@ -87,19 +88,13 @@ fn two_cells(out: &mut [u32], first: Residue, second: Residue)
 
 // The rows over the group at the k cells from `at` on, and over f and w after them; `last` is whether the row that the line puts last
 // holds.
-pub fn sign_rows(
-    table: Table,
-    number: Residue,
-    last: bool,
-    at: Cell,
-    digits: Digits,
-) -> Result<(), usize>
-    requires { (at.0 + digits.count + 2 ≤ length table.cells.now) × (digits.base ^ digits.count ≤ table.p) }
-    ensures { let p = table.entry.p in let t = table.entry.cells.now in
-        (form : Form) (row : Form → Row) → remainder p (eval t form -ℤ sign_shift digits.base digits.count) ≡ number.0
-        → last ≡ holds p t (row (cell (at.0 + digits.count)))
-        → rows_meaning result ≡ first_refusal (holds p t) 0 (sign_rows form at.0 digits.base digits.count row) }
+pub fn sign_rows(group: GroupTable, number: Residue, last: bool, at: Cell) -> Result<(), usize>
+    requires { at.0 + group.digits.count + 2 ≤ length group.table.cells.now }
+    ensures { let p = group.entry.table.p in let t = group.entry.table.cells.now in let b = group.entry.digits.base in let k = group.entry.digits.count in
+        (form : Form) (row : Form → Row) → remainder p (eval t form -ℤ sign_shift b k) ≡ number.0
+        → last ≡ holds p t (row (cell (at.0 + k))) → rows_meaning result ≡ first_refusal (holds p t) 0 (sign_rows form at.0 b k row) }
 {
+    let GroupTable { table, digits } = group;
     let k = digits.count;
     let digit = table.at(at.after(k - 1));
     let top = difference(digit, Residue::from(digits.base - 1), table.p);

@@ -1,5 +1,5 @@
 -- Bounds on the absolute value: each operation computes the bound of its result, and a bound below 2 ^ 63 is that the result fits.
--- `search (needs, sum_fits)` shows what `whole_sum` asks of two bounded numbers, and so for the other operations.
+-- So `difference-fits` shows what `whole_difference` asks of two bounded numbers.
 use mathlib.Core.Path.{◌≡◌, refl}
 use mathlib.Core.Logic.{◌⊎◌, inl, inr, ⊎_elim}
 use Prim.Native.Nat.{ℕ, zero, ◌+◌, ◌*◌, ◌≤◌, ◌<◌}
@@ -7,12 +7,10 @@ use native.Mathlib.Omega.{arith}
 use native.Mathlib.Nat.{mul-le-mul}
 use lib.Dec.{T, ltb, ltb→lt}
 use lib.IntN.{ℤ, pos, negsuc, neg_ℤ, ◌+ℤ◌, ◌-ℤ◌, ◌*ℤ◌}
-use lib.Signed.{◌≤ℤ◌, le_z}
+use lib.Signed.{◌≤ℤ◌}
 use mir.Syntax.{w64}
 use mir.Val.{SFits}
 use Rattle.meaning.specs.Machine.{past_i64}
-use Rattle.meaning.specs.Known.{larger, smaller}
-use Rattle.algebra.proofs.Test.{cond_cases}
 use Rattle.algebra.proofs.Integer.Order.{positive_part, negative_part, nat_abs-parts, plus, minus}
 use Rattle.algebra.proofs.Integer.Order.{positive_part-negation, negative_part-negation}
 use Rattle.algebra.proofs.Integer.Linear.{linear}
@@ -55,15 +53,6 @@ module _ {A B : ℕ} {a b : ℤ} where
   pub bounded-product : Bounded A a → Bounded B b → Bounded (A * B) (a *ℤ b)
   bounded-product s t = record { size = rw (nat_abs-* a b) (mul-le-mul s.size t.size) }
 
-module _ {bound : ℕ} {a b : ℤ} where
-  pub larger-bounded : Bounded bound a → Bounded bound b → Bounded bound (larger a b)
-  unfolding larger
-  larger-bounded s t = cond_cases (Bounded bound) (le_z a b) b a (λ _. t) (λ _. s)
-
-  pub smaller-bounded : Bounded bound a → Bounded bound b → Bounded bound (smaller a b)
-  unfolding smaller
-  smaller-bounded s t = cond_cases (Bounded bound) (le_z a b) a b (λ _. s) (λ _. t)
-
 -- ---- what fits
 
 pub bounded-fits : (bound : ℕ) {z : ℤ} → Bounded bound z → T (ltb bound past_i64) → SFits w64 z
@@ -71,12 +60,5 @@ bounded-fits bound {z} s t =
     let l : bound < past_i64 = ltb→lt bound past_i64 t in
     parts-fit z (omega (arith, s.size, nat_abs-parts z)) (omega (arith, s.size, nat_abs-parts z))
 
-module _ {A B : ℕ} (a b : ℤ) where
-  pub sum_fits : Bounded A a → Bounded B b → T (ltb (A + B) past_i64) → SFits w64 (a +ℤ b)
-  sum_fits s t l = bounded-fits (A + B) (bounded-sum s t) l
-
-  pub difference-fits : Bounded A a → Bounded B b → T (ltb (A + B) past_i64) → SFits w64 (a -ℤ b)
-  difference-fits s t l = bounded-fits (A + B) (bounded-difference s t) l
-
-  pub product-fits : Bounded A a → Bounded B b → T (ltb (A * B) past_i64) → SFits w64 (a *ℤ b)
-  product-fits s t l = bounded-fits (A * B) (bounded-product s t) l
+pub difference-fits : {A B : ℕ} (a b : ℤ) → Bounded A a → Bounded B b → T (ltb (A + B) past_i64) → SFits w64 (a -ℤ b)
+difference-fits {A} {B} a b s t l = bounded-fits (A + B) (bounded-difference s t) l

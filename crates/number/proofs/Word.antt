@@ -1,5 +1,4 @@
--- Whole numbers in a machine word. A signed local holds bits, so a use of x reads `to_z w64 (of_z w64 x)`: `back` takes the bits away
--- where x fits. What fits is said by the two parts of an integer, as algebra has them, so that `omega` decides it.
+-- Whole numbers in a machine word. What fits is said by the two parts of an integer, as algebra has them, so that `omega` decides it.
 use mathlib.Core.Path.{◌≡◌, refl}
 use mathlib.Core.Bool.{true, false, not}
 use Prim.Native.Nat.{ℕ, suc, ◌+◌, ◌-◌, ◌*◌, ◌≤◌, ◌<◌}
@@ -9,20 +8,12 @@ use lib.IntN.{ℤ, pos, negsuc}
 use lib.Signed.{mag, lt_z, non_neg, ◌≤ℤ◌, ◌<ℤ◌, lt_z_no}
 use borrow.Author.Tests.{le-ltb}
 use mir.Syntax.{w64}
-use mir.Val.{Fits, SFits, to_z, of_z}
-use mir.ValLaws.{to_z-of_z, to_z_pos}
+use mir.Val.{Fits, SFits}
 use Rattle.meaning.specs.Machine.{past_u32, past_i64}
 use Rattle.algebra.proofs.Test.{≡-test, false-test}
+use Rattle.algebra.specs.Root.{square_root}
+use Rattle.algebra.proofs.Root.{root-unique}
 use Rattle.algebra.proofs.Integer.Order.{positive_part, negative_part, integer}
-
--- ---- bits
-
-pub back : {z : ℤ} → SFits w64 z → to_z w64 (of_z w64 z) ≡ z
-back {z} f = to_z-of_z w64 z f
-
--- bits below 2 ^ 63 are that number
-pub small : (n : ℕ) → n < past_i64 → to_z w64 n ≡ pos n
-small n h = to_z_pos w64 n h
 
 -- ---- what fits, by the two parts
 
@@ -30,7 +21,7 @@ pub parts-fit : (z : ℤ) → positive_part z < negative_part z + past_i64 → n
 parts-fit (pos n) h k = record { sfits = omega arith }
 parts-fit (negsuc n) h k = record { sfits = omega arith }
 
--- ---- the test z < 0: what is known by it, of an i64 too, whose test reads bits; and the cast to a u64
+-- ---- the test z < 0: what is known by it
 
 pub below-zero : (z : ℤ) → lt_z z (pos 0) ≡ true → (positive_part z ≡ 0) × (negative_part z ≡ suc (mag z))
 below-zero (pos n) e = let h : pos n <ℤ pos 0 = record { lt = ≡-test (lt_z (pos n) (pos 0)) e } in absurd (omega integer)
@@ -44,12 +35,6 @@ pub not-below-zero : (z : ℤ) → non_neg z ≡ not (lt_z z (pos 0))
 not-below-zero (pos n) = rw (le-ltb n 0 (omega arith))
 not-below-zero (negsuc n) = refl
 
-pub negative : {z : ℤ} → SFits w64 z → lt_z (to_z w64 (of_z w64 z)) (pos 0) ≡ true → (positive_part z ≡ 0) × (negative_part z ≡ suc (mag z))
-negative {z} f e = below-zero z (rw (back f) at e)
-
-pub not_negative : {z : ℤ} → SFits w64 z → lt_z (to_z w64 (of_z w64 z)) (pos 0) ≡ false → z ≡ pos (mag z)
-not_negative {z} f e = from_zero z (rw (back f) at e)
-
 -- ---- unsigned words
 
 -- the product of two u32 in a u64
@@ -58,3 +43,8 @@ wide-product {a} {b} h k =
     let l : a ≤ past_u32 - 1 = omega arith in
     let m : b ≤ past_u32 - 1 = omega arith in
     record { fits = omega (arith, mul-le-mul l m) }
+
+-- ---- the root, where it lies from low on and below the next number
+
+pub root_between : (n low high : ℕ) → low < high → high ≤ low + 1 → low * low ≤ n → n < high * high → low ≡ square_root n
+root_between n low high a b c d = let e : high ≡ suc low = omega arith in root-unique n low c (rw (← e) d)

@@ -1,5 +1,6 @@
 // Remainders modulo p, for every p that a u32 holds: the signed reading, the remainder of a whole number, and the
-// operations. Products are taken in a u64, where they are exact.
+// operations. Products are taken in a u64, where they are exact. p is a parameter, and that a remainder is below it a clause: a `Residue`
+// that kept its p would be two words, where a table lends one, and what is asked of p differs (above 0, prime).
 ghost use Rattle.std.specs.Prelude.{◌≡◌, ◌+◌, ◌*◌, ◌%◌, ◌<◌, eqb, ltb, pos, ◌+ℤ◌, ◌-ℤ◌, ◌*ℤ◌, length, get_or, set};
 ghost use Rattle.meaning.specs.Machine.{past_u32};
 ghost use Rattle.meaning.specs.Number.{remainder, signed};
@@ -7,7 +8,7 @@ ghost use Rattle.meaning.specs.Number.{remainder, signed};
 use super::cell::Cell;
 use super::whole::{Whole, magnitude};
 
-// A remainder modulo p, below p.
+// A remainder, below the p that it is of, which its users say: the type keeps no p.
 #[derive(Clone, Copy, PartialEq, Eq, PartialOrd, Ord)]
 pub struct Residue(pub(crate) u32);
 
@@ -20,7 +21,8 @@ impl From<u32> for Residue {
     }
 }
 
-// ---- cells of a lent table
+// ---- cells of a lent table. Not generic functions, one each with those of `whole`: the name says at each use which kind of
+// number the lent memory holds (docs/DECISIONS.md)
 
 // What stands in a cell.
 pub fn residue_at(table: &[u32], at: Cell) -> Residue
@@ -68,6 +70,7 @@ fn reduced(n: u64, p: u32) -> u32
 }
 
 // The remainder that x leaves modulo p, also of the lowest i64: below zero, x is -(m + 1) for its magnitude m.
+#[tactic(auto, unfolding(meaning::specs::Number::remainder))]
 pub fn remainder_of(x: Whole, p: u32) -> Residue
     requires { 0 < p }
     ensures { result.0 ≡ remainder p x.0 }
@@ -116,6 +119,7 @@ pub fn difference(a: Residue, b: Residue, p: u32) -> Residue
 }
 
 // a · b modulo p, also where a or b is p or more.
+#[tactic(auto, unfolding(meaning::specs::Number::remainder))]
 pub fn product(a: Residue, b: Residue, p: u32) -> Residue
     requires { 0 < p }
     ensures { (result.0 < p) × (result.0 ≡ remainder p (pos a.0 *ℤ pos b.0)) }

@@ -5,27 +5,22 @@ ghost use Rattle.std.specs.Prelude.{◌≡◌, ◌*◌, ◌≤◌, ◌<◌};
 ghost use Rattle.meaning.specs.Machine.{past_u32};
 ghost use Rattle.algebra.specs.Root.{square_root};
 
-// Every u64 is below the square of 2^32.
-const LARGEST_BOUND: u64 = 4_294_967_296;
-
+// The first power of 2 whose square is above n, and 2 where n is 0. With 2^k the last power of 2 that is not above n, n is below 2^(k+1), and
+// k+1 is at most twice the exponent k/2+1.
+#[tactic(auto, using(crate::proofs::RootBound::bound_above))]
 fn above_root(n: u64) -> u64
     ensures { (1 ≤ result) × (result ≤ past_u32) × (n < result * result) }
 {
-    let mut high: u64 = 1;
-    while high < LARGEST_BOUND {
-        if n < high * high {
-            return high;
-        }
-        high = 2 * high;
-    }
-    LARGEST_BOUND
+    1 << (n.checked_ilog2().unwrap_or(0) / 2 + 1)
 }
 
+#[tactic(auto, using(crate::proofs::Word::root_between))]
 pub fn square_root(n: u64) -> u64
     ensures { result ≡ square_root n }
 {
     let mut low: u64 = 0;
     let mut high = above_root(n);
+    // Either end moves, and how many turns there are is not known before: no iterator runs so.
     while 1 < high - low {
         let middle = low + (high - low) / 2;
         if middle * middle <= n {

@@ -13,7 +13,7 @@ use Rattle.std.proofs.lemmas.Fmt.{PrependsLastDigit, decimal_from_prepends, leng
 use Rattle.meaning.specs.Machine.{past_u64}
 use Rattle.meaning.specs.Text.{decimal_before, decimal_of}
 use Rattle.output.specs.Written.{Written}
-use Rattle.meaning.proofs.Decimal.{length-short, length-long, some-digit, decimal-most}
+use Rattle.meaning.proofs.Decimal.{length-short, length-long, some-digit, decimal-most, decimal-of-64}
 
 prepends : PrependsLastDigit decimal_before
 unfolding decimal_before
@@ -22,9 +22,9 @@ prepends = record {
   more = λ k n acc h. simp (le-ltb n 10 h);
 }
 
-pub decimal-written : (n : ℕ) → n < past_u64 → decimal n ≡ decimal_of n
+pub decimal_written : (n : ℕ) → n < past_u64 → decimal n ≡ decimal_of n
 unfolding decimal_of
-decimal-written n h = sym (decimal_from_prepends decimal_before prepends (suc n) n [] h (omega (arith, length-decimal-le_succ n h)) ∙ append-nil (decimal n))
+decimal_written n h = sym (decimal_from_prepends decimal_before prepends (suc n) n [] h (omega (arith, length-decimal-le_succ n h)) ∙ append-nil (decimal n))
 
 -- a number from a power of 10 on has more digits than its exponent says
 decimal-least : (k n : ℕ) → 10 ^ k ≤ n → suc k ≤ length (decimal_of n)
@@ -36,16 +36,19 @@ decimal-least (suc k) n h =
     omega (arith, length-long n (omega (arith, power, some-power)), decimal-least k (n / 10) (omega (arith, power)))
 
 -- what the library's logarithm says of how many digits there are
-pub log-length : (n : ℕ) (log : Answer ℕ) → IfNone log (n ≡ 0) → IfSome log (λ k. 10 ^ k ≤ n) → IfSome log (λ k. n < 10 * 10 ^ k)
+pub log_length : (n : ℕ) (log : Answer ℕ) → IfNone log (n ≡ 0) → IfSome log (λ k. 10 ^ k ≤ n) → IfSome log (λ k. n < 10 * 10 ^ k)
     → unwrap_or log 0 + 1 ≡ length (decimal_of n)
-log-length n None none low high = omega (arith, length-short n (omega (arith, none)))
-log-length n (Some k) none low high =
+log_length n None none low high = omega (arith, length-short n (omega (arith, none)))
+log_length n (Some k) none low high =
     let power : 10 ^ suc k ≡ 10 ^ k * 10 = pow-suc 10 k in
     omega (arith, decimal-least k n low, decimal-most k n (omega (arith, power, high)))
 
 -- digits that are written to end at their count start at the start
-pub digits-stand : (digits before after : List ℕ) (start count : ℕ) → start + length digits ≡ count → count ≡ length digits
+pub digits_stand : (digits before after : List ℕ) (start count : ℕ) → start + length digits ≡ count → count ≡ length digits
     → drop start after ≡ digits ++ drop count before → Written digits before after count
-digits-stand digits before after start count ends counted written =
+digits_stand digits before after start count ends counted written =
     let first : start ≡ 0 = omega arith in
     record { stands = rw (first, counted) at written; counted = counted }
+
+-- a number of 64 bits has few digits, as the check applies it
+pub ruleset short_digits = (decimal-of-64)

@@ -14,11 +14,11 @@ use Rattle.meaning.proofs.Decimal.{number-plain, number-signed}
 use Rattle.number.proofs.Word.{below-zero, from_zero}
 
 module _ (z : ℤ) {size : ℕ} (sized : size ≡ mag z) {below : Bool} (tested : below ≡ lt_z z (pos 0)) where
-  pub signed-text : below ≡ true → number_text z ≡ 45 ∷ decimal_of (size + 1)
-  signed-text t = rw sized (number-signed z (below-zero z (sym tested ∙ t)).1)
+  pub signed_text : below ≡ true → number_text z ≡ 45 ∷ decimal_of (size + 1)
+  signed_text t = rw sized (number-signed z (below-zero z (sym tested ∙ t)).1)
 
-  pub plain-text : below ≡ false → number_text z ≡ decimal_of size
-  plain-text t = rw sized (number-plain z (from_zero z (sym tested ∙ t)))
+  pub plain_text : below ≡ false → number_text z ≡ decimal_of size
+  plain_text t = rw sized (number-plain z (from_zero z (sym tested ∙ t)))
 
-pub size-most : {z : ℤ} {size : ℕ} → SFits w64 z → size ≡ mag z → size < past_i64
-size-most fits sized = omega (arith, sized, fits.sfits)
+pub size_most : {z : ℤ} {size : ℕ} → SFits w64 z → size ≡ mag z → size < past_i64
+size_most fits sized = omega (arith, sized, fits.sfits)

@@ -76,3 +76,6 @@ module _ {text xs ys before : List ℕ} (halves : Halves text xs ys before) wher
 
       pub written-whole : Written text before (put_mid n (length first - n) first last) (n + m)
       written-whole = subst (λ (t : List ℕ). Written t before (put_mid n (length first - n) first last) (n + m)) halves.parts (written_next w v)
+
+-- what has room where a text is written in two parts, as the check applies it
+pub ruleset room_for_parts = (first-room, rest-room)

@@ -13,7 +13,7 @@ use borrow.Author.Tests.{eqb-true, eqb-false}
 use Rattle.meaning.specs.Number.{no_divisor, odd_prime}
 use Rattle.meaning.proofs.Number.{odd-prime}
 use Rattle.algebra.specs.Prime.{Prime}
-use Rattle.algebra.proofs.Test.{left, right, not-false, either, every, every_below, every_below-at}
+use Rattle.algebra.proofs.Test.{≡-test, left, right, not-false, either, every, every_below, every_below-at}
 use Rattle.algebra.proofs.Prime.{prime-by-trial, prime-no-remainder}
 use Rattle.std.specs.List.{All, list_any}
 use Rattle.meaning.specs.Machine.{past_u16, past_u32}
@@ -105,13 +105,15 @@ table-entry p found =
     let q = w.0 in
     (q, test-prime q (left (is_prime q) (ltb q table_end) w.1), ltb→lt q table_end (right (is_prime q) (ltb q table_end) w.1), w.2)
 
-pub primes-short : All (λ q. (0 < q) × (0 + q < past_u32)) primes
-unfolding entry-test
-primes-short k d l =
-    let q = get_or primes k d in
-    let t = each-entry entry-test primes entries-right k d l in
-    let above = (test-prime q (left (is_prime q) (ltb q table_end) t)).above-one in
-    (omega arith, omega (arith, ltb→lt q table_end (right (is_prime q) (ltb q table_end) t)))
+-- with an entry added, a short number stays short, whatever table it is of
+abbrev pub step-test : ℕ → Bool
+step-test s = ltb 0 s && ltb s table_end
+
+pub steps_short : (d : ℕ) (xs : List ℕ) → d < past_u16 → every step-test xs ≡ true → All (λ s. (0 < s) × (d + s < past_u32)) xs
+steps_short d xs h steps k e l =
+    let s = get_or xs k e in
+    let t = each-entry step-test xs (≡-test (every step-test xs) steps) k e l in
+    (ltb→lt 0 s (left (ltb 0 s) (ltb s table_end) t), omega (arith, ltb→lt s table_end (right (ltb 0 s) (ltb s table_end) t)))
 
 -- ---- the same as the check applies them
 
@@ -151,26 +153,18 @@ prime-by-table n l none t = prime-by-prime-roots n (omega arith) try
 
 -- ---- the wheel
 
-step-test : ℕ → Bool
-step-test s = ltb 0 s && ltb s 30
+turn-test : ℕ → Bool
+turn-test s = ltb 0 s && ltb s 30
 
-steps-right : T (every step-test wheel)
-unfolding step-test
+steps-right : T (every turn-test wheel)
+unfolding turn-test
 steps-right = tt
-
--- with a step of the wheel a short number stays short
-pub wheel-short : (n : ℕ) → n < past_u16 → All (λ s. (0 < s) × (n + s < past_u32)) wheel
-unfolding step-test
-wheel-short n h k d l =
-    let s = get_or wheel k d in
-    let t = each-entry step-test wheel steps-right k d l in
-    (ltb→lt 0 s (left (ltb 0 s) (ltb s 30) t), omega (arith, ltb→lt s 30 (right (ltb 0 s) (ltb s 30) t)))
 
 -- a step of the wheel at which a number is divided
 pub wheel-entry : (n d : ℕ) → list_any (λ s. eqb (n % (d + s)) 0) wheel ≡ true → (s : ℕ) × (0 < s) × (s < 30) × (n % (d + s) ≡ 0)
-unfolding step-test
+unfolding turn-test
 wheel-entry n d found =
-    let w = entry step-test (λ s. eqb (n % (d + s)) 0) wheel steps-right found in
+    let w = entry turn-test (λ s. eqb (n % (d + s)) 0) wheel steps-right found in
     let s = w.0 in
     (s, ltb→lt 0 s (left (ltb 0 s) (ltb s 30) w.1), ltb→lt s 30 (right (ltb 0 s) (ltb s 30) w.1), eqb-true (n % (d + s)) 0 w.2)
 

@@ -29,9 +29,11 @@ pub fn is_odd_prime(n: u32) -> bool
         return false;
     }
     // Of these primes the divisors were tried in the proof.
-    match n {
-        998244353 | 2013265921 | 2130706433 | 2147483647 | 4294967291 => return true,
-        _ => {}
+    if matches!(
+        n,
+        998244353 | 2013265921 | 2130706433 | 2147483647 | 4294967291
+    ) {
+        return true;
     }
     // Below 256 the table holds every prime, and no division is needed.
     if n < 256 {

@@ -106,3 +106,6 @@ module _ {input : List ℕ} {start : ℕ} {stored : List ℤ} {at count : ℕ} (
               r.numbers-left ∙ rw (lines_at input at ended h, is)
               (after_next r.numbers n (numbers_of (lines_from input (end_of input at + 1))));
         })
+
+-- where reading starts, and that a number's line ends, as the check applies them
+pub ruleset inputs_begun = (reading-start, number-ends)

@@ -15,6 +15,8 @@ use Rattle.meaning.proofs.Decimal.{decimal-most, decimal-of-32, decimal-of-64}
 use Rattle.program.specs.Texts.{pair_text, heading_text, longest_pair}
 use Rattle.program.specs.Answered.{longest_answer}
 use Rattle.program.proofs.Texts.{table-parts, cell_parts}
+use Rattle.service.proofs.Replies.{number-most}
+use Rattle.program.proofs.Answering.{answered-room, answered-no-room}
 
 pub pair-length : (first second : ℕ) → length (pair_text first second) ≡ length (decimal_of first) + length (decimal_of second) + 2
 unfolding tabbed
@@ -82,3 +84,13 @@ table-most t h small = omega (arith, table-length t, decimal-most 3 (length t) (
 
 pub refusal-most : (number place : ℕ) → number < past_u32 → place < past_u64 → length (refusal_text (reply number place)) ≤ longest_answer
 refusal-most number place h k = omega (arith, refusal-length number place, pair-length number place, decimal-of-32 number h, decimal-of-64 place k)
+
+-- ---- the laws that the check applies
+
+-- a number's digits are few, and a line's length is that of its two numbers and two bytes more
+pub ruleset line_lengths = (decimal-of-64, pair-length, pair-most, summing_start)
+
+pub ruleset refusal_lengths = (refusal-length)
+
+-- an answer is written where it has room, and is short
+pub ruleset answers = (refusal-most, table-most, number-most, answered-room, answered-no-room)

@@ -87,7 +87,7 @@ module _ {input : List ℕ} {at lines : ℕ} (s : Seeking input at lines) where
             ap (λ (i : ℕ). take i input) (sym upto) ∙ take-add at (end - at) input in
             rw (add-one end, take-suc input end 0 within, found-byte found within, parted, s.listed) (append_assoc (joined s.passed) line (10 ∷ []))
 
-    pub seeking-found : same ≡ true → EndsAt input at lines
+    pub seeking-found : same ≡ true → EndsAt input (record { at = at; lines = lines })
     unfolding parts_of after_lines bytes
     seeking-found is = record {
       parts = record { list = s.passed; inputs = lines_from input (at + 4) };

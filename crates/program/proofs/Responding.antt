@@ -3,7 +3,7 @@ use mathlib.Core.Path.{◌≡◌, refl, sym, ap, subst, ◌∙◌}
 use mathlib.Core.Bool.{Bool, true, false}
 use mathlib.Core.List.{List, []}
 use mathlib.Core.Option.{none, some}
-use Prim.Native.Nat.{ℕ, suc, ◌+◌, ◌-◌, ◌*◌, ◌≤◌, ◌<◌}
+use Prim.Native.Nat.{ℕ, suc, ◌+◌, ◌*◌, ◌≤◌, ◌<◌}
 use native.Mathlib.Omega.{arith}
 use borrow.Author.Tests.{le-leb, lt-leb}
 use lib.IntN.{ℤ}
@@ -22,20 +22,21 @@ use Rattle.reader.specs.declared.counts.Counts.{Counts}
 use Rattle.service.specs.Walk.{ListRead, CountsGiven}
 use Rattle.service.proofs.Made.{made-wrong-count, make-read}
 use Rattle.service.proofs.Scan.{first-from, none_from, found_inside}
-use Rattle.program.specs.Input.{EndYield, NumbersRead, InputsYield}
+use Rattle.program.specs.Input.{EndsAt, EndYield, NumbersRead, InputsYield}
 use Rattle.program.specs.declared.input.Ending.{Ending}
 use Rattle.std.specs.Prelude.{Some, None, Result, Ok, Err}
 use Rattle.std.specs.Prelude.{Option as Perhaps}
 use Rattle.text.proofs.Places.{lines-few}
 use Rattle.program.proofs.Limits.{list-most, joined-few}
-use Rattle.program.specs.Answered.{ListGiven, InputsGiven}
+use Rattle.program.proofs.Answering.{passed_text, refused-alone}
+use Rattle.program.specs.Made.{ListGiven, InputsGiven}
 
 -- ---- the answers
 
 abbrev is_number : List ℕ → Bool
 is_number l = is_some (number l)
 
-module _ {input : List ℕ} {end lines : ℕ} (given : ListGiven input end lines) where
+module _ {input : List ℕ} {end : Ending} (given : ListGiven input end) where
   abbrev parts : Parts
   parts = given.ends.parts
 
@@ -43,29 +44,21 @@ module _ {input : List ℕ} {end lines : ℕ} (given : ListGiven input end lines
   unfolding on_parts
   whole = sym (ap on_parts given.ends.are)
 
-  -- the part of the input up to `end`, as the code lends it
-  upto : take (end - 0) input ≡ take end input
-  upto =
-      let all : end - 0 ≡ end = omega arith in
-      rw all
-
-  pub list-refused : (n i : ℕ) → reading (take (end - 0) input) ≡ refused n i → refusal_text (reply n i) ≡ on_parts (parts_of (lines_of input))
+  pub list-refused : (n i : ℕ) → reading (take end.at input) ≡ refused n i → refusal_text (reply n i) ≡ on_parts (parts_of (lines_of input))
   unfolding answer_parts on_reading
   list-refused n i e =
-      let here : reading (joined parts.list) ≡ refused n i = ap reading (sym given.ends.listed ∙ sym upto) ∙ e in
+      let here : reading (joined parts.list) ≡ refused n i = ap reading (sym given.ends.listed) ∙ e in
       let answer : refusal_text (reply n i) ≡ answer_parts parts = rw here in
       answer ∙ whole
 
-  pub list_read : {p : ℕ} {c : Counts} → CountsGiven (take (end - 0) input) p c → InputsGiven input end lines c.cells.0
-  list_read {p} {c} l =
-      let m : CountsGiven (take end input) p c = subst (λ (t : List ℕ). CountsGiven t p c) upto l in
-      record { given = given; listed = m.listed; cells_are = m.counts-are.cells_are }
+  pub list_read : {p : ℕ} {c : Counts} → CountsGiven (take end.at input) p c → InputsGiven input end c.cells.0
+  list_read l = record { given = given; listed = l.listed; cells_are = l.counts-are.cells_are }
 
-  module _ (l : ListRead (take end input)) where
+  module _ (l : ListRead (take end.at input)) where
     here : reading (joined parts.list) ≡ read l.lines l.last
     here = ap reading (sym given.ends.listed) ∙ l.is_read
 
-    pub place-fits : (i : ℕ) → first_fail is_number 0 (lines_from input (end + 4)) ≡ some i → lines + 1 + i ≤ 2 * text_limit + 1
+    pub place-fits : (i : ℕ) → first_fail is_number 0 (lines_from input (end.at + 4)) ≡ some i → end.lines + 1 + i ≤ 2 * text_limit + 1
     place-fits i e =
         omega (
           arith,
@@ -73,25 +66,25 @@ module _ {input : List ℕ} {end lines : ℕ} (given : ListGiven input end lines
           given.ends.counted,
           joined-few parts.list,
           ap length given.ends.listed,
-          length-take-le end input (omega (arith, given.ends.inside)),
+          length-take-le end.at input (omega (arith, given.ends.inside)),
           given.ends.inside,
-          found_inside is_number [] (lines_from input (end + 4)) i e,
-          lines-few (drop (end + 4) input),
-          length-drop (end + 4) input,
+          found_inside is_number [] (lines_from input (end.at + 4)) i e,
+          lines-few (drop (end.at + 4) input),
+          length-drop (end.at + 4) input,
         )
 
-    pub no_number : (i : ℕ) → first_fail is_number 0 (lines_from input (end + 4)) ≡ some i → refusal_text (reply 3 (lines + 1 + i)) ≡ on_parts (parts_of (lines_of input))
+    pub no_number : (i : ℕ) → first_fail is_number 0 (lines_from input (end.at + 4)) ≡ some i → refusal_text (reply 3 (end.lines + 1 + i)) ≡ on_parts (parts_of (lines_of input))
     unfolding answer_parts on_reading on_some
     no_number i e =
-        let place : suc (length parts.list) + i ≡ lines + 1 + i = omega (arith, given.ends.counted) in
+        let place : suc (length parts.list) + i ≡ end.lines + 1 + i = omega (arith, given.ends.counted) in
         let found : first_fail is_number (suc (length parts.list)) parts.inputs ≡ some (suc (length parts.list) + i) =
         first-from is_number [] parts.inputs (suc (length parts.list)) i (rw (← given.ends.left) e) in
-        let answer : refusal_text (reply 3 (lines + 1 + i)) ≡ answer_parts parts = rw (here, found, place) in
+        let answer : refusal_text (reply 3 (end.lines + 1 + i)) ≡ answer_parts parts = rw (here, found, place) in
         answer ∙ whole
 
-    module _ {stored : List ℤ} {count : ℕ} (n : NumbersRead (lines_from input (end + 4)) stored count) where
+    module _ {stored : List ℤ} {count : ℕ} (n : NumbersRead (lines_from input (end.at + 4)) stored count) where
       abbrev column : List ℤ
-      column = or_none (numbers_of (lines_from input (end + 4)))
+      column = or_none (numbers_of (lines_from input (end.at + 4)))
 
       abbrev zeros : List ℕ
       zeros = replicate l.last.cells 0
@@ -113,12 +106,10 @@ module _ {input : List ℕ} {end lines : ℕ} (given : ListGiven input end lines
           ∙ made-whole
 
       pub made-answer : (cells : ℕ) → count ≤ value_limit → l.last.cells ≡ cells
-          → making_text (make_reply (take (end - 0) input) (take (count - 0) stored) (replicate cells 0)) ≡ on_parts (parts_of (lines_of input))
+          → making_text (make_reply (take end.at input) (take count stored) (replicate cells 0)) ≡ on_parts (parts_of (lines_of input))
       made-answer cells h e =
-          let same : count - 0 ≡ count = omega arith in
-          let all : take count stored ≡ column =
-          sym n.stands ∙ take_all value_limit column (omega (arith, n.counted)) in
-          rw (← e, upto, same, all) (ap making_text (sym (make-read (take end input) column zeros l)) ∙ made-whole)
+          let all : take count stored ≡ column = sym n.stands ∙ take_all value_limit column (omega (arith, n.counted)) in
+          rw (← e, all) (ap making_text (sym (make-read (take end.at input) column zeros l)) ∙ made-whole)
 
 -- ---- what was read of the inputs
 
@@ -153,37 +144,27 @@ module _ (input : List ℕ) where
         unfolding EndYield on_parts
         respond-missing e = sym (ap on_parts (refused_none 2 _ (subst (EndYield input) e found))) ∙ respond-parts
 
-        pub list-given : {end : Ending} → x ≡ Some end → ListGiven input end.at end.lines
+        pub list-given : {end : Ending} → x ≡ Some end → ListGiven input end
         unfolding EndYield
-        list-given e = record { short = short; ended = ended; ends = subst (EndYield input) e found }
+        list-given e = record { short = short; ends = subst (EndYield input) e found }
 
--- what a longer input is answered, as the check applies it
+-- ---- the answers that the check applies
+
+-- a longer input
 pub too_long : (input : List ℕ) → text_limit < length input → respond input ≡ refusal_text (reply 1 0)
 too_long input h = sym (respond-long input h)
 
--- the answers after a list that is read and lines that are all numbers, as the check applies them: by all that is known of the input's parts
-module _ (input : List ℕ) (end : ℕ) (parts : Parts) (ls : List Line) (last : Known) (stored : List ℤ) (count : ℕ)
-    (are : parts_of (lines_of input) ≡ some parts) (short : length input ≤ text_limit) (ended : is_ended input ≡ true)
-    (inside : end + 4 ≤ length input) (listed : take end input ≡ joined parts.list) (left : lines_from input (end + 4) ≡ parts.inputs)
-    (is_read : reading (take end input) ≡ read ls last) (p-most : last.p ≤ greatest)
-    (yields : InputsYield (lines_from input (end + 4)) stored (Ok count)) where
-  the-list : ListGiven input end (length parts.list)
-  the-list =
-      record {
-        short = short;
-        ended = ended;
-        ends = record { parts = parts; are = are; inside = inside; listed = listed; counted = refl; left = left };
-      }
+-- more inputs than a list can have values, after a list that is read: by all that is known of the input's parts
+pub too_many_inputs : (input : List ℕ) (end : Ending) (ps : Parts) (ls : List Line) (last : Known) (stored : List ℤ) (count : ℕ)
+    → parts_of (lines_of input) ≡ some ps → length input ≤ text_limit → end.at + 4 ≤ length input
+    → take end.at input ≡ joined ps.list → end.lines ≡ length ps.list → lines_from input (end.at + 4) ≡ ps.inputs
+    → reading (take end.at input) ≡ read ls last → last.p ≤ greatest → InputsYield (lines_from input (end.at + 4)) stored (Ok count)
+    → value_limit < count → on_parts (parts_of (lines_of input)) ≡ refusal_text (reply 16 0)
+too_many_inputs input end ps ls last stored count are short inside listed counted left is_read p-most yields h =
+    let ends : EndsAt input end = record { parts = ps; are = are; inside = inside; listed = listed; counted = counted; left = left } in
+    let given : ListGiven input end = record { short = short; ends = ends } in
+    let numbers = inputs-numbers (lines_from input (end.at + 4)) stored yields refl in
+    sym (too_many given (record { lines = ls; last = last; is_read = is_read; p-most = p-most }) numbers h)
 
-  abbrev the-lines : ListRead (take end input)
-  the-lines = record { lines = ls; last = last; is_read = is_read; p-most = p-most }
-
-  the-numbers : NumbersRead (lines_from input (end + 4)) stored count
-  the-numbers = inputs-numbers (lines_from input (end + 4)) stored yields refl
-
-  pub too_many_inputs : value_limit < count → on_parts (parts_of (lines_of input)) ≡ refusal_text (reply 16 0)
-  too_many_inputs h = sym (too_many the-list the-lines the-numbers h)
-
-  pub inputs_answered : (cells : ℕ) → count ≤ value_limit → last.cells ≡ cells
-      → on_parts (parts_of (lines_of input)) ≡ making_text (make_reply (take (end - 0) input) (take (count - 0) stored) (replicate cells 0))
-  inputs_answered cells h e = sym (made-answer the-list the-lines the-numbers cells h e)
+-- any other input, by whether its last line is ended and whether it has a line `end`
+pub ruleset input_answered = (respond-unended, respond-parts, respond-missing, list-given, passed_text, refused-alone)

@@ -11,18 +11,18 @@ use Rattle.meaning.specs.Program.{Parts, parts_of, joined, is_some, or_none}
 use Rattle.text.specs.Place.{lines_from}
 use Rattle.program.specs.declared.input.Ending.{Ending}
 
--- the first line `end` starts at `at`, after so many lines. FORMAT 11.3, 11.4
-pub record EndsAt (input : List ℕ) (at lines : ℕ) : Type 0 where
+-- the first line `end` starts there, after so many lines. FORMAT 11.3, 11.4
+pub record EndsAt (input : List ℕ) (end : Ending) : Type 0 where
   pub parts : Parts
   pub are : parts_of (lines_of input) ≡ some parts
-  pub inside : at + 4 ≤ length input
-  pub listed : take at input ≡ joined parts.list
-  pub counted : lines ≡ length parts.list
-  pub left : lines_from input (at + 4) ≡ parts.inputs
+  pub inside : end.at + 4 ≤ length input
+  pub listed : take end.at input ≡ joined parts.list
+  pub counted : end.lines ≡ length parts.list
+  pub left : lines_from input (end.at + 4) ≡ parts.inputs
 
 -- where it is, or that it is missing. FORMAT 11.3
 unfoldable pub EndYield : List ℕ → Perhaps Ending → Type 0
-EndYield input (Some end) = EndsAt input end.at end.lines
+EndYield input (Some end) = EndsAt input end
 EndYield input None = or_refused 2 (parts_of (lines_of input)) ≡ refused_by 2
 
 -- all lines are numbers, so many; the first of them are stored, as many as have room

@@ -1,4 +1,5 @@
-// The text of an answer: a refusal's line, or a table's lines.
+// The text of an answer: a refusal's line, or a table's lines. The room of a part stays a clause of each function that writes: it is of this text. How
+// much was written is answered, as by std's `write`, and a place in the part goes on by it. `as`, as there is no `From` between usize and u64.
 ghost use Rattle.std.specs.Prelude.{◌≡◌, ◌≤◌, length};
 ghost use Rattle.meaning.specs.Refusal.{cell_limit};
 ghost use Rattle.meaning.specs.Program.{refusal_text, cells_text, table_text};
@@ -9,13 +10,14 @@ ghost use Rattle.program.specs.Texts.{longest_pair, pair_text, heading_text};
 use output::{decimal_length, write_bytes, write_field};
 use refusal::Refused;
 
-const TAB: u8 = 9;
+const TAB: u8 = b'\t';
 
-const LINE_END: u8 = 10;
+const LINE_END: u8 = b'\n';
 
 // ---- a line of two numbers
 
 // How long a line of two numbers is.
+#[tactic(auto, using(crate::proofs::Lengths::line_lengths))]
 fn pair_length(first: u64, second: u64) -> usize
     ensures yields { result ≡ length (pair_text first second) }
     ensures short { result ≤ longest_pair }
@@ -34,6 +36,7 @@ fn write_pair(part: &mut [u8], first: u64, second: u64) -> usize
 
 // ---- a refusal
 
+#[tactic(auto, using(crate::proofs::Lengths::refusal_lengths))]
 pub fn refusal_length(refused: Refused) -> usize
     ensures { result ≡ length (refusal_text (refused_reply refused)) }
 {
@@ -52,6 +55,7 @@ pub fn write_refusal(part: &mut [u8], refused: Refused) -> usize
 
 // ---- a table
 
+#[tactic(auto, using(crate::proofs::Lengths::line_lengths))]
 pub fn table_length(table: &[u32]) -> usize
     requires { length table.now ≤ cell_limit }
     ensures { result ≡ length (table_text table.now) }

@@ -6,9 +6,8 @@ use Prim.Native.Nat.{◌≤◌}
 use native.Mathlib.Omega.{arith}
 use lib.ListN.{length, get_or}
 use lib.IntN.{ℤ, pos, nat_abs}
-use lib.Signed.{lt_z, ◌≤ℤ◌}
-use Rattle.algebra.proofs.Integer.Linear.{linear}
-use Rattle.number.proofs.Word.{from_zero, not-below-zero}
+use lib.Signed.{lt_z}
+use Rattle.number.proofs.Word.{not-below-zero}
 use Rattle.text.specs.Word.{word_of}
 use Rattle.text.specs.declared.Word.{Word}
 use Rattle.text.specs.declared.Word.TheVariants.{Field, In, Span, Sum, Relu, Which, Max, Root}
@@ -89,9 +88,6 @@ module _ {w : Word} {numbers : List ℤ} (parsed : ParsedLine w numbers) (is : w
   first-negative t = rw is (first-not-prime numbers (over-prime ∙ rw t))
 
   module _ (t : lt_z z (pos 0) ≡ false) where
-    pub first-natural : pos 0 ≤ℤ z
-    first-natural = let is = from_zero z t in omega linear
-
     pub first-composite : odd_prime (nat_abs z) ≡ false → stops 5 ≡ step_of 0 fresh (line_with (word_of w) numbers)
     unfolding word_of
     first-composite o = rw is (first-not-prime numbers (over-prime ∙ rw (t, o)))

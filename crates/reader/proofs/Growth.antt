@@ -14,14 +14,13 @@ use Rattle.std.proofs.lemmas.List.{length-map, map-append, get_or-set_other}
 use Rattle.std.proofs.lemmas.Grind.{get_or-set_at}
 use Rattle.std.proofs.lemmas.Bool.{cases_eq}
 use Rattle.std.proofs.Math.Arith.{lt_of_le-ne}
-use Rattle.std.specs.Prelude.{Ok, Err}
+use Rattle.std.specs.Prelude.{Ok}
 use Rattle.meaning.specs.Line.{Line}
 use Rattle.meaning.specs.Known.{Ends, Known}
 use Rattle.meaning.specs.Meaning.{gadget, places_from, after}
 use Rattle.meaning.specs.Refusal.{value_limit, on_some, rules, first_broken}
 use Rattle.meaning.specs.Kept.{Keeps}
 use Rattle.meaning.proofs.Kept.{keeps-all}
-use Rattle.refusal.specs.declared.refused.Refusal.{Refusal}
 use Rattle.rules.specs.Ready.{BoundedEnds, greatest}
 use Rattle.rules.specs.Yield.{refuses, makes, yield_of, ends_meaning}
 use Rattle.rules.specs.declared.ends.Ends.{Ends as ReadEnds}
@@ -156,8 +155,3 @@ module _ {s : Known} {st : State} {places : List ℕ} (held : Held s st places) 
       left = (few-values held l size (λ k. (grows-so k).adds) (gadget s l).made yields, drop-set-lt (st.counts.values + size.values) st.ends st.counts.values e (omega (arith, one)));
       sized = sized-entered st st.counts.values (st.counts.values + size.values) e held.sized.sized small (omega (arith, room, held.sized.long)) (λ i h o. lt_of_le-ne (omega (arith, one)) o);
     }
-
--- ---- a line that is refused
-
-pub refused-left : {st : State} (broken : Refusal) → WithinLimits st → Stepped (Err broken) st st
-refused-left broken sized = record { prime = refl; long = refl; left = refl; sized = sized.sized }

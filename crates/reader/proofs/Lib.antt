@@ -2,6 +2,7 @@
 pub mod Sizes
 pub mod Growth
 pub mod Narrowing
+pub mod Placing
 pub mod Steps
 pub mod Firsts
 pub mod Stopping

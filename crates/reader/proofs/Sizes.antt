@@ -2,7 +2,7 @@
 use mathlib.Core.Path.{◌≡◌, refl, sym, ap, ◌∙◌}
 use mathlib.Core.Bool.{true}
 use mathlib.Core.List.{List}
-use Prim.Native.Nat.{ℕ, suc, ◌+◌, ◌*◌, ◌<◌, ◌≤◌}
+use Prim.Native.Nat.{ℕ, suc, ◌+◌, ◌*◌}
 use native.Mathlib.Omega.{arith}
 use lib.Dec.{T, eqb, eqb→eq}
 use lib.ListN.{length, get_or}
@@ -29,7 +29,7 @@ use Rattle.text.specs.Word.{word_of}
 use Rattle.text.specs.declared.Word.{Word}
 use Rattle.text.specs.declared.Word.TheVariants.{Field, In, Span, Sum, Relu, Which, Max, Root}
 use Rattle.rules.specs.Yield.{line_with}
-use Rattle.reader.specs.Size.{counted, Adds, FewCounts, DigitSize, most_width, most_rows}
+use Rattle.reader.specs.Size.{counted, Adds, DigitSize}
 use Rattle.reader.specs.declared.counts.Counts.{Counts}
 
 -- ---- digit counts
@@ -101,59 +101,50 @@ count-is numbers n q only e =
     let counted = sym (only numbers) ∙ ap (λ (u : Word). (kind_of (word_of u)).is_counted numbers) (sym q) ∙ e in
     eqb→eq (length numbers) n (≡-test (eqb (length numbers) n) counted)
 
--- what a count tells of the line: how much it adds, which is at most one value, one input, 126 cells and 129 rows
+-- what a count tells of the line: how much it adds
 abbrev pub Sizes : Word → List ℤ → Counts → Type 0
-Sizes v numbers c = (
+Sizes v numbers c =
     (n : ℕ) (s : Known) → (kind_of (word_of v)).is_counted numbers ≡ true → Keeps n s (line_with (word_of v) numbers)
     → Adds s (line_with (word_of v) numbers) c
-    ) × FewCounts c
-
-few : {c : Counts} (values inputs cells rows : ℕ) → c ≡ counted values inputs cells rows → values ≤ 1 → inputs ≤ 1 → cells ≤ most_width → rows ≤ most_rows
-    → FewCounts c
-few values inputs cells rows e v i k r = rw e (v, i, k, r)
 
 module _ {v : Word} {c : Counts} (numbers : List ℤ) where
-  pub field-sizes : v ≡ Field → c ≡ counted 0 0 0 0 → Sizes v numbers c
+  pub field_sizes : v ≡ Field → c ≡ counted 0 0 0 0 → Sizes v numbers c
   unfolding word_of
-  field-sizes q e = (λ n s h k. rw (q, e) (adds-field s numbers 0), few 0 0 0 0 e (omega arith) (omega arith) (omega arith) (omega arith))
+  field_sizes q e n s h k = rw (q, e) (adds-field s numbers 0)
 
-  pub input-sizes : v ≡ In → c ≡ counted 1 1 1 0 → Sizes v numbers c
+  pub input_sizes : v ≡ In → c ≡ counted 1 1 1 0 → Sizes v numbers c
   unfolding word_of
-  input-sizes q e = (λ n s h k. rw (q, e) (adds-input s numbers 0), few 1 1 1 0 e (omega arith) (omega arith) (omega arith) (omega arith))
+  input_sizes q e n s h k = rw (q, e) (adds-input s numbers 0)
 
-  pub sum-sizes : v ≡ Sum → c ≡ counted 1 0 1 1 → Sizes v numbers c
+  pub sum_sizes : v ≡ Sum → c ≡ counted 1 0 1 1 → Sizes v numbers c
   unfolding word_of
-  sum-sizes q e = (λ n s h k. rw (q, e) (adds-sum s numbers 0), few 1 0 1 1 e (omega arith) (omega arith) (omega arith) (omega arith))
+  sum_sizes q e n s h k = rw (q, e) (adds-sum s numbers 0)
 
-module _ {v : Word} {c : Counts} (numbers : List ℤ) where
-  digit-sizes : (w : Word) (m i : ℕ) {values each cells rows : ℕ} → v ≡ w → (sized : DigitSize numbers (suc i) values each cells rows c) → suc i < m
-      → HasCount w m → ((kind_of (word_of w)).digits numbers ≡ digits_at numbers i)
-      → values ≤ 1 → each * sized.count + cells ≤ most_width → each * sized.count + rows ≤ most_rows
+  -- a line whose digit count stands at place i + 1
+  digit-sizes : (w : Word) (i : ℕ) {values each cells rows : ℕ} → v ≡ w → (sized : DigitSize numbers (suc i) values each cells rows c)
+      → ((kind_of (word_of w)).digits numbers ≡ digits_at numbers i)
       → ((s : Known) → size_at numbers (suc i) ≡ sized.count → Adds s (line_with (word_of w) numbers) (counted values 0 (each * sized.count + cells) (each * sized.count + rows)))
       → Sizes v numbers c
-  digit-sizes w m i q sized inside only is few-values few-cells few-rows adds = (
-    λ n s h kept.
-        let here : Keeps n s (line_with (word_of w) numbers) = rw q at kept in
-        rw (q, sized.counts-are) (adds s (digits-counted s (word_of w) numbers i sized.count is sized.is-count.1 here)),
-    few _ 0 _ _ sized.counts-are few-values (omega arith) few-cells few-rows,
-  )
+  digit-sizes w i q sized is adds n s h kept =
+      let here : Keeps n s (line_with (word_of w) numbers) = rw q at kept in
+      rw (q, sized.counts-are) (adds s (digits-counted s (word_of w) numbers i sized.count is sized.is-count.1 here))
 
   pub span-sizes : v ≡ Span → DigitSize numbers 2 0 1 0 1 c → Sizes v numbers c
   unfolding word_of kind_of
-  span-sizes q z = let few-digits = z.is-count.0 in digit-sizes Span 4 1 q z (omega arith) (λ j. refl) refl (omega arith) (omega arith) (omega arith) (λ s. adds-span s numbers z.count)
+  span-sizes q z = digit-sizes Span 1 q z refl (λ s. adds-span s numbers z.count)
 
   pub relu-sizes : v ≡ Relu → DigitSize numbers 2 1 1 3 5 c → Sizes v numbers c
   unfolding word_of kind_of
-  relu-sizes q z = let few-digits = z.is-count.0 in digit-sizes Relu 3 1 q z (omega arith) (λ j. refl) refl (omega arith) (omega arith) (omega arith) (λ s. adds-relu s numbers z.count)
+  relu-sizes q z = digit-sizes Relu 1 q z refl (λ s. adds-relu s numbers z.count)
 
   pub which-sizes : v ≡ Which → DigitSize numbers 3 1 1 3 5 c → Sizes v numbers c
   unfolding word_of kind_of
-  which-sizes q z = let few-digits = z.is-count.0 in digit-sizes Which 4 2 q z (omega arith) (λ j. refl) refl (omega arith) (omega arith) (omega arith) (λ s. adds-which s numbers z.count)
+  which-sizes q z = digit-sizes Which 2 q z refl (λ s. adds-which s numbers z.count)
 
   pub max-sizes : v ≡ Max → DigitSize numbers 3 1 2 1 3 c → Sizes v numbers c
   unfolding word_of kind_of
-  max-sizes q z = let few-digits = z.is-count.0 in digit-sizes Max 4 2 q z (omega arith) (λ j. refl) refl (omega arith) (omega arith) (omega arith) (λ s. adds-max s numbers z.count)
+  max-sizes q z = digit-sizes Max 2 q z refl (λ s. adds-max s numbers z.count)
 
   pub root-sizes : v ≡ Root → DigitSize numbers 2 1 4 2 5 c → Sizes v numbers c
   unfolding word_of kind_of
-  root-sizes q z = let few-digits = z.is-count.0 in digit-sizes Root 3 1 q z (omega arith) (λ j. refl) refl (omega arith) (omega arith) (omega arith) (λ s. adds-root s numbers z.count)
+  root-sizes q z = digit-sizes Root 1 q z refl (λ s. adds-root s numbers z.count)

@@ -38,8 +38,7 @@ use Rattle.lines.specs.Parsed.{LineRead}
 use Rattle.std.specs.Prelude.{Option as Answer, Some}
 use Rattle.lines.specs.declared.Line.{Line as Spelled}
 use Rattle.lines.proofs.Answers.{line-most, line-counted, line_small}
-use Rattle.rules.specs.Ready.{Ready, Represented}
-use Rattle.reader.specs.State.{WithinLimits}
+use Rattle.rules.specs.Ready.{Represented}
 use Rattle.reader.specs.declared.state.State.{State}
 use Rattle.reader.specs.Line.{ParsedLine, NotSpan, yield_by, line_yield}
 use Rattle.rules.specs.Yield.{Yield, refuses, yield_of, span_yield, line_with}
@@ -58,30 +57,19 @@ meaning-state held = record {
   cells_are = ap (λ (q : Known). q.cells) held.is;
 }
 
--- and that they are in order
-pub state-ready : {st : State} → WithinLimits st → Ready st.p st.counts.cells.0 (take st.counts.values st.ends)
-state-ready {st} sized =
-    let count = length-take-le st.counts.values st.ends (omega (arith, sized.few.values-most, sized.long)) in
-    record {
-      p-low = sized.p-low;
-      p-high = sized.p-high;
-      values-most = omega (arith, count, sized.few.values-most);
-      cells-most = sized.few.cells-most;
-      sized = λ i d h. let inside : i < st.counts.values = omega (arith, count) in rw (get_or-take st.counts.values st.ends i d inside) (sized.sized i d inside);
-    }
-
 -- a line with a word that is followed by n numbers and no other count
 module _ {v w : Word} {numbers : List ℤ} (n : ℕ) (parsed : ParsedLine v numbers) (q : v ≡ w) (only : HasCount w n) where
   counted-so : length numbers ≡ n
   counted-so = count-is numbers n q only parsed.counted
 
   -- its reader asks for its numbers
-  pub with-count : n ≤ length numbers
-  with-count = omega (arith, counted-so)
+  pub with_count : n ≤ length numbers
+  with_count = omega (arith, counted-so)
 
-  -- what it yields is what the line that was read yields
-  pub at_count : (s : Known) (x : Yield) → x ≡ line_yield s (line_with (word_of w) numbers) → x ≡ line_yield s (line_with (word_of v) numbers)
-  at_count s x h = h ∙ ap (λ (u : Word). line_yield s (line_with (word_of u) numbers)) (sym q)
+-- what a line yields is what the line of its kind yields
+pub by_word : {v w : Word} (numbers : List ℤ) (s : Known) (x : Yield) → v ≡ w → x ≡ line_yield s (line_with (word_of w) numbers)
+    → x ≡ line_yield s (line_with (word_of v) numbers)
+by_word numbers s x q h = h ∙ ap (λ (u : Word). line_yield s (line_with (word_of u) numbers)) (sym q)
 
 -- a line with a word that no number follows has none
 pub no-numbers : {v w : Word} {numbers : List ℤ} → ParsedLine v numbers → v ≡ w → HasCount w 0 → numbers ≡ []
@@ -93,9 +81,9 @@ no-numbers {numbers = numbers} parsed q only = none_left numbers (count-is numbe
 
 -- ---- a field line that comes later
 
-pub field-later : {v : Word} (s : Known) (ns : List ℤ) → v ≡ Field → refuses 4 ≡ line_yield s (line_with (word_of v) ns)
+pub field_later : {v : Word} (s : Known) (ns : List ℤ) → v ≡ Field → refuses 4 ≡ line_yield s (line_with (word_of v) ns)
 unfolding line_yield yield_by yield_of rules rules_with rules_within first_broken on_some is_placed kind_of word_of
-field-later s ns q = rw q refl
+field_later s ns q = rw q refl
 
 -- ---- the lines that narrow no ends
 
@@ -114,6 +102,11 @@ span_or_other Root = inr tt
 -- a word that is told apart from `span` by an equation
 pub other_than_span : (v : Word) → (v ≡ Span → ⊥) → NotSpan (word_of v)
 other_than_span v h = ⊎_elim (λ e. absurd (h e)) (λ o. o) (span_or_other v)
+
+-- a span line is no other
+pub no_other : {v : Word} → v ≡ Span → NotSpan (word_of v) → (m n : ℕ) → m ≡ n
+unfolding word_of
+no_other q o m n = absurd (rw q at o)
 
 pub yield-by-word : (s : Known) (w : Meant) (ns : List ℤ) → NotSpan w → line_yield s (line_with w ns) ≡ yield_of s (line_with w ns)
 unfolding line_yield yield_by
@@ -182,9 +175,9 @@ unfolding step_option
 line_step n s e h = rw e h
 
 -- the line reader's answer, as a step asks for it
-module _ {line : List ℕ} {before after : List ℤ} {r : Answer Spelled} {l : Spelled} (read : LineRead line before after r) (long : length before ≡ most_numbers) (q : r ≡ Some l) where
+module _ {line : List ℕ} {before after : List ℤ} {r : Answer Spelled} {l : Spelled} (read : LineRead line before after r) (long : length after ≡ most_numbers) (q : r ≡ Some l) where
   pub numbers-fit : l.count ≤ length after
-  numbers-fit = omega (arith, line-most read q, read.left.kept ∙ long)
+  numbers-fit = omega (arith, line-most read q, long)
 
   pub line-parsed : ParsedLine l.word (take l.count after)
   line-parsed =

@@ -9,7 +9,6 @@ use native.Mathlib.Numerals.{add-one}
 use lib.Dec.{leb→le}
 use lib.ListN.{length, take, length-append, length-set}
 use lib.Seq.{length-take-le}
-use lib.IntN.{ℤ}
 use Rattle.std.proofs.lemmas.List.{length-map}
 use Rattle.std.specs.Prelude.{Ok}
 use Rattle.meaning.specs.Number.{OddPrime}
@@ -18,7 +17,6 @@ use Rattle.meaning.specs.Known.{Known}
 use Rattle.meaning.specs.Meaning.{gadget, after}
 use Rattle.meaning.specs.Refusal.{value_limit, cell_limit, Reading, on_reading, rules, first_broken, plain, read_line, read_from}
 use Rattle.meaning.specs.Kept.{Keeps}
-use Rattle.meaning.specs.Word.{most_numbers}
 use Rattle.meaning.proofs.Kept.{keeps-all}
 use Rattle.text.specs.Place.{lines_from}
 use Rattle.rules.specs.Ready.{greatest}
@@ -140,8 +138,7 @@ module _ {lines left : List (List ℕ)} {p : ℕ} {st : State} {places : List �
 -- ---- the walk over a text
 
 -- the lines are those of a text from `start` on, and line n starts at `at`; no more lines than bytes stand before it
-pub record Walked (list : List ℕ) (start p : ℕ) (numbers : List ℤ) (st : State) (places : List ℕ) (at n : ℕ) : Type 0 where
-  pub inside : at ≤ length list
+pub record Walked (text : List ℕ) (start p : ℕ) (st : State) (places : List ℕ) (at n : ℕ) : Type 0 where
+  pub inside : at ≤ length text
   pub counted : n ≤ at
-  pub numbers-long : length numbers ≡ most_numbers
-  pub walking : Walking (lines_from list start) (lines_from list at) p st places n
+  pub walking : Walking (lines_from text start) (lines_from text at) p st places n

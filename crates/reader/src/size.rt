@@ -6,10 +6,9 @@ ghost use Rattle.meaning.specs.Known.{Known};
 ghost use Rattle.meaning.specs.Kept.{Keeps};
 ghost use Rattle.text.specs.Word.{word_of};
 ghost use Rattle.rules.specs.Yield.{line_with};
-ghost use Rattle.reader.specs.Size.{counted, Adds, FewCounts, DigitCount, DigitSize};
+ghost use Rattle.reader.specs.Size.{Adds, FewCounts, DigitCount, DigitSize};
 
 use super::counts::Counts;
-use number::Cell;
 use number::whole::{Whole, natural, whole_at};
 use text::Word;
 
@@ -20,19 +19,8 @@ fn digit_count(k: Whole) -> usize
     natural(k).min(31)
 }
 
-pub fn counts_of(values: usize, inputs: usize, cells: usize, rows: usize) -> Counts
-    ensures { result ≡ counted values inputs cells rows }
-{
-    Counts {
-        values: values,
-        inputs: inputs,
-        cells: Cell::from(cells),
-        rows: rows,
-    }
-}
-
-// The counts of a line whose digit count stands at a place, and is 0 where its numbers end before: it makes so many values, has no input, and for each digit it has `each` cells and
-// as many rows, with so many cells and rows more.
+// The counts of a line whose digit count stands at a place, and is 0 where its numbers end before: it makes so many values, has no input, and for
+// each digit it has `each` cells and as many rows, with so many cells and rows more.
 fn digit_size(
     numbers: &[i64],
     at: usize,
@@ -44,26 +32,30 @@ fn digit_size(
     requires { (each ≤ 4) × (cells ≤ 3) × (rows ≤ 5) }
     ensures { DigitSize numbers.now at values each cells rows result }
 {
+    // 0, and no panic or None: `line_size` may be called of any numbers; that they belong to the word is a premise of its promise alone.
     let count = if at < numbers.len() {
         digit_count(whole_at(numbers, at))
     } else {
         0
     };
     let digits = each * count;
-    counts_of(values, 0, digits + cells, digits + rows)
+    Counts::of(values, 0, digits + cells, digits + rows)
 }
 
 // How much a line adds to the counts of a list: its values, inputs, cells and rows. The walks over a list that was read go by it.
+// It is always inline, as its counts would pass through memory.
+#[inline(always)]
+#[tactic(auto, using(crate::proofs::Sizes::field_sizes, crate::proofs::Sizes::input_sizes, crate::proofs::Sizes::sum_sizes))]
 pub fn line_size(word: Word, numbers: &[i64]) -> Counts
     ensures yields { (n : ℕ) (s : Known) → (kind_of (word_of word)).is_counted numbers.now ≡ true
         → Keeps n s (line_with (word_of word) numbers.now) → Adds s (line_with (word_of word) numbers.now) result }
     ensures small { FewCounts result }
 {
     match word {
-        Word::Field => counts_of(0, 0, 0, 0),
-        Word::In => counts_of(1, 1, 1, 0),
+        Word::Field => Counts::default(),
+        Word::In => Counts::of(1, 1, 1, 0),
         Word::Span => digit_size(numbers, 2, 0, 1, 0, 1),
-        Word::Sum => counts_of(1, 0, 1, 1),
+        Word::Sum => Counts::of(1, 0, 1, 1),
         Word::Relu => digit_size(numbers, 2, 1, 1, 3, 5),
         Word::Which => digit_size(numbers, 3, 1, 1, 3, 5),
         Word::Max => digit_size(numbers, 3, 1, 2, 1, 3),

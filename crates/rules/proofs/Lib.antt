@@ -6,5 +6,6 @@ pub mod Values
 pub mod Rules
 pub mod Inputs
 pub mod DigitLines
+pub mod DigitKinds
 pub mod SumLine
 pub mod Pairs

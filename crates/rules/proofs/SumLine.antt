@@ -5,7 +5,7 @@ use mathlib.Core.List.{List, [], ◌∷◌, ◌++◌}
 use Prim.Native.Nat.{ℕ, suc, ◌%◌, ◌≤◌, ◌<◌}
 use native.Mathlib.Omega.{arith}
 use lib.ListN.{length, get_or, drop}
-use lib.IntN.{ℤ, pos, nat_abs}
+use lib.IntN.{ℤ, pos, nat_abs, ◌*ℤ◌}
 use Rattle.algebra.proofs.Test.{≡-test}
 use Rattle.meaning.specs.Word.{sum, number_at, alternate, without_first, kind_of}
 use Rattle.meaning.specs.Number.{half, lowest, highest, between, in_range}
@@ -15,16 +15,16 @@ use Rattle.meaning.specs.Meaning.{gadget}
 use Rattle.meaning.specs.Refusal.{all, is_ranged, is_made}
 use Rattle.meaning.proofs.Order.{between-iff}
 use Rattle.number.specs.Bounded.{Bounded}
-use Rattle.number.proofs.Bounded.{bounded-range, bounded-more}
+use Rattle.number.proofs.Bounded.{bounded-range, bounded-more, bounded-product}
 use Rattle.rules.specs.declared.ends.Ends.{Ends as ReadEnds}
-use Rattle.rules.specs.Ready.{BoundedEnds, greatest, Small, Represented, ends_at}
+use Rattle.rules.specs.Ready.{BoundedEnds, greatest, greatest_product, Small, Represented, ends_at}
 use Rattle.rules.specs.Yield.{refuses, makes, yield_of, line_with, ends_meaning}
 use Rattle.rules.specs.Rule.{early_broken}
 use Rattle.rules.specs.Sum.{sum_yield}
 use Rattle.rules.proofs.Pairs.{without-drop}
 use Rattle.rules.proofs.Tests.{both_true}
 use Rattle.rules.proofs.Values.{known-count, known-ends}
-use Rattle.rules.proofs.Rules.{late, yield_unless, early_of, yield-by-rules, early-named}
+use Rattle.rules.proofs.Rules.{passed-on, late, yield_unless, early_of, yield-by-rules, early-named}
 use Rattle.std.specs.Prelude.{Result, Ok, Err}
 use Rattle.refusal.specs.Refusal.{number_of}
 use Rattle.refusal.specs.declared.refused.Refusal.{Refusal}
@@ -127,7 +127,7 @@ range_small p x most within =
     bounded-more (bounded-range x w.0 w.1) (omega arith)
 
 pub range-sized : (p : ℕ) (e : ReadEnds) → p ≤ greatest → ends_in_range p (ends_meaning e) ≡ true → BoundedEnds greatest e
-unfolding ends_in_range ends_meaning
+unfolding ends_in_range
 range-sized p e most within =
     let w = both_true (in_range p e.low.0) (in_range p e.high.0) within in
     record { low-sized = range_small p e.low.0 most w.0; high-sized = range_small p e.high.0 most w.1 }
@@ -202,3 +202,9 @@ module _ {p cells : ℕ} {known : List ReadEnds} {s : Known} (meaning : Represen
           let named = early-named (all (is_made (length known)) (alternate (drop 2 numbers))) (length known) 1 cells 1 (sym none ∙ early) in
           sum-yield ∙ rw (ranged, early-too, none) (sum-gadget s c0 (terms_of (without_first numbers))
           ∙ rw (without-drop numbers 0) (sum_over (drop 1 numbers) (rw (without-drop numbers 1) named) (ends c0 c0) (rw first)))
+
+-- how large a product of a coefficient and an end is
+pub product_sized : {a b : ℤ} → Bounded greatest a → Bounded greatest b → Bounded greatest_product (a *ℤ b)
+product_sized s t = bounded-product s t
+
+pub ruleset sum_laws = (sum-6, sum-late, all_first, early-named)

@@ -22,7 +22,7 @@ pub record Name (n : ℕ) (z : ℤ) : Type 0 where
   pub counts : pos 0 ≤ℤ z
   pub below : nat_abs z < n
 
-pub made-name : (n : ℕ) (z : ℤ) → is_made n z ≡ true → Name n z
+pub made_name : (n : ℕ) (z : ℤ) → is_made n z ≡ true → Name n z
 unfolding is_made
-made-name n (pos m) e = record { counts = omega linear; below = ltb→lt m n (≡-test (ltb m n) e) }
-made-name n (negsuc m) e = let q : ◌≡◌ {A = ℕ} 0 1 = cc in absurd (omega arith)
+made_name n (pos m) e = record { counts = omega linear; below = ltb→lt m n (≡-test (ltb m n) e) }
+made_name n (negsuc m) e = let q : ◌≡◌ {A = ℕ} 0 1 = cc in absurd (omega arith)

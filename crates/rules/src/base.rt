@@ -27,7 +27,8 @@ impl Digits {
         Digits::of(whole_at(numbers, at), whole_at(numbers, at + 1))
     }
 
-    // b and k, where 2 <= b and 1 <= k <= 31. FORMAT 4.1, 4.2, 10.6
+    // b and k, where 2 <= b and 1 <= k <= 31. The library has no `From` from a usize to another word, nor from a u32 to a usize.
+    // FORMAT 4.1, 4.2, 10.6
     #[tactic(auto, unfolding(meaning::specs::Refusal::is_digits, meaning::specs::Number::between))]
     fn of(b: Whole, k: Whole) -> Option<Digits>
         ensures { digits_meaning result ≡ digits_allowed b.0 k.0 }
@@ -42,6 +43,7 @@ impl Digits {
     }
 
     // c = b^k, where it is at most p. FORMAT 6.1, 10.10
+    #[tactic(auto, using(crate::proofs::Digits::power_within, crate::proofs::Digits::power_above))]
     pub fn power(self, p: u32) -> Result<u64, Refusal>
         ensures within { IfOk result (λ c. PowerWithin p self.base self.count c) }
         ensures above { IfErr result (λ broken. (broken ≡ DigitsTooWide) × (p < self.base ^ self.count)) }

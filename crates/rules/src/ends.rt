@@ -8,11 +8,23 @@ ghost use Rattle.rules.specs.Ready.{BoundedEnds, greatest_apart, greatest};
 
 use number::whole::{Whole, whole_difference};
 
-// The lowest and the highest number that a value can be.
+// The lowest and the highest number that a value can be. How large they are is no ghost field but stands in the clauses: differences and
+// products of ends are ends too, with other bounds (`greatest_apart`, `greatest_product`), and a second struct for these would want `apart`,
+// `greater` and the fields once more. What is made of two ends is made by functions and no methods, as the definitions in meaning are
+// written: neither value of `greater` comes before the other.
 #[derive(Clone, Copy)]
 pub struct Ends {
     pub low: Whole,
     pub high: Whole,
+}
+
+// The ends of one number.
+impl From<Whole> for Ends {
+    ghost from_gives = { λ x e. (e.low.0 ≡ x.0) × (e.high.0 ≡ x.0) };
+
+    fn from(x: Whole) -> Ends {
+        Ends { low: x, high: x }
+    }
 }
 
 // The ends of the difference of two values. FORMAT 5.12

@@ -10,6 +10,7 @@ use super::known::Known;
 use number::whole::{highest, lowest};
 use refusal::Refusal;
 
+#[tactic(auto, using(crate::proofs::Inputs::input_laws), unfolding(meaning::specs::Number::lowest, meaning::specs::Number::highest, meaning::specs::Number::half))]
 pub fn read_input(known: Known) -> Result<Ends, Refusal>
     ensures yields { (s : Meant) → Represented s known.entry.p known.entry.cells known.entry.ends.now
         → made_meaning result ≡ yield_of s (line_with input []) }

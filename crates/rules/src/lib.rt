@@ -1,5 +1,9 @@
 // The rules of each kind of line, and the ends of the value that a line of the kind makes. A function here takes a line's numbers and what is
-// known before it, and changes nothing: taking in the line is for reading.
+// known before it, and changes nothing: taking in the line is for reading. Each kind's reading is two lines, which begin the line by its layout
+// and take its own rule, and a clause by its own definition. One function of them all would take the layout as numbers and the rule as a
+// closure whose promise is that definition again. The clause is whole in each, as it says what the kind's reading means. How many numbers a
+// kind has is its clause too: `Parsed` of reader keeps it for all kinds, and gives the slice. What begins a line gives its digits; what is
+// known before it does not change with them, so that the two stay two parameters.
 #![tactic(auto)]
 
 mod base;

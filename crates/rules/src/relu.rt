@@ -11,18 +11,18 @@ ghost use Rattle.rules.specs.Yield.{yield_of, made_meaning, line_with, ends_mean
 use super::base::Digits;
 use super::ends::{Ends, greater};
 use super::known::Known;
-use number::whole::{Whole, whole_at};
+use number::Whole;
 use refusal::Refusal;
 
+#[tactic(auto, using(crate::proofs::DigitKinds::relu_laws))]
 pub fn read_relu(known: Known, numbers: &[i64]) -> Result<Ends, Refusal>
     requires { 3 ≤ length numbers.now }
     ensures yields { (s : Meant) → Represented s known.entry.p known.entry.cells known.entry.ends.now
         → made_meaning result ≡ yield_of s (line_with relu numbers.now) }
     ensures sized { IfOk result (BoundedEnds greatest) }
 {
-    let name = whole_at(numbers, 0);
-    let digits = known.begin_line(numbers, 1, true, known.names(name), 1, 1, 3)?;
-    relu_ends(known, digits, known.ends_of(name))
+    let (digits, old) = known.begin_one(numbers, true, 1, 1, 3)?;
+    relu_ends(known, digits, old)
 }
 
 // The ends of the greater of 0 and the value, where the digit rule is kept. FORMAT 5.6, 6.2, 10.10
@@ -35,9 +35,5 @@ fn relu_ends(known: Known, digits: Digits, old: Ends) -> Result<Ends, Refusal>
     if !known.sign_rule(digits, old) {
         return Err(Refusal::DigitsTooWide);
     }
-    let zero = Ends {
-        low: Whole::from(0u32),
-        high: Whole::from(0u32),
-    };
-    Ok(greater(zero, old))
+    Ok(greater(Ends::from(Whole::from(0u32)), old))
 }

@@ -9,17 +9,17 @@ ghost use Rattle.rules.specs.Rule.{root_yield};
 use super::base::Digits;
 use super::ends::Ends;
 use super::known::Known;
-use number::whole::{Whole, whole_at, wide_whole};
+use number::whole::{Whole, wide_whole};
 use refusal::Refusal;
 
+#[tactic(auto, using(crate::proofs::DigitKinds::root_laws))]
 pub fn read_root(known: Known, numbers: &[i64]) -> Result<Ends, Refusal>
     requires { 3 ≤ length numbers.now }
     ensures yields { (s : Meant) → Represented s known.entry.p known.entry.cells known.entry.ends.now
         → made_meaning result ≡ yield_of s (line_with root numbers.now) }
     ensures sized { IfOk result (BoundedEnds greatest) }
 {
-    let named = known.names(whole_at(numbers, 0));
-    let digits = known.begin_line(numbers, 1, true, named, 1, 4, 2)?;
+    let (digits, _) = known.begin_one(numbers, true, 1, 4, 2)?;
     root_ends(known, digits)
 }
 
@@ -30,7 +30,7 @@ fn root_ends(known: Known, digits: Digits) -> Result<Ends, Refusal>
     ensures sized { IfOk result (BoundedEnds greatest) }
 {
     let c = digits.power(known.p)?;
-    let most = ((known.p - 1) / 2 + 1) as u64;
+    let most = u64::from((known.p - 1) / 2 + 1);
     if c < 3 || most < c * c {
         return Err(Refusal::DigitsTooWide);
     }

@@ -1,4 +1,5 @@
-// Reading a span line, which makes no value: the ends that it answers with are the new ends of v.
+// Reading a span line, which makes no value: the ends that it answers with are the new ends of v. Only a span has a shift that is read: a type
+// for it, which would keep its bound, would be of one number of one kind of line.
 ghost use Rattle.std.specs.Prelude.{◌≡◌, IfOk, cond, ◌-◌, ◌≤◌, pos, ◌+ℤ◌, length};
 ghost use Rattle.meaning.specs.Word.{span};
 ghost use Rattle.meaning.specs.Known.{ends, larger, smaller, digit_rule};
@@ -15,17 +16,17 @@ use super::known::Known;
 use number::whole::{Whole, in_range, whole_at, whole_sum, wide_whole};
 use refusal::Refusal;
 
+#[tactic(auto, using(crate::proofs::DigitKinds::span_laws))]
 pub fn read_span(known: Known, numbers: &[i64]) -> Result<Ends, Refusal>
-    requires { (4 ≤ length numbers.now) × Small (length numbers.now) numbers.now }
+    requires { (4 ≤ length numbers.now) × Small 4 numbers.now }
     ensures yields { (s : Meant) → Represented s known.entry.p known.entry.cells known.entry.ends.now
         → made_meaning result ≡ span_yield s (line_with span numbers.now) }
     ensures sized { IfOk result (BoundedEnds greatest) }
 {
-    let name = whole_at(numbers, 0);
     let shift = whole_at(numbers, 3);
     let ranged = in_range(shift, known.p);
-    let digits = known.begin_line(numbers, 1, ranged, known.names(name), 0, 1, 0)?;
-    span_ends(known, digits, known.ends_of(name), shift)
+    let (digits, old) = known.begin_one(numbers, ranged, 0, 1, 0)?;
+    span_ends(known, digits, old, shift)
 }
 
 // The new ends, where the digit rule is kept.
@@ -46,9 +47,9 @@ fn span_ends(known: Known, digits: Digits, old: Ends, shift: Whole) -> Result<En
 // What the old ends and L..L+c-1 share, where they share a number. FORMAT 5.10, 10.12
 #[tactic(auto, unfolding(meaning::specs::Known::larger, meaning::specs::Known::smaller))]
 fn shared_ends(old: Ends, shift: Whole, last: u64) -> Result<Ends, Refusal>
-    requires { (last ≤ greatest) × BoundedEnds greatest old × Bounded greatest shift.0 }
+    requires { (last ≤ greatest) × Bounded greatest shift.0 }
     ensures yields { made_meaning result ≡ shared_yield (ends (larger old.low.0 shift.0) (smaller old.high.0 (shift.0 +ℤ pos last))) }
-    ensures sized { IfOk result (BoundedEnds greatest) }
+    ensures sized { BoundedEnds greatest old → IfOk result (BoundedEnds greatest) }
 {
     let top = whole_sum(shift, wide_whole(last));
     let low = old.low.max(shift);

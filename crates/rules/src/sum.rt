@@ -1,4 +1,5 @@
 // Reading a sum line: every coefficient is in the range and every name made, and the ends stay in the range after each step.
+// That there is a constant and then pairs stays a clause of the four functions: a struct of both would be made for one call.
 ghost use Rattle.std.specs.Prelude.{◌≡◌, IfOk, true, ◌∷◌, ◌%◌, ◌≤◌, ◌<◌, pos, length, get_or, drop};
 ghost use Rattle.meaning.specs.Word.{sum, alternate};
 ghost use Rattle.meaning.specs.Number.{in_range};
@@ -17,6 +18,7 @@ use number::whole::{Whole, in_range, whole_at, whole_product, whole_sum};
 use refusal::Refusal;
 
 // c0, then pairs of a coefficient and a name.
+#[tactic(auto, using(crate::proofs::SumLine::sum_laws))]
 pub fn read_sum(known: Known, numbers: &[i64]) -> Result<Ends, Refusal>
     requires { (length numbers.now % 2 ≡ 1) × Small (length numbers.now) numbers.now }
     ensures yields { (s : Meant) → Represented s known.entry.p known.entry.cells known.entry.ends.now
@@ -60,7 +62,7 @@ fn sum_ends(known: Known, numbers: &[i64]) -> Result<Ends, Refusal>
         (terms_of (drop 1 numbers.now)) }
     ensures sized { IfOk result (BoundedEnds greatest) }
 {
-    let mut so_far = constant(numbers);
+    let mut so_far = Ends::from(whole_at(numbers, 0));
     for term in numbers[1..].chunks_exact(2) {
         let value = known.ends_of(whole_at(term, 1));
         so_far = plus(so_far, scaled(whole_at(term, 0), value));
@@ -71,17 +73,8 @@ fn sum_ends(known: Known, numbers: &[i64]) -> Result<Ends, Refusal>
     Ok(so_far)
 }
 
-// The ends of c0.
-fn constant(numbers: &[i64]) -> Ends
-    requires { 0 < length numbers.now }
-    ensures { ends_meaning result ≡ ends (get_or numbers.now 0 (pos 0)) (get_or numbers.now 0 (pos 0)) }
-{
-    let c0 = whole_at(numbers, 0);
-    Ends { low: c0, high: c0 }
-}
-
 // The ends of c times a value.
-#[tactic(auto, unfolding(meaning::specs::Gadget::Sum::scaled, meaning::specs::Known::larger, meaning::specs::Known::smaller))]
+#[tactic(auto, using(crate::proofs::SumLine::product_sized), unfolding(meaning::specs::Gadget::Sum::scaled, meaning::specs::Known::larger, meaning::specs::Known::smaller))]
 fn scaled(c: Whole, e: Ends) -> Ends
     requires { Bounded greatest c.0 × BoundedEnds greatest e }
     ensures sized { BoundedEnds greatest_product result }
@@ -95,6 +88,7 @@ fn scaled(c: Whole, e: Ends) -> Ends
     }
 }
 
+// The ends so far and those of one more term, added.
 #[tactic(auto, unfolding(meaning::specs::Gadget::Sum::added))]
 fn plus(a: Ends, b: Ends) -> Ends
     requires { BoundedEnds greatest a × BoundedEnds greatest_product b }

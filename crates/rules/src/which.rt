@@ -11,20 +11,18 @@ ghost use Rattle.rules.specs.Yield.{yield_of, made_meaning, line_with, ends_mean
 use super::base::Digits;
 use super::ends::{Ends, apart};
 use super::known::Known;
-use number::whole::{Whole, whole_at};
+use number::Whole;
 use refusal::Refusal;
 
+#[tactic(auto, using(crate::proofs::DigitKinds::which_laws))]
 pub fn read_which(known: Known, numbers: &[i64]) -> Result<Ends, Refusal>
     requires { 4 ≤ length numbers.now }
     ensures yields { (s : Meant) → Represented s known.entry.p known.entry.cells known.entry.ends.now
         → made_meaning result ≡ yield_of s (line_with which numbers.now) }
     ensures sized { IfOk result (BoundedEnds greatest) }
 {
-    let u = whole_at(numbers, 0);
-    let v = whole_at(numbers, 1);
-    let named = known.names_both(u, v);
-    let digits = known.begin_line(numbers, 2, true, named, 1, 1, 3)?;
-    which_ends(known, digits, known.ends_of(u), known.ends_of(v))
+    let (digits, u, v) = known.begin_two(numbers, 1, 3)?;
+    which_ends(known, digits, u, v)
 }
 
 // The ends 0..1, where the digit rule is kept over u - v. FORMAT 5.7, 6.2, 10.10

@@ -35,14 +35,17 @@ use Rattle.groups.specs.Rows.{rows_meaning, first_refusal, first_of}
 use Rattle.std.specs.Prelude.{Result, Ok, Err}
 use Rattle.groups.proofs.RowsFirst.{first-append}
 use Rattle.table.specs.LineRows.{RowsGiven}
-use Rattle.service.specs.Walk.{Stands, Placed, ListRead, AtLine, Took, taken}
+use Rattle.refusal.specs.declared.refused.Refusal.TheVariants.{RowFails}
+use Rattle.refusal.specs.declared.refused.Refused.{Refused}
+use Rattle.refusal.specs.Refusal.{refused_reply}
+use Rattle.service.specs.Walk.{Stands, Placed, ListRead}
+use Rattle.service.specs.Taken.{taken, Took}
 use Rattle.service.specs.declared.walk.Taken.{Taken}
 use Rattle.service.specs.Check.{cells_meaning, TableGiven, rows_reply}
 use Rattle.service.proofs.ReadList.{same_lines, same-last}
 use Rattle.service.proofs.Standing.{stands-first, nothing_left, line_kept, prime-here, cells-inside}
 use Rattle.service.proofs.Places.{placed_first, place_inside}
 use Rattle.service.proofs.Scan.{place_in, first-position, first-from, none_from, found_inside}
-use Rattle.meaning.specs.Word.{most_numbers}
 
 -- ---- the cells
 
@@ -52,10 +55,10 @@ unfolding is_cell
 not-below p x = grind (arith, nat_tests)
 
 -- the first cell of p or more, as it is found
-pub cells-found : (p : ℕ) (t : List ℕ) (place : Perhaps ℕ) (r : Perhaps Cell) → place ≡ position (leb p) t → (place ≡ None → r ≡ None) → ((i : ℕ) → place ≡ Some i → (cell : Cell) × (r ≡ Some cell) × (cell.0 ≡ i))
+pub cells_found : (p : ℕ) (t : List ℕ) (place : Perhaps ℕ) (r : Perhaps Cell) → place ≡ position (leb p) t → (place ≡ None → r ≡ None) → ((i : ℕ) → place ≡ Some i → (cell : Cell) × (r ≡ Some cell) × (cell.0 ≡ i))
     → cells_meaning r ≡ refusal_at 14 (first_fail (is_cell p) 0 t)
 unfolding cells_meaning refusal_at
-cells-found p t place r e none-is some-is = by place refl
+cells_found p t place r e none-is some-is = by place refl
   where
     found : (o : Perhaps ℕ) → place ≡ o → first_fail (is_cell p) 0 t ≡ place_in o
     found o q = first-position (is_cell p) (leb p) (not-below p) t ∙ ap place_in (sym e ∙ q)
@@ -112,26 +115,22 @@ module _ (list t : List ℕ) where
 
 -- ---- the walk over the rows
 
-pub record Checking (list table : List ℕ) (p : ℕ) (numbers : List ℤ) (places : List ℕ) (c : Counts) (at : ℕ) : Type 0 where
+pub record Checking (list table : List ℕ) (p : ℕ) (places : List ℕ) (c : Counts) (at n : ℕ) : Type 0 where
   pub given : TableGiven list table p
-  pub number : ℕ
   pub state : Known
   pub left : List Line
-  pub stands : Stands list given.listed.last state left c at number
-  pub numbers-long : length numbers ≡ most_numbers
+  pub stands : Stands list given.listed.last state left c at n
   pub placed : Placed state places
   pub rows_left : first_fail (holds p table) 0 (rows_of given.listed.lines) ≡ first_fail (holds p table) c.rows (rows_from state left)
 
-pub checking-first : (list table : List ℕ) (p : ℕ) (numbers : List ℤ) (places : List ℕ) → length numbers ≡ most_numbers → length places ≡ value_limit → TableGiven list table p
-    → Checking list table p numbers places (counted 0 0 0 0) 0
+pub checking-first : (list table : List ℕ) (p : ℕ) (places : List ℕ) → length places ≡ value_limit → TableGiven list table p
+    → Checking list table p places (counted 0 0 0 0) 0 0
 unfolding rows_of fresh
-checking-first list table p numbers places h k a = record {
+checking-first list table p places k a = record {
   given = a;
-  number = 0;
   state = fresh;
   left = a.listed.lines;
   stands = stands-first list a.listed.lines a.listed.last a.listed.is_read a.listed.p-most;
-  numbers-long = h;
   placed = placed_first places k;
   rows_left = refl;
 }
@@ -140,7 +139,7 @@ checking-first list table p numbers places h k a = record {
 abbrev replied : Option ℕ → Reply
 replied o = on_some o (reply 15) (reply 0 0)
 
-module _ {list table : List ℕ} {p : ℕ} {numbers : List ℤ} {places : List ℕ} {c : Counts} {at : ℕ} (w : Checking list table p numbers places c at) where
+module _ {list table : List ℕ} {p : ℕ} {places : List ℕ} {c : Counts} {at n : ℕ} (w : Checking list table p places c at n) where
   abbrev test : Row → Bool
   test = holds p table
 
@@ -169,27 +168,29 @@ module _ {list table : List ℕ} {p : ℕ} {numbers : List ℤ} {places : List �
       pub row_inside : (i : ℕ) → r ≡ Err i → i < length (gadget w.state l).rows
       row_inside i is = found_inside test (among 0 0) (gadget w.state l).rows i (fails-at i is)
 
-      pub checking-fails : (i : ℕ) → r ≡ Err i → (m : ListRead list) → reply 15 (c.rows + i) ≡ rows_reply m.last m.lines table
+      checking-fails : (i : ℕ) → r ≡ Err i → (m : ListRead list) → reply 15 (c.rows + i) ≡ rows_reply m.last m.lines table
       unfolding first_of on_some
       checking-fails i is m =
           found-replied (some (c.rows + i)) (rows-here ∙ rw (first-from test (among 0 0) (gadget w.state l).rows c.rows i (fails-at i is)) refl) m
+
+      pub row-replied : (i : ℕ) → r ≡ Err i → (b : Refused) → b.refusal ≡ RowFails → b.place ≡ c.rows + i → (m : ListRead list)
+          → refused_reply b ≡ rows_reply m.last m.lines table
+      row-replied i is b refusal place m = rw (refusal, place) (checking-fails i is m)
 
       none-fails : r ≡ Ok tt → first_fail test c.rows (gadget w.state l).rows ≡ none
       none-fails is =
           none_from test (among 0 0) (gadget w.state l).rows c.rows
           (refusal-none 15 (first_fail test 0 (gadget w.state l).rows) (sym yields ∙ ap rows_meaning is))
 
-      pub checking-next : r ≡ Ok tt → {next : Counts} {at' : ℕ} (numbers' : List ℤ) (places' : List ℕ)
-          → Stands list w.given.listed.last (after w.state l) rest next at' (w.number + 1) → length numbers' ≡ most_numbers → Placed (after w.state l) places'
-          → Checking list table p numbers' places' next at'
+      pub checking-next : r ≡ Ok tt → {next : Counts} {at' : ℕ} (places' : List ℕ)
+          → Stands list w.given.listed.last (after w.state l) rest next at' (n + 1) → Placed (after w.state l) places'
+          → Checking list table p places' next at' (n + 1)
       unfolding first_of after
-      checking-next is {next} numbers' places' stands long placed = record {
+      checking-next is {next} places' stands placed = record {
         given = w.given;
-        number = w.number + 1;
         state = after w.state l;
         left = rest;
         stands = stands;
-        numbers-long = long;
         placed = placed;
         rows_left = rows-here ∙ rw (none-fails is) (ap (λ (i : ℕ). first_fail test i (rows_from (after w.state l) rest)) so-many);
       }
@@ -198,10 +199,10 @@ module _ {list table : List ℕ} {p : ℕ} {numbers : List ℤ} {places : List �
           so-many = omega (arith, w.stands.counted.rows_are, stands.counted.rows_are)
 
   -- the number of a row in the list is small
-  pub row_fits : (l : Line) → Keeps w.number w.state l → {i : ℕ} → i < length (gadget w.state l).rows → c.rows + i < past_u64
+  pub row_fits : (l : Line) → Keeps n w.state l → {i : ℕ} → i < length (gadget w.state l).rows → c.rows + i < past_u64
   row_fits l keeps h = omega (
     arith,
-    (few w.number w.state l keeps).1,
+    (few n w.state l keeps).1,
     leb→le (w.state.cells + (gadget w.state l).width) cell_limit keeps.cells_fit,
     w.stands.few.rows-most,
     w.stands.few.cells-most,
@@ -209,11 +210,8 @@ module _ {list table : List ℕ} {p : ℕ} {numbers : List ℤ} {places : List �
 
   -- ---- what the rows of a line are given
 
-  abbrev pub at-line : at < length list → AtLine list c at
-  at-line inside = record { listed = w.given.listed; number = w.number; state = w.state; left = w.left; stands = w.stands; inside = inside }
-
-  module _ (inside : at < length list) {numbers' : List ℤ} {t : Taken} (took : Took (at-line inside) numbers' t) where
-    pub room-here : c.cells.0 + (gadget w.state (taken numbers' t)).width ≤ length table
+  module _ {numbers : List ℤ} {t : Taken} {next : ℕ} (took : Took w.stands numbers t next) where
+    pub room-here : c.cells.0 + (gadget w.state (taken numbers t)).width ≤ length table
     room-here = omega (
       arith,
       cells-inside took,
@@ -229,7 +227,7 @@ module _ {list table : List ℕ} {p : ℕ} {numbers : List ℤ} {places : List �
       room-here,
     )
 
-    abbrev pub rows-given : RowsGiven p (word_of t.word) (take t.count numbers') table c.cells.0 (take c.values places)
+    abbrev pub rows-given : RowsGiven p (word_of t.word) (take t.count numbers) table c.cells.0 (take c.values places)
     rows-given = record {
       kept = line_kept took;
       prime = λ plain. prime-here took plain ∙ w.given.prime;

@@ -9,7 +9,7 @@ use lib.ListN.{length, take}
 use Rattle.meaning.specs.Number.{in_range}
 use Rattle.meaning.specs.Line.{Line}
 use Rattle.meaning.specs.Known.{Known}
-use Rattle.meaning.specs.Refusal.{on_some, refused, on_reading, reading, value_limit}
+use Rattle.meaning.specs.Refusal.{on_some, refused, on_reading, reading}
 use Rattle.meaning.specs.Work.{true-table, work}
 use Rattle.meaning.specs.Reply.{reply, first_fail, refusal_at, Making, making, filled, made, make_reply}
 use Rattle.meaning.specs.Claims.{Column}
@@ -87,7 +87,7 @@ module _ (ls : List Line) (s : Known) (xs values : List ℤ) (x : Result (Unit {
 
 -- what writing is given, once every statement is found true
 module _ (list table : List ℕ) (p : ℕ) (xs values : List ℤ) (a : WorkGiven list xs) (prime : a.listed.last.p ≡ p) (long : length table ≡ a.listed.last.cells)
-    (values-long : length values ≡ value_limit) (x : Result (Unit {0}) Refused) (done : WorkingYield a.listed.lines a.listed.last xs values x) {u : Unit {0}} (is : x ≡ Ok u) where
+    (x : Result (Unit {0}) Refused) (done : WorkingYield a.listed.lines a.listed.last xs values x) {u : Unit {0}} (is : x ≡ Ok u) where
   pub written-cells : List ℕ
   written-cells = (all-worked a.listed.lines a.listed.last xs values x done is).0
 
@@ -100,7 +100,6 @@ module _ (list table : List ℕ) (p : ℕ) (xs values : List ℤ) (a : WorkGiven
     inputs = xs;
     given = a;
     prime = prime;
-    values-long = values-long;
     cells = written-cells;
     worked = written-worked;
     long = long;

@@ -103,10 +103,10 @@ place_inside s places placed v h most =
 
 -- ---- what the code writes
 
-pub place-taken : (places : List ℕ) (c d : Counts) → c.values < d.values → set places c.values c.cells.0 ≡ with_place places c d
+pub place_taken : (places : List ℕ) (c d : Counts) → c.values < d.values → set places c.values c.cells.0 ≡ with_place places c d
 unfolding with_place
-place-taken places c d h = rw (lt-ltb c.values d.values h) refl
+place_taken places c d h = rw (lt-ltb c.values d.values h) refl
 
-pub place-not-taken : (places : List ℕ) (c d : Counts) → d.values ≤ c.values → places ≡ with_place places c d
+pub place_not_taken : (places : List ℕ) (c d : Counts) → d.values ≤ c.values → places ≡ with_place places c d
 unfolding with_place
-place-not-taken places c d h = rw (le-ltb c.values d.values h) refl
+place_not_taken places c d h = rw (le-ltb c.values d.values h) refl

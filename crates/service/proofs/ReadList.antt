@@ -1,12 +1,11 @@
 -- A list that was read: it is ended, it is read in one way, and what `survey` answers says of which kind it is.
 use mathlib.Core.Path.{◌≡◌, refl, sym, ap, ap₂, ◌∙◌, subst}
-use mathlib.Core.Bool.{Bool, true, false, cond}
+use mathlib.Core.Bool.{Bool, true, false, cond, false≢true}
 use mathlib.Core.List.{List, []}
 use Prim.Native.Nat.{ℕ, ◌≤◌}
 use native.Mathlib.Omega.{arith}
-use lib.Dec.{leb, leb→le}
+use lib.Dec.{leb}
 use lib.ListN.{length}
-use Rattle.algebra.proofs.Test.{≡-test}
 use Rattle.meaning.specs.Text.{lines_of, is_ended}
 use Rattle.meaning.specs.Line.{Line}
 use Rattle.meaning.specs.Known.{Known, fresh}
@@ -45,17 +44,8 @@ pub read-ended : (list : List ℕ) (ls : List Line) (s : Known) → reading list
 unfolding reading_by
 read-ended list ls s e = ended_by (leb (length list) text_limit) (is_ended list) (read_from plain 0 fresh (lines_of list)) ls s e
 
--- and not too long
-short-by : (n : ℕ) (ended : Bool) (r : Reading) (ls : List Line) (s : Known) → cond (leb n text_limit) (cond ended r (refused 2 0)) (refused 1 0) ≡ read ls s → n ≤ text_limit
-short-by n ended r ls s e = by (leb n text_limit) refl e
-  where
-    by : (t : Bool) → leb n text_limit ≡ t → cond t (cond ended r (refused 2 0)) (refused 1 0) ≡ read ls s → n ≤ text_limit
-    by true q f = leb→le n text_limit (≡-test (leb n text_limit) q)
-    by false q f = absurd (subst IsRead (sym f) tt)
-
-pub read_short : (list : List ℕ) (ls : List Line) (s : Known) → reading list ≡ read ls s → length list ≤ text_limit
-unfolding reading_by
-read_short list ls s e = short-by (length list) (is_ended list) (read_from plain 0 fresh (lines_of list)) ls s e
+pub not_unended : {list : List ℕ} → ListRead list → is_ended list ≡ false → ⊥
+not_unended l e = false≢true (sym e ∙ read-ended _ l.lines l.last l.is_read)
 
 -- ---- it is read in one way
 

@@ -69,8 +69,8 @@ module _ {A : Type 0} (f : A → Bool) (d : A) (xs : List A) where
   abbrev pub PassedBefore : ℕ → Type 0
   PassedBefore i = (k : ℕ) → k < i → f (get_or xs k d) ≡ true
 
-  pub first-at : (i : ℕ) → i < length xs → f (get_or xs i d) ≡ false → PassedBefore i → some i ≡ first_fail f 0 xs
-  first-at i h e before =
+  pub first_at : (i : ℕ) → i < length xs → f (get_or xs i d) ≡ false → PassedBefore i → some i ≡ first_fail f 0 xs
+  first_at i h e before =
       sym ((first-fails-at f d i xs).1 (record { inside = h; fails = false-not _ e; earlier = λ k l. ≡-test _ (before k l) }))
 
   pub none-at : PassedBefore (length xs) → none ≡ first_fail f 0 xs

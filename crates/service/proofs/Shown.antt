@@ -1,11 +1,10 @@
 -- Showing a line: what holds before each line of the walk to it, and what the walk answers.
 use mathlib.Core.Path.{◌≡◌, refl, sym, ap, ap₂, ◌∙◌}
 use mathlib.Core.List.{List, [], ◌∷◌}
-use Prim.Native.Nat.{ℕ, suc, ◌+◌, ◌-◌, ◌≤◌, ◌<◌}
+use Prim.Native.Nat.{ℕ, suc, ◌+◌, ◌-◌, ◌≤◌}
 use native.Mathlib.Omega.{arith}
 use borrow.Author.Tests.{eq-eqb, ne_eqb}
 use lib.ListN.{length, take, drop}
-use lib.IntN.{ℤ}
 use Rattle.meaning.specs.Line.{Line}
 use Rattle.meaning.specs.Known.{Known, fresh}
 use Rattle.meaning.specs.Meaning.{gadget, after}
@@ -15,32 +14,28 @@ use Rattle.meaning.proofs.Induction.{cells-grow}
 use Rattle.number.specs.declared.cell.Cell.{Cell}
 use Rattle.reader.specs.Size.{counted}
 use Rattle.reader.specs.declared.counts.Counts.{Counts}
-use Rattle.service.specs.Walk.{Stands, ListRead, AtLine}
+use Rattle.service.specs.Walk.{Stands, ListRead}
 use Rattle.service.specs.Show.{IsStretch}
 use Rattle.std.specs.declared.ops.Range.{Range}
 use Rattle.service.proofs.ReadList.{same_lines, same-last}
 use Rattle.service.proofs.Standing.{stands-first, nothing_left}
-use Rattle.meaning.specs.Word.{most_numbers}
 
 -- before line n, the line that is asked for is still to come
-pub record Showing (list : List ℕ) (line : ℕ) (numbers : List ℤ) (c : Counts) (at n : ℕ) : Type 0 where
+pub record Showing (list : List ℕ) (line : ℕ) (c : Counts) (at n : ℕ) : Type 0 where
   pub listed : ListRead list
   pub state : Known
   pub left : List Line
   pub stands : Stands list listed.last state left c at n
-  pub numbers-long : length numbers ≡ most_numbers
   pub to-come : n ≤ line
   pub is : (t : List ℕ) → stretch fresh listed.lines line t ≡ stretch state left (line - n) t
   pub starts : start_from fresh listed.lines line ≡ start_from state left (line - n)
 
-pub showing-first : (list : List ℕ) (line : ℕ) (numbers : List ℤ) → length numbers ≡ most_numbers → ListRead list
-    → Showing list line numbers (counted 0 0 0 0) 0 0
-showing-first list line numbers long l = record {
+pub showing-first : (list : List ℕ) (line : ℕ) → ListRead list → Showing list line (counted 0 0 0 0) 0 0
+showing-first list line l = record {
   listed = l;
   state = fresh;
   left = l.lines;
   stands = stands-first list l.lines l.last l.is_read l.p-most;
-  numbers-long = long;
   to-come = omega arith;
   is = λ t. ap (λ (i : ℕ). stretch fresh l.lines i t) (omega arith);
   starts = ap (start_from fresh l.lines) (omega arith);
@@ -55,10 +50,7 @@ same-stretch list line l m r s = record {
   starts = s.starts ∙ ap (λ (ls : List Line). start_from fresh ls line) (same_lines l m);
 }
 
-module _ {list : List ℕ} {line : ℕ} {numbers : List ℤ} {c : Counts} {at n : ℕ} (w : Showing list line numbers c at n) where
-  abbrev pub at-line : at < length list → AtLine list c at
-  at-line inside = record { listed = w.listed; number = n; state = w.state; left = w.left; stands = w.stands; inside = inside }
-
+module _ {list : List ℕ} {line : ℕ} {c : Counts} {at n : ℕ} (w : Showing list line c at n) where
   -- the line is not there
   pub showing-end : (none : Cell) → none.0 ≡ 0 → length list ≤ at → (m : ListRead list) → IsStretch list line m (record { start = none; end = none })
   unfolding stretch start_from
@@ -87,14 +79,13 @@ module _ {list : List ℕ} {line : ℕ} {numbers : List ℤ} {c : Counts} {at n 
         })
 
     -- it is a later one
-    pub showing-next : (numbers' : List ℤ) → length numbers' ≡ most_numbers → (n ≡ line → ⊥) → Showing list line numbers' next at' (n + 1)
+    pub showing-next : (n ≡ line → ⊥) → Showing list line next at' (n + 1)
     unfolding stretch start_from
-    showing-next numbers' long other = record {
+    showing-next other = record {
       listed = w.listed;
       state = after w.state l;
       left = rest;
       stands = stands;
-      numbers-long = long;
       to-come = later;
       is = λ t. w.is t ∙ rw (left_is, one_less) refl;
       starts = w.starts ∙ rw (left_is, one_less) refl;

@@ -1,10 +1,13 @@
 -- The laws of walking a list that was read once more: the first line, the line that is read at a place, the next, and the end.
 use mathlib.Core.Path.{◌≡◌, refl, sym, ap, ◌∙◌, subst}
-use mathlib.Core.Bool.{true, false}
+use mathlib.Core.Bool.{true, false, Bool-set}
 use mathlib.Core.List.{List, [], ◌∷◌, map}
 use mathlib.Core.Option.{some, some-injective, none-ne-some}
-use Prim.Native.Nat.{ℕ, zero, suc, ◌+◌, ◌≤◌, ◌<◌}
+use Prim.Native.Nat.{ℕ, zero, suc, ◌+◌, ◌-◌, ◌≤◌, ◌<◌}
 use native.Mathlib.Omega.{arith}
+use mathlib.Core.HLevel.{⊥_prop}
+use Rattle.std.specs.Coded.{le_prop}
+use Rattle.std.proofs.Math.Logic.{∥∥₁_map, ∥∥₁_elim}
 use native.Mathlib.Numerals.{add-one}
 use lib.Dec.{T, leb→le}
 use lib.IntN.{ℤ, pos}
@@ -37,8 +40,10 @@ use Rattle.reader.specs.Size.{counted, added, Few, Adds}
 use Rattle.reader.specs.declared.counts.Counts.{Counts}
 use Rattle.reader.proofs.Steps.{few}
 use Rattle.table.specs.Line.{KeptLine}
-use Rattle.service.specs.Walk.{CountsOf, Stands, AtLine, Took, taken}
+use Rattle.service.specs.Walk.{CountsOf, ListRead, Stands, BeforeLine}
+use Rattle.service.specs.Taken.{taken, Took, Takes}
 use Rattle.service.specs.declared.walk.Taken.{Taken}
+use Rattle.service.specs.declared.walk.Walk.{Walk}
 use Rattle.service.proofs.ReadList.{read-ended}
 
 -- ---- the lines that are left
@@ -80,6 +85,14 @@ counted-after n s l c d keeps was adds =
       rows_are = omega (arith, was.rows_are, adds.rows_are);
     }
 
+-- what the counts after a line are said to be
+abbrev pub CountsAfter : Spelt → List ℤ → (before after : Counts) → Type 0
+CountsAfter l numbers c d = (
+    (n : ℕ) (s : Known) → (kind_of (word_of l.word)).is_counted (take l.count numbers) ≡ true
+    → Keeps n s (line_with (word_of l.word) (take l.count numbers)) → CountsOf s c
+    → CountsOf (after s (line_with (word_of l.word) (take l.count numbers))) d
+    ) × (c.values ≤ d.values) × (d.values ≤ c.values + 1)
+
 -- ---- the first line
 
 pub stands-first : (list : List ℕ) (ls : List Line) (last : Known) → reading list ≡ read ls last → last.p ≤ greatest
@@ -95,6 +108,12 @@ stands-first list ls last e h = record {
   counted = record { values-are = refl; inputs_are = refl; cells_are = refl; rows_are = refl };
   few = record { values-most = omega arith; inputs-most = omega arith; cells-most = omega arith; rows-most = omega arith };
 }
+
+-- a walk may begin over the bytes of such a list, with no counts
+pub stands_first : {list bytes : List ℕ} {c : Counts} → ListRead list → bytes ≡ list → c ≡ counted 0 0 0 0 → ∥ BeforeLine bytes c 0 0 ∥₁
+stands_first {list} {bytes} {c} l is none =
+    let before : BeforeLine list (counted 0 0 0 0) 0 0 = record { listed = l; state = fresh; left = l.lines; stands = stands-first _ l.lines l.last l.is_read l.p-most } in
+    rw (is, none) (∣ before ∣₁)
 
 module _ {list : List ℕ} {last s : Known} {left : List Line} {c : Counts} {at n : ℕ} (stands : Stands list last s left c at n) where
   -- ---- the end
@@ -174,72 +193,97 @@ module _ {list : List ℕ} {last s : Known} {left : List Line} {c : Counts} {at 
         few = few-after d now-counted;
       }
 
--- ---- what `take_line` promises
+-- ---- what a walk keeps, and what it then promises of a line that it takes
 
-module _ {list : List ℕ} {c : Counts} {at : ℕ} (a : AtLine list c at) {before numbers : List ℤ} {r : Answer Spelt}
-    (parsed : LineRead (line_at list at) before numbers r) (long : length before ≡ most_numbers) where
-  ended : is_ended list ≡ true
-  ended = read-ended list a.listed.lines a.listed.last a.listed.is_read
+module _ {list : List ℕ} {c : Counts} {at n : ℕ} (before-line : ∥ BeforeLine list c at n ∥₁) where
+  pub list-ended : is_ended list ≡ true
+  list-ended = ∥∥₁_elim before-line (Bool-set _ _) (λ b. read-ended list b.listed.lines b.listed.last b.listed.is_read)
 
-  pub line-is-there : r ≡ None → ⊥
-  line-is-there is = line-there a.stands ended a.inside parsed long is
+  pub few-counts : Few c
+  few-counts = record {
+    values-most = ∥∥₁_elim before-line le_prop (λ b. b.stands.few.values-most);
+    inputs-most = ∥∥₁_elim before-line le_prop (λ b. b.stands.few.inputs-most);
+    cells-most = ∥∥₁_elim before-line le_prop (λ b. b.stands.few.cells-most);
+    rows-most = ∥∥₁_elim before-line le_prop (λ b. b.stands.few.rows-most);
+  }
 
-  pub took : {l : Spelt} → r ≡ Some l → NextAfter list at r → (d : Counts)
-      → ((n : ℕ) (s : Known) → (kind_of (word_of l.word)).is_counted (take l.count numbers) ≡ true
-      → Keeps n s (line_with (word_of l.word) (take l.count numbers)) → CountsOf s c
-      → CountsOf (after s (line_with (word_of l.word) (take l.count numbers))) d)
-      → d.values ≤ c.values + 1
-      → Took a numbers (record { word = l.word; count = l.count; counts = d; next = l.next })
-  took {l} is after-it d yields more = let e = line-next list at after-it is in rw e (record {
-    rest = rest a.stands ended a.inside parsed long;
-    left_is = left_is a.stands ended a.inside parsed long is;
-    kept = kept_here a.stands ended a.inside parsed long is;
-    next = stands-next a.stands ended a.inside parsed long is d
-        (yields _ _ (line-counted parsed is) (keeps a.stands ended a.inside parsed long is) a.stands.counted);
-    one_more = more;
-    further = omega arith;
-    long = parsed.left.kept ∙ long;
-    counted = line-counted parsed is;
-    few = line-most parsed is;
-    small = numbers-small a.stands ended a.inside parsed long is;
-  })
+  pub number-within : n ≤ at
+  number-within = ∥∥₁_elim before-line le_prop (λ b. b.stands.numbered)
+
+  module _ (inside : at < length list) {before numbers : List ℤ} {r : Answer Spelt}
+      (parsed : LineRead (line_at list at) before numbers r) (long : length before ≡ most_numbers) where
+    pub line-is-there : r ≡ None → ⊥
+    line-is-there is = ∥∥₁_elim before-line ⊥_prop (λ b. line-there b.stands list-ended inside parsed long is)
+
+    module _ {l : Spelt} (is : r ≡ Some l) (after-it : NextAfter list at r) {d : Counts} (counted-so : CountsAfter l numbers c d) where
+      pub took : {last s : Known} {left : List Line} (stands : Stands list last s left c at n)
+          → Took stands numbers (record { number = n; word = l.word; count = l.count; before = c; after = d }) l.next
+      took stands = let e = line-next list at after-it is in rw e (record {
+        rest = rest stands list-ended inside parsed long;
+        left_is = left_is stands list-ended inside parsed long is;
+        kept = kept_here stands list-ended inside parsed long is;
+        next = stands-next stands list-ended inside parsed long is d
+            (counted-so.0 _ _ (line-counted parsed is) (keeps stands list-ended inside parsed long is) stands.counted);
+        one_more = counted-so.2;
+        counted = line-counted parsed is;
+        few = line-most parsed is;
+        small = numbers-small stands list-ended inside parsed long is;
+      })
+
+      before-next : BeforeLine list c at n → BeforeLine list d l.next (n + 1)
+      before-next b = record { listed = b.listed; state = _; left = _; stands = (took b.stands).next }
+
+      pub stands-before-next : ∥ BeforeLine list d l.next (n + 1) ∥₁
+      stands-before-next = ∥∥₁_map before-line before-next
+
+      pub goes-further : length list - l.next < length list - at
+      goes-further = omega (arith, line-next list at after-it is)
+
+      pub room-after : d.values ≤ value_limit
+      room-after = ∥∥₁_elim before-line le_prop (λ b. (took b.stands).next.few.values-most)
 
 -- ---- what is known of a line that was taken
 
-module _ {list : List ℕ} {c : Counts} {at : ℕ} {a : AtLine list c at} {numbers : List ℤ} {t : Taken} (took : Took a numbers t) where
-  pub keeps-rules : Keeps a.number a.state (taken numbers t)
-  keeps-rules = keeps-all a.number a.state (taken numbers t) took.kept.0
+module _ {list : List ℕ} {last s : Known} {left : List Line} {c : Counts} {at n : ℕ} {stands : Stands list last s left c at n} {numbers : List ℤ} {t : Taken} {next : ℕ} (took : Took stands numbers t next) where
+  pub keeps-rules : Keeps n s (taken numbers t)
+  keeps-rules = keeps-all n s (taken numbers t) took.kept.0
 
-  pub prime-here : (kind_of (word_of t.word)).is_field ≡ false → a.state.p ≡ a.listed.last.p
+  pub prime-here : (kind_of (word_of t.word)).is_field ≡ false → s.p ≡ last.p
   prime-here plain =
-      same-prime a.number a.state a.listed.last a.left (later-line a.number (word_of t.word) plain keeps-rules.placed)
-      a.stands.kept
+      same-prime n s last left (later-line n (word_of t.word) plain keeps-rules.placed)
+      stands.kept
 
   -- the cells of the line are among those of the list
-  pub cells-inside : a.state.cells + (gadget a.state (taken numbers t)).width ≤ a.listed.last.cells
+  pub cells-inside : s.cells + (gadget s (taken numbers t)).width ≤ last.cells
   unfolding after
-  cells-inside = cells-grow took.rest (suc a.number) (after a.state (taken numbers t)) a.listed.last took.kept.1
+  cells-inside = cells-grow took.rest (suc n) (after s (taken numbers t)) last took.kept.1
 
   -- its values are counted
-  pub values-counted : t.counts.values ≡ c.values + length (gadget a.state (taken numbers t)).made
+  pub values-counted : t.after.values ≡ c.values + length (gadget s (taken numbers t)).made
   unfolding after
   values-counted =
-      let g = gadget a.state (taken numbers t) in
+      let g = gadget s (taken numbers t) in
       omega (
         arith,
         took.next.counted.values-are,
         length-append g.narrowed g.made,
-        (few a.number a.state (taken numbers t) keeps-rules).2,
-        a.stands.counted.values-are,
+        (few n s (taken numbers t) keeps-rules).2,
+        stands.counted.values-are,
       )
 
   abbrev pub line_kept : KeptLine (word_of t.word) (take t.count numbers)
   line_kept = record {
-    line = a.number;
-    state = a.state;
-    sound = a.stands.sound;
+    line = n;
+    state = s;
+    sound = stands.sound;
     keeps = keeps-rules;
-    p-most = λ plain. subst (λ (q : ℕ). q ≤ greatest) (sym (prime-here plain)) a.stands.p-most;
+    p-most = λ plain. subst (λ (q : ℕ). q ≤ greatest) (sym (prime-here plain)) stands.p-most;
     counted = took.counted;
     small = λ i h. let here : i < t.count = omega (arith, length-take t.count numbers) in rw (get_or-take t.count numbers i (pos 0) here) (took.small i here);
   }
+
+-- a line that a walk takes is the first that is left, in whatever way the walk stood before it
+pub taken-here : {list : List ℕ} {old new : Walk} {numbers : List ℤ} {t : Taken} → old.text.bytes.now ≡ list → Takes old new numbers t
+    → {last s : Known} {left : List Line} (stands : Stands list last s left t.before old.at t.number) → Took stands numbers t new.at
+taken-here {old = old} {new = new} {numbers = numbers} {t = t} over takes {last} {s} {left} =
+    subst (λ (l : List ℕ). (stands : Stands l last s left t.before old.at t.number) → Took stands numbers t new.at) over takes.took

@@ -36,13 +36,13 @@ use Rattle.refusal.specs.declared.refused.Refused.{Refused}
 use Rattle.refusal.specs.Refusal.{number_of}
 use Rattle.std.specs.Prelude.{Option, Some, None, Ok, Err}
 use Rattle.std.specs.Prelude.{Result as Answered}
-use Rattle.table.specs.LineValues.{ValuesGiven}
-use Rattle.service.specs.Walk.{Stands, ListRead, AtLine, Took}
+use Rattle.table.specs.LineValues.{ValuesGiven, WorkYield}
+use Rattle.service.specs.Walk.{Stands, ListRead}
+use Rattle.service.specs.Taken.{Took, taken as taken-line}
 use Rattle.service.specs.declared.walk.Taken.{Taken}
 use Rattle.service.specs.Make.{with_value, WorkGiven, WorkingYield}
 use Rattle.service.proofs.ReadList.{same_lines, same-last}
 use Rattle.service.proofs.Standing.{stands-first, nothing_left, known-last, line_kept}
-use Rattle.meaning.specs.Word.{most_numbers}
 
 -- ---- the value that a line makes
 
@@ -97,12 +97,11 @@ cells-joined cs ds (true-table vs es) = ap (true-table vs) (sym (append_assoc cs
 -- ---- the walk
 
 -- the values of the lines before this one stand in the array
-pub record WorkingOn (list : List ℕ) (inputs numbers values : List ℤ) (c : Counts) (at n : ℕ) : Type 0 where
+pub record WorkingOn (list : List ℕ) (inputs values : List ℤ) (c : Counts) (at n : ℕ) : Type 0 where
   pub given : WorkGiven list inputs
   pub state : Known
   pub left : List Line
   pub stands : Stands list given.listed.last state left c at n
-  pub numbers-long : length numbers ≡ most_numbers
   pub values-long : length values ≡ value_limit
   pub within : Within state.known (take (length state.known) values)
   pub cells : List ℕ
@@ -114,22 +113,21 @@ unfolding with_cells
 nothing-before (false-at n) = refl
 nothing-before (true-table vs cs) = refl
 
-pub working-first : (list : List ℕ) (inputs numbers values : List ℤ) → length numbers ≡ most_numbers → length values ≡ value_limit → WorkGiven list inputs
-    → WorkingOn list inputs numbers values (counted 0 0 0 0) 0 0
+pub working-first : (list : List ℕ) (inputs values : List ℤ) → length values ≡ value_limit → WorkGiven list inputs
+    → WorkingOn list inputs values (counted 0 0 0 0) 0 0
 unfolding work fresh
-working-first list inputs numbers values h k a = record {
+working-first list inputs values k a = record {
   given = a;
   state = fresh;
   left = a.listed.lines;
   stands = stands-first list a.listed.lines a.listed.last a.listed.is_read a.listed.p-most;
-  numbers-long = h;
   values-long = k;
   within = tt;
   cells = [];
   so_far = nothing-before (work a.listed.lines inputs);
 }
 
-module _ {list : List ℕ} {inputs numbers values : List ℤ} {c : Counts} {at n : ℕ} (w : WorkingOn list inputs numbers values c at n) where
+module _ {list : List ℕ} {inputs values : List ℤ} {c : Counts} {at n : ℕ} (w : WorkingOn list inputs values c at n) where
   abbrev before : List ℤ
   before = take (length w.state.known) values
 
@@ -149,15 +147,17 @@ module _ {list : List ℕ} {inputs numbers values : List ℤ} {c : Counts} {at n
 
   -- ---- what a line is worked with
 
-  abbrev pub at-line : at < length list → AtLine list c at
-  at-line inside = record { listed = w.given.listed; number = n; state = w.state; left = w.left; stands = w.stands; inside = inside }
-
-  module _ (inside : at < length list) {numbers' : List ℤ} {t : Taken} (took : Took (at-line inside) numbers' t) where
-    abbrev pub values-given : ValuesGiven (word_of t.word) (take t.count numbers') (take c.values values)
+  module _ {numbers : List ℤ} {t : Taken} {after-it : ℕ} (took : Took w.stands numbers t after-it) where
+    abbrev pub values-given : ValuesGiven (word_of t.word) (take t.count numbers) (take c.values values)
     values-given = record {
       kept = line_kept took;
       within = rw (← w.stands.counted.values-are) w.within;
     }
+
+    -- what its working answers, said of what is known
+    pub worked-so : {x : ℤ} (r : Answered (Option Whole) Refusal) → x ≡ next → WorkYield (word_of t.word) (take t.count numbers) (take c.values values) x r
+        → worked_meaning r ≡ cond ((gadget w.state (taken-line numbers t)).statement before) (value ((gadget w.state (taken-line numbers t)).values before next)) (refused_by 18)
+    worked-so r is yields = rw (w.stands.counted.values-are, ← is) (yields values-given)
 
   -- ---- what the line's working then yields
 
@@ -233,16 +233,14 @@ module _ {list : List ℕ} {inputs numbers values : List ℤ} {c : Counts} {at n
         w.stands.counted.inputs_are,
       ))
 
-      pub working-next : {d : Counts} {at' : ℕ} (numbers' : List ℤ)
-          → Stands list w.given.listed.last (after w.state l) rest d at' (n + 1) → length numbers' ≡ most_numbers
-          → WorkingOn list inputs numbers' values' d at' (n + 1)
+      pub working-next : {d : Counts} {at' : ℕ} → Stands list w.given.listed.last (after w.state l) rest d at' (n + 1)
+          → WorkingOn list inputs values' d at' (n + 1)
       unfolding after
-      working-next {d} numbers' stands long = record {
+      working-next {d} stands = record {
         given = w.given;
         state = after w.state l;
         left = rest;
         stands = stands;
-        numbers-long = long;
         values-long = values-kept values c.values r ∙ w.values-long;
         within = rw taken (law.within before next w.within holds in-range);
         cells = w.cells ++ g.cells before next;

@@ -2,7 +2,7 @@
 use mathlib.Core.Path.{◌≡◌, refl, sym, ap, ap₂, ◌∙◌}
 use mathlib.Core.Bool.{cond}
 use mathlib.Core.List.{List, [], ◌∷◌, ◌++◌, append-nil, append_assoc}
-use Prim.Native.Nat.{ℕ, suc, ◌+◌, ◌-◌, ◌≤◌, ◌<◌}
+use Prim.Native.Nat.{ℕ, suc, ◌+◌, ◌-◌, ◌≤◌}
 use native.Mathlib.Omega.{arith}
 use native.Mathlib.Nat.{add-zero}
 use native.Mathlib.Numerals.{add-one}
@@ -12,7 +12,7 @@ use lib.ListN.{length, get_or, take, drop, length-append, length-take, length-dr
 use lib.Seq.{take-add, take-take, take_at, drop_at, get_or-drop, drop-drop, length-take-le}
 use borrow.Rule.Slice.PartMut.{put_mid}
 use Rattle.meaning.specs.Number.{in_range, remainder}
-use Rattle.meaning.specs.Word.{Word, field, input, span, sum, relu, which, max, root, kind_of, most_numbers}
+use Rattle.meaning.specs.Word.{Word, field, input, span, sum, relu, which, max, root, kind_of}
 use Rattle.meaning.specs.Line.{Line}
 use Rattle.meaning.specs.Known.{Known, fresh, Within}
 use Rattle.meaning.specs.Gadget.Interface.{Gadget}
@@ -36,7 +36,8 @@ use Rattle.reader.specs.Size.{counted}
 use Rattle.reader.specs.declared.counts.Counts.{Counts}
 use Rattle.reader.proofs.Steps.{few}
 use Rattle.table.specs.LineValues.{CellsGiven}
-use Rattle.service.specs.Walk.{Stands, AtLine, Took, taken}
+use Rattle.service.specs.Walk.{Stands}
+use Rattle.service.specs.Taken.{taken, Took}
 use Rattle.service.specs.declared.walk.Taken.{Taken}
 use Rattle.service.specs.Make.{WriteGiven}
 use Rattle.service.proofs.ReadList.{same_lines, same-last}
@@ -143,32 +144,29 @@ next-values values ys n h e =
 -- ---- the walk
 
 -- the cells of the lines before this one are written
-pub record Writing (list : List ℕ) (p : ℕ) (values : List ℤ) (before table : List ℕ) (numbers : List ℤ) (c : Counts) (at : ℕ) : Type 0 where
+pub record Writing (list : List ℕ) (p : ℕ) (values : List ℤ) (before table : List ℕ) (c : Counts) (at n : ℕ) : Type 0 where
   pub given : WriteGiven list p values before
-  pub number : ℕ
   pub state : Known
   pub left : List Line
-  pub stands : Stands list given.given.listed.last state left c at number
-  pub numbers-long : length numbers ≡ most_numbers
+  pub stands : Stands list given.given.listed.last state left c at n
+  pub values-long : length values ≡ value_limit
   pub within : Within state.known (take (length state.known) values)
   pub done : List ℕ
   pub done-long : length done ≡ c.cells.0
   pub table_is : table ≡ done ++ drop c.cells.0 before
   pub to-come : List ℕ
-  pub left-worked : work_from number state (take (length state.known) values) (drop c.inputs given.inputs) left
+  pub left-worked : work_from n state (take (length state.known) values) (drop c.inputs given.inputs) left
       ≡ true-table (take (length given.given.listed.last.known) values) to-come
   pub all-cells : done ++ to-come ≡ given.cells
 
-pub writing-first : (list : List ℕ) (p : ℕ) (values : List ℤ) (before : List ℕ) (numbers : List ℤ) → length numbers ≡ most_numbers → WriteGiven list p values before
-    → Writing list p values before before numbers (counted 0 0 0 0) 0
+pub writing-first : (list : List ℕ) (p : ℕ) (values : List ℤ) (before : List ℕ) → length values ≡ value_limit → WriteGiven list p values before → Writing list p values before before (counted 0 0 0 0) 0 0
 unfolding work fresh
-writing-first list p values before numbers h a = record {
+writing-first list p values before h a = record {
   given = a;
-  number = 0;
   state = fresh;
   left = a.given.listed.lines;
   stands = stands-first list a.given.listed.lines a.given.listed.last a.given.listed.is_read a.given.listed.p-most;
-  numbers-long = h;
+  values-long = h;
   within = tt;
   done = [];
   done-long = refl;
@@ -178,8 +176,8 @@ writing-first list p values before numbers h a = record {
   all-cells = refl;
 }
 
-module _ {list : List ℕ} {p : ℕ} {values : List ℤ} {before table : List ℕ} {numbers : List ℤ} {c : Counts} {at : ℕ}
-    (w : Writing list p values before table numbers c at) where
+module _ {list : List ℕ} {p : ℕ} {values : List ℤ} {before table : List ℕ} {c : Counts} {at n : ℕ}
+    (w : Writing list p values before table c at n) where
   abbrev last : Known
   last = w.given.given.listed.last
 
@@ -192,7 +190,7 @@ module _ {list : List ℕ} {p : ℕ} {values : List ℤ} {before table : List �
     w.done-long,
     w.given.long,
     w.stands.counted.cells_are,
-    cells-grow w.left w.number w.state last w.stands.kept,
+    cells-grow w.left n w.state last w.stands.kept,
   )
 
   -- every cell is written
@@ -201,7 +199,7 @@ module _ {list : List ℕ} {p : ℕ} {values : List ℤ} {before table : List �
   writing-end h b =
       let l = w.given.given.listed in
       let ended : true-table (take (length w.state.known) values) [] ≡ true-table (take (length last.known) values) w.to-come =
-      ap (work_from w.number w.state (take (length w.state.known) values) (drop c.inputs w.given.inputs)) (sym (nothing_left w.stands h)) ∙ w.left-worked in
+      ap (work_from n w.state (take (length w.state.known) values) (drop c.inputs w.given.inputs)) (sym (nothing_left w.stands h)) ∙ w.left-worked in
       let all_done : length before ≤ c.cells.0 = omega (arith, w.given.long, ap (λ (z : Known). z.cells) (known-last w.stands h), w.stands.counted.cells_are) in
       let same = same-cells l.lines 0 fresh [] w.given.inputs b.inputs (take (length last.known) values) w.given.cells b.cells w.given.worked
       (ap (λ (ls : List Line). work ls b.inputs) (same_lines l b.given.listed) ∙ b.worked
@@ -214,19 +212,8 @@ module _ {list : List ℕ} {p : ℕ} {values : List ℤ} {before table : List �
   abbrev pub part : List ℕ
   part = take (length table - c.cells.0) (drop c.cells.0 table)
 
-  abbrev pub at-line : at < length list → AtLine list c at
-  at-line inside = record { listed = w.given.given.listed; number = w.number; state = w.state; left = w.left; stands = w.stands; inside = inside }
-
-  module _ (inside : at < length list) {numbers' : List ℤ} {t : Taken} (took : Took (at-line inside) numbers' t) where
-    pub first-inside : c.cells.0 ≤ length table
-    first-inside = omega (
-      arith,
-      cells-inside took,
-      table-long,
-      w.stands.counted.cells_are,
-    )
-
-    pub room-here : (gadget w.state (taken numbers' t)).width ≤ length part
+  module _ {numbers : List ℤ} {t : Taken} {after-it : ℕ} (took : Took w.stands numbers t after-it) where
+    pub room-here : (gadget w.state (taken numbers t)).width ≤ length part
     room-here = omega (
       arith,
       cells-inside took,
@@ -237,10 +224,10 @@ module _ {list : List ℕ} {p : ℕ} {values : List ℤ} {before table : List �
     )
 
     -- how many values the line makes
-    pub made-is : t.counts.values - c.values ≡ length (gadget w.state (taken numbers' t)).made
+    pub made-is : t.after.values - c.values ≡ length (gadget w.state (taken numbers t)).made
     made-is = omega (arith, values-counted took)
 
-    abbrev pub cells-given : CellsGiven p (word_of t.word) (take t.count numbers') (take c.values values) (take (t.counts.values - c.values) (drop c.values values)) part
+    abbrev pub cells-given : CellsGiven p (word_of t.word) (take t.count numbers) (take c.values values) (take (t.after.values - c.values) (drop c.values values)) part
     cells-given = record {
       given = record {
         kept = line_kept took;
@@ -249,18 +236,18 @@ module _ {list : List ℕ} {p : ℕ} {values : List ℤ} {before table : List �
       prime = λ plain. prime-here took plain ∙ w.given.prime;
       made-long = rw made-is (omega (
         arith,
-        length-take (length (gadget w.state (taken numbers' t)).made) (drop c.values values),
+        length-take (length (gadget w.state (taken numbers t)).made) (drop c.values values),
         length-drop c.values values,
         values-counted took,
         took.next.few.values-most,
-        w.given.values-long,
+        w.values-long,
       ));
       room = room-here;
     }
 
   -- ---- a line
 
-  module _ (l : Line) (rest : List Line) (left_is : w.left ≡ l ∷ rest) (kept : Kept w.number w.state (l ∷ rest) last) where
+  module _ (l : Line) (rest : List Line) (left_is : w.left ≡ l ∷ rest) (kept : Kept n w.state (l ∷ rest) last) where
     abbrev here : Gadget
     here = gadget w.state l
 
@@ -277,28 +264,28 @@ module _ {list : List ℕ} {p : ℕ} {values : List ℤ} {before table : List �
     all-values = take (length last.known) values
 
     abbrev later : Worked
-    later = work_from (suc w.number) (after w.state l) (known_values ++ here.values known_values next) (drop here.inputs (drop c.inputs w.given.inputs)) rest
+    later = work_from (suc n) (after w.state l) (known_values ++ here.values known_values next) (drop here.inputs (drop c.inputs w.given.inputs)) rest
 
     law : Law last.p w.state here
-    law = first-law l rest w.number w.state last kept w.stands.sound
+    law = first-law l rest n w.state last kept w.stands.sound
 
     -- the line's statement is true, and its cells are the next to come
     parted : T (here.statement known_values) × ((es : List ℕ) × (later ≡ true-table all-values es) × (here.cells known_values next ++ es ≡ w.to-come))
     unfolding work_from next
-    parted = split-worked (here.statement known_values) w.number (here.cells known_values next) later all-values w.to-come
-        (ap (work_from w.number w.state known_values (drop c.inputs w.given.inputs)) (sym left_is) ∙ w.left-worked)
+    parted = split-worked (here.statement known_values) n (here.cells known_values next) later all-values w.to-come
+        (ap (work_from n w.state known_values (drop c.inputs w.given.inputs)) (sym left_is) ∙ w.left-worked)
 
     few-known : known ≤ value_limit
     few-known = omega (arith, w.stands.counted.values-are, w.stands.few.values-most)
 
     known-long : length known_values ≡ known
-    known-long = length-take-le known values (omega (arith, few-known, w.given.values-long))
+    known-long = length-take-le known values (omega (arith, few-known, w.values-long))
 
     -- with the line's own, the values before it are the first of the array
     values-taken : take (known + length (here.values known_values next)) values ≡ known_values ++ here.values known_values next
     values-taken =
         let ys = here.values known_values next in
-        let more = values-extended rest (suc w.number) (after w.state l) (known_values ++ ys) (drop here.inputs (drop c.inputs w.given.inputs)) all-values parted.1.0 parted.1.1 in
+        let more = values-extended rest (suc n) (after w.state l) (known_values ++ ys) (drop here.inputs (drop c.inputs w.given.inputs)) all-values parted.1.0 parted.1.1 in
         let long : length (known_values ++ ys) ≡ known + length ys = length-append known_values ys ∙ ap (λ (i : ℕ). i + length ys) known-long in
         let enough : known + length ys ≤ length last.known = omega (
           arith,
@@ -315,7 +302,7 @@ module _ {list : List ℕ} {p : ℕ} {values : List ℤ} {before table : List �
     count-after = omega (
       arith,
       length-append here.narrowed here.made,
-      (few w.number w.state l (keeps-all w.number w.state l kept.0)).2,
+      (few n w.state l (keeps-all n w.state l kept.0)).2,
       law.values-count known_values next,
     )
 
@@ -323,30 +310,29 @@ module _ {list : List ℕ} {p : ℕ} {values : List ℤ} {before table : List �
     pub made-stand : here.values (take c.values values) next ≡ take (length here.made) (drop c.values values)
     made-stand =
         ap (λ (i : ℕ). here.values (take i values) next) (sym w.stands.counted.values-are)
-        ∙ sym (next-values values (here.values known_values next) known (omega (arith, few-known, w.given.values-long)) values-taken)
+        ∙ sym (next-values values (here.values known_values next) known (omega (arith, few-known, w.values-long)) values-taken)
         ∙ ap₂ (λ (i j : ℕ). take i (drop j values)) (law.values-count known_values next) w.stands.counted.values-are
 
     in-range : 1 ≤ here.inputs → T (in_range last.p next)
     unfolding after next
     in-range i = rw (get_or-drop c.inputs w.given.inputs 0 (pos 0), add-zero c.inputs) (w.given.given.column.within c.inputs (omega (
       arith,
-      inputs-grow rest (suc w.number) (after w.state l) last kept.1,
+      inputs-grow rest (suc n) (after w.state l) last kept.1,
       w.given.given.column.count,
       w.stands.counted.inputs_are,
     )))
 
-    pub writing-next : {d : Counts} {at' : ℕ} (numbers' : List ℤ) (written : List ℕ)
+    pub writing-next : {d : Counts} {at' : ℕ} (written : List ℕ)
         → written ≡ here.cells (take c.values values) next ++ drop here.width part
-        → Stands list last (after w.state l) rest d at' (w.number + 1) → length numbers' ≡ most_numbers
-        → Writing list p values before (put_mid c.cells.0 (length table - c.cells.0) table written) numbers' d at'
+        → Stands list last (after w.state l) rest d at' (n + 1)
+        → Writing list p values before (put_mid c.cells.0 (length table - c.cells.0) table written) d at' (n + 1)
     unfolding after
-    writing-next {d} numbers' written written_is stands long = record {
+    writing-next {d} written written_is stands = record {
       given = w.given;
-      number = w.number + 1;
       state = after w.state l;
       left = rest;
       stands = stands;
-      numbers-long = long;
+      values-long = w.values-long;
       within = rw after-values (law.within known_values next w.within parted.0 in-range);
       done = w.done ++ here.cells known_values next;
       done-long = omega (arith, length-append w.done (here.cells known_values next), w.done-long, wide, cells-after);
@@ -354,7 +340,7 @@ module _ {list : List ℕ} {p : ℕ} {values : List ℤ} {before table : List �
           (rw w.stands.counted.values-are written_is)
           (sym cells-after);
       to-come = parted.1.0;
-      left-worked = rw (add-one w.number, after-values, ← inputs-after, ← drop-drop here.inputs c.inputs w.given.inputs) parted.1.1;
+      left-worked = rw (add-one n, after-values, ← inputs-after, ← drop-drop here.inputs c.inputs w.given.inputs) parted.1.1;
       all-cells = append_assoc w.done (here.cells known_values next) parted.1.0 ∙ ap (λ (q : List ℕ). w.done ++ q) parted.1.2 ∙ w.all-cells;
     }
       where

@@ -11,7 +11,6 @@ use Rattle.number.specs.declared.whole.Whole.{Whole}
 use Rattle.refusal.specs.declared.refused.Refused.{Refused}
 use Rattle.refusal.specs.Refusal.{refused_reply}
 use Rattle.service.specs.Walk.{ListRead}
-use Rattle.meaning.specs.Refusal.{value_limit}
 
 -- the refusal at the first input outside the signed range. FORMAT 10.17
 unfoldable pub inputs_meaning : Perhaps ℕ → Option Reply
@@ -39,7 +38,6 @@ pub record WriteGiven (list : List ℕ) (p : ℕ) (values : List ℤ) (table : L
   pub inputs : List ℤ
   pub given : WorkGiven list inputs
   pub prime : given.listed.last.p ≡ p
-  pub values-long : length values ≡ value_limit
   pub cells : List ℕ
   pub worked : work given.listed.lines inputs ≡ true-table (take (length given.listed.last.known) values) cells
   pub long : length table ≡ given.listed.last.cells

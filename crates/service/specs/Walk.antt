@@ -1,21 +1,16 @@
 -- Walking a list that was read once more, line by line: what the counts are of, and what holds before a line.
-use Rattle.std.specs.Prelude.{◌≡◌, true, cond, List, ◌∷◌, map, ℕ, ◌+◌, ◌≤◌, ◌<◌, ltb, ℤ, length, take, set}
+use Rattle.std.specs.Prelude.{◌≡◌, cond, List, map, ℕ, ◌≤◌, ltb, length, take, set}
 use Rattle.std.proofs.Math.Option.{some}
 use Rattle.algebra.specs.Digits.{Below}
-use Rattle.meaning.specs.Word.{kind_of, most_numbers}
 use Rattle.meaning.specs.Line.{Line, line_of}
 use Rattle.meaning.specs.Known.{Known}
-use Rattle.meaning.specs.Meaning.{after}
 use Rattle.meaning.specs.Refusal.{read, reading, value_limit}
 use Rattle.meaning.specs.Kept.{Kept, Sound}
 use Rattle.meaning.specs.Number.{OddPrime}
 use Rattle.text.specs.Place.{lines_from}
-use Rattle.text.specs.Word.{word_of}
-use Rattle.rules.specs.Ready.{greatest, Small}
-use Rattle.rules.specs.Yield.{line_with}
+use Rattle.rules.specs.Ready.{greatest}
 use Rattle.reader.specs.Size.{Few}
 use Rattle.reader.specs.declared.counts.Counts.{Counts}
-use Rattle.service.specs.declared.walk.Taken.{Taken}
 
 -- the counts are those of what is known
 pub record CountsOf (s : Known) (c : Counts) : Type 0 where
@@ -49,33 +44,12 @@ pub record Stands (list : List ℕ) (last s : Known) (left : List Line) (c : Cou
   pub counted : CountsOf s c
   pub few : Few c
 
--- ---- a line
-
--- a line is still to come at a place of a list that was read
-pub record AtLine (list : List ℕ) (c : Counts) (at : ℕ) : Type 0 where
+-- a walk over a list that was read stands before a line, or at the end
+pub record BeforeLine (list : List ℕ) (c : Counts) (at n : ℕ) : Type 0 where
   pub listed : ListRead list
-  pub number : ℕ
   pub state : Known
   pub left : List Line
-  pub stands : Stands list listed.last state left c at number
-  pub inside : at < length list
-
--- the line that was taken, as the definitions have it
-abbrev pub taken : List ℤ → Taken → Line
-taken numbers t = line_with (word_of t.word) (take t.count numbers)
-
--- it is the first that is left; the counts after it and the place of the next line; and what is known of its numbers
-pub record Took {list : List ℕ} {c : Counts} {at : ℕ} (a : AtLine list c at) (numbers : List ℤ) (t : Taken) : Type 0 where
-  pub rest : List Line
-  pub left_is : a.left ≡ taken numbers t ∷ rest
-  pub kept : Kept a.number a.state (taken numbers t ∷ rest) a.listed.last
-  pub next : Stands list a.listed.last (after a.state (taken numbers t)) rest t.counts t.next (a.number + 1)
-  pub one_more : t.counts.values ≤ c.values + 1
-  pub further : at < t.next
-  pub long : length numbers ≡ most_numbers
-  pub counted : (kind_of (word_of t.word)).is_counted (take t.count numbers) ≡ true
-  pub few : t.count ≤ most_numbers
-  pub small : Small t.count numbers
+  pub stands : Stands list listed.last state left c at n
 
 -- ---- the cells of the values
 

@@ -6,12 +6,13 @@ ghost use Rattle.service.specs.Reply.{reply_meaning, Checks};
 ghost use Rattle.service.specs.Walk.{ListRead, CountsGiven};
 ghost use Rattle.service.specs.Check.{cells_meaning, TableGiven, rows_reply};
 
-use super::walk::{take_line, take_place};
+use super::walk::{Walk, take_place};
 use groups::cells::Table;
 use number::Cell;
-use reader::{Surveyed, counts_of, survey};
+use reader::{Surveyed, survey};
 use refusal::{Refusal, Refused};
 use table::line_rows::line_rows;
+use text::MOST_NUMBERS;
 
 // The public call: for every list and table the reply of the definitions. FORMAT 9.6
 pub fn check(list: &[u8], table: &[u32]) -> Result<(), Refused>
@@ -50,6 +51,7 @@ fn place_of_large(table: &[u32], p: u32) -> Option<usize>
 }
 
 // The first cell of p or more. It is looked for in a table that is refused, and in no other. FORMAT 10.14
+#[tactic(auto, using(crate::proofs::Scan::all_none, crate::proofs::Checked::cells_found), unfolding(crate::specs::Check::cells_meaning, meaning::specs::Reply::refusal_at))]
 fn first_large(table: &[u32], p: u32) -> Option<Cell>
     ensures { cells_meaning result ≡ refusal_at 14 (first_fail (is_cell p) 0 table.now) }
 {
@@ -64,26 +66,21 @@ fn check_rows(list: &[u8], table: &[u32], p: u32) -> Result<(), Refused>
     requires { TableGiven list.now table.now p }
     ensures { (l : ListRead list.now) → reply_meaning result ≡ rows_reply l.last l.lines table.now }
 {
-    let mut numbers: [i64; 33] = [0; 33];
+    let mut numbers = [0; MOST_NUMBERS];
+    // The places so far are the first ones of the array: fixed memory, no heap.
     let mut places: [u16; 256] = [0; 256];
-    let mut counts = counts_of(0, 0, 0, 0);
     let remainders = Table { cells: table, p };
-    let mut at: usize = 0;
-    while at < list.len() {
-        let line = take_line(list, at, counts, &mut numbers);
-        let rows = line_rows(
+    let mut walk = Walk::over(list);
+    while let Some(line) = walk.next(&mut numbers) {
+        line_rows(
             line.word,
             &numbers[..line.count],
             remainders,
-            counts.cells,
-            &places[..counts.values],
-        );
-        if let Err(row) = rows {
-            return Err(Refusal::RowFails.at(counts.rows + row));
-        }
-        take_place(&mut places, counts, line.counts);
-        counts = line.counts;
-        at = line.next;
+            line.before.cells,
+            &places[..line.before.values],
+        )
+        .map_err(|row| Refusal::RowFails.at(line.before.rows + row))?;
+        take_place(&mut places, line.before, line.after);
     }
     Ok(())
 }

@@ -46,10 +46,13 @@ fn make_table(
 }
 
 // The place of the first input outside -M..M. FORMAT 10.17
+#[tactic(auto, using(crate::proofs::Scan::first_at), unfolding(crate::specs::Make::inputs_meaning, meaning::specs::Reply::refusal_at))]
 fn first_outside(inputs: &[i64], p: u32) -> Option<usize>
     requires { 0 < p }
     ensures { inputs_meaning result ≡ refusal_at 17 (first_fail (in_range p) 0 inputs.now) }
 {
+    // By index: a whole number is read out of lent memory at its place (`whole_at`), a rule of the project. `find` over the places was tried, and
+    // that it answers the first of them whose input lies outside is not proved.
     for i in 0..inputs.len() {
         if !in_range(whole_at(inputs, i), p) {
             return Some(i);
@@ -64,6 +67,7 @@ fn make_true(list: &[u8], p: u32, inputs: &[i64], table: &mut [u32]) -> Result<(
     ensures { (l : ListRead list.now)
         → making (reply_meaning result) table.new ≡ filled (work l.lines inputs.now) table.old }
 {
+    // The values so far are the first ones of the array: fixed memory, no heap.
     let mut values: [i64; 256] = [0; 256];
     work_lines(list, inputs, &mut values)?;
     write_lines(list, p, &values, table);

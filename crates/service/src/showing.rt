@@ -4,10 +4,11 @@ ghost use Rattle.meaning.specs.Reply.{shown, shown_from};
 ghost use Rattle.service.specs.Walk.{ListRead};
 ghost use Rattle.service.specs.Show.{cell_place, IsStretch};
 
-use super::walk::take_line;
+use super::walk::Walk;
 use number::Cell;
-use reader::{counts_of, survey};
+use reader::survey;
 use std::ops::Range;
+use text::MOST_NUMBERS;
 
 // The public call: a part of the caller's slice, empty for the field line, for a line that is not there, for a refused list and for a
 // wrong table length.
@@ -32,19 +33,12 @@ fn stretch_of(list: &[u8], line: usize) -> Range<Cell>
     requires { ListRead list.now }
     ensures { (l : ListRead list.now) → IsStretch list.now line l result }
 {
-    let mut numbers: [i64; 33] = [0; 33];
-    let mut counts = counts_of(0, 0, 0, 0);
-    let mut at: usize = 0;
-    let mut n: usize = 0;
-    while at < list.len() {
-        let taken = take_line(list, at, counts, &mut numbers);
-        let next = taken.counts;
-        if n == line {
-            return counts.cells..next.cells;
+    let mut numbers = [0; MOST_NUMBERS];
+    let mut walk = Walk::over(list);
+    while let Some(taken) = walk.next(&mut numbers) {
+        if taken.number == line {
+            return taken.before.cells..taken.after.cells;
         }
-        counts = next;
-        at = taken.next;
-        n += 1;
     }
     let none = Cell::from(0);
     none..none

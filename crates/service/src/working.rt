@@ -3,16 +3,16 @@ ghost use Rattle.std.specs.Prelude.{◌≡◌, ◌<◌, pos, length, get_or, Som
 ghost use Rattle.number.specs.declared.whole.Whole.{Whole};
 ghost use Rattle.service.specs.Walk.{ListRead};
 ghost use Rattle.service.specs.Make.{with_value, WorkGiven, WorkingYield};
-ghost use Rattle.meaning.specs.Refusal.{value_limit};
 
-use super::walk::take_line;
+use super::walk::Walk;
 use number::Whole;
 use number::whole::{set_whole, whole_at};
-use reader::counts_of;
 use refusal::Refused;
 use table::line_works::line_works;
+use text::MOST_NUMBERS;
 
-// The input at a place, and 0 where there is none.
+// The input at a place, and 0 where there is none, as `work_from` of `meaning` has it: only a line `in` takes it, and each has one. By `whole_at`, a
+// rule of the project: `get` would hand out a plain i64.
 fn input_at(inputs: &[i64], at: usize) -> Whole
     ensures { result.0 ≡ get_or inputs.now at (pos 0) }
 {
@@ -33,31 +33,24 @@ fn take_value(values: &mut [i64], at: usize, made: Option<Whole>)
     }
 }
 
-// Every line is worked on the values of the lines before it, until a statement is false. FORMAT 8.3, 8.4, 10.18
-pub fn work_lines(list: &[u8], inputs: &[i64], values: &mut [i64]) -> Result<(), Refused>
-    requires { WorkGiven list.now inputs.now × (length values.old ≡ value_limit) }
-    ensures yields { (l : ListRead list.now) → WorkingYield l.lines l.last inputs.now values.new result }
-    ensures long { length values.new ≡ value_limit }
+// Every line is worked on the values of the lines before it, until a statement is false. The values so far are the first ones of the array: fixed
+// memory, no heap. FORMAT 8.3, 8.4, 10.18
+pub fn work_lines(list: &[u8], inputs: &[i64], values: &mut [i64; 256]) -> Result<(), Refused>
+    requires { WorkGiven list.now inputs.now }
+    ensures { (l : ListRead list.now) → WorkingYield l.lines l.last inputs.now values.new result }
 {
-    let mut numbers: [i64; 33] = [0; 33];
-    let mut counts = counts_of(0, 0, 0, 0);
-    let mut at: usize = 0;
-    let mut n: usize = 0;
-    while at < list.len() {
-        let line = take_line(list, at, counts, &mut numbers);
-        let input = input_at(inputs, counts.inputs);
-        match line_works(
+    let mut numbers = [0; MOST_NUMBERS];
+    let mut walk = Walk::over(list);
+    while let Some(line) = walk.next(&mut numbers) {
+        let input = input_at(inputs, line.before.inputs);
+        let made = line_works(
             line.word,
             &numbers[..line.count],
-            &values[..counts.values],
+            &values[..line.before.values],
             input,
-        ) {
-            Ok(made) => take_value(values, counts.values, made),
-            Err(refusal) => return Err(refusal.at(n)),
-        }
-        counts = line.counts;
-        at = line.next;
-        n += 1;
+        )
+        .map_err(|refusal| refusal.at(line.number))?;
+        take_value(values, line.before.values, made);
     }
     Ok(())
 }

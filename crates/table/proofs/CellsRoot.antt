@@ -34,24 +34,12 @@ module _ {r : ℤ} (small : Bounded value_bound r) where
   next-bounded : Bounded (2 ^ 60 + power_bound) (r *ℤ r +ℤ pos 2 *ℤ r)
   next-bounded = bounded-sum square-bounded twice-bounded
 
-  pub square-fits : SFits w64 (r *ℤ r)
-  square-fits = bounded-fits (2 ^ 60) square-bounded tt
-
-  pub twice-fits : SFits w64 (pos 2 *ℤ r)
-  twice-fits = bounded-fits power_bound twice-bounded tt
-
-  pub next_fits : SFits w64 (r *ℤ r +ℤ pos 2 *ℤ r)
-  next_fits = bounded-fits (2 ^ 60 + power_bound) next-bounded tt
-
   module _ {v : ℤ} (value-small : Bounded value_bound v) where
     pub above-bounded : Bounded form_bound (v -ℤ r *ℤ r)
     above-bounded = bounded-more (bounded-difference value-small square-bounded) (lit≤ tt)
 
     pub below-bounded : Bounded form_bound (r *ℤ r +ℤ pos 2 *ℤ r -ℤ v)
     below-bounded = bounded-more (bounded-difference next-bounded value-small) (lit≤ tt)
-
-    pub above-fits : SFits w64 (v -ℤ r *ℤ r)
-    above-fits = bounded-fits form_bound above-bounded tt
 
     pub below-fits : SFits w64 (r *ℤ r +ℤ pos 2 *ℤ r -ℤ v)
     below-fits = bounded-fits form_bound below-bounded tt

@@ -1,7 +1,6 @@
 -- The laws of the kinds of lines, in the order in which a line is treated.
 --
 -- a line: its word, its numbers, and the values that they name
-pub mod LineWord
 pub mod LineNumbers
 pub mod LineKinds
 pub mod LineValues

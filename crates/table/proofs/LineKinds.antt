@@ -9,7 +9,7 @@ use lib.IntN.{ℤ, pos}
 use lib.ListN.{length, get_or}
 use lib.Dec.{eqb, eqb→eq}
 use Rattle.algebra.proofs.Test.{≡-test}
-use Rattle.meaning.specs.Word.{Word, span, relu, which, max, root, number_at, size_at, digits_at, kind_of}
+use Rattle.meaning.specs.Word.{Word, number_at, size_at, digits_at, kind_of}
 use Rattle.meaning.specs.Known.{Known}
 use Rattle.meaning.specs.Gadget.Interface.{Gadget}
 use Rattle.meaning.specs.Gadget.Span.{span_line}
@@ -18,6 +18,9 @@ use Rattle.meaning.specs.Gadget.Which.{which_line}
 use Rattle.meaning.specs.Gadget.Max.{max_line}
 use Rattle.meaning.specs.Gadget.Root.{root_line}
 use Rattle.meaning.specs.Meaning.{gadget}
+use Rattle.text.specs.Word.{word_of}
+use Rattle.text.specs.declared.Word.{Word as Coded}
+use Rattle.text.specs.declared.Word.TheVariants.{Span, Relu, Which, Max, Root}
 use Rattle.groups.specs.Numbers.{size, NameAt, DigitsFrom, DigitsAre}
 use Rattle.table.specs.Line.{KeptLine, gadget_of, known_count}
 use Rattle.table.proofs.LineNumbers.{first-name, second-name, digits_from, power_below}
@@ -44,30 +47,31 @@ pub record TwoWord (w : Word) (numbers : List ℤ) (line : Known → (u v b k : 
 so-many : (n : ℕ) (numbers : List ℤ) → eqb (length numbers) n ≡ true → length numbers ≡ n
 so-many n numbers e = eqb→eq (length numbers) n (≡-test (eqb (length numbers) n) e)
 
-module _ {numbers : List ℤ} where
-  pub relu-word : KeptLine relu numbers → OneWord relu numbers relu_line
-  unfolding kind_of number_at size_at
-  relu-word l = record { has-digits = record { late = refl; long = omega (arith, so-many 3 numbers l.counted); digits = refl }; names = refl; is = λ s. refl }
+-- which kind a line is of, and what that says of its numbers; the word is the code's
+module _ {word : Coded} {numbers : List ℤ} where
+  pub relu-word : word ≡ Relu → KeptLine (word_of word) numbers → OneWord (word_of word) numbers relu_line
+  unfolding word_of kind_of number_at size_at
+  relu-word e = rw e (λ l. record { has-digits = record { late = refl; long = omega (arith, so-many 3 numbers l.counted); digits = refl }; names = refl; is = λ s. refl })
 
-  pub root-word : KeptLine root numbers → OneWord root numbers root_line
-  unfolding kind_of number_at size_at
-  root-word l = record { has-digits = record { late = refl; long = omega (arith, so-many 3 numbers l.counted); digits = refl }; names = refl; is = λ s. refl }
+  pub root-word : word ≡ Root → KeptLine (word_of word) numbers → OneWord (word_of word) numbers root_line
+  unfolding word_of kind_of number_at size_at
+  root-word e = rw e (λ l. record { has-digits = record { late = refl; long = omega (arith, so-many 3 numbers l.counted); digits = refl }; names = refl; is = λ s. refl })
 
-  pub span-long : KeptLine span numbers → length numbers ≡ 4
-  unfolding kind_of
-  span-long l = so-many 4 numbers l.counted
+  pub span-long : word ≡ Span → KeptLine (word_of word) numbers → length numbers ≡ 4
+  unfolding word_of kind_of
+  span-long e = rw e (λ l. so-many 4 numbers l.counted)
 
-  pub span-word : KeptLine span numbers → OneWord span numbers (λ s v b k. span_line s v b k (get_or numbers 3 (pos 0)))
-  unfolding kind_of number_at size_at
-  span-word l = record { has-digits = record { late = refl; long = omega (arith, span-long l); digits = refl }; names = refl; is = λ s. refl }
+  pub span-word : word ≡ Span → KeptLine (word_of word) numbers → OneWord (word_of word) numbers (λ s v b k. span_line s v b k (get_or numbers 3 (pos 0)))
+  unfolding word_of kind_of number_at size_at
+  span-word e = rw e (λ l. record { has-digits = record { late = refl; long = omega (arith, so-many 4 numbers l.counted); digits = refl }; names = refl; is = λ s. refl })
 
-  pub which-word : KeptLine which numbers → TwoWord which numbers which_line
-  unfolding kind_of number_at size_at
-  which-word l = record { has-digits = record { late = refl; long = omega (arith, so-many 4 numbers l.counted); digits = refl }; names = refl; is = λ s. refl }
+  pub which-word : word ≡ Which → KeptLine (word_of word) numbers → TwoWord (word_of word) numbers which_line
+  unfolding word_of kind_of number_at size_at
+  which-word e = rw e (λ l. record { has-digits = record { late = refl; long = omega (arith, so-many 4 numbers l.counted); digits = refl }; names = refl; is = λ s. refl })
 
-  pub max-word : KeptLine max numbers → TwoWord max numbers max_line
-  unfolding kind_of number_at size_at
-  max-word l = record { has-digits = record { late = refl; long = omega (arith, so-many 4 numbers l.counted); digits = refl }; names = refl; is = λ s. refl }
+  pub max-word : word ≡ Max → KeptLine (word_of word) numbers → TwoWord (word_of word) numbers max_line
+  unfolding word_of kind_of number_at size_at
+  max-word e = rw e (λ l. record { has-digits = record { late = refl; long = omega (arith, so-many 4 numbers l.counted); digits = refl }; names = refl; is = λ s. refl })
 
 -- ---- a line of such a kind that keeps its rules
 
@@ -96,3 +100,10 @@ module _ {w : Word} {numbers : List ℤ} (l : KeptLine w numbers) where
     pub two_is : {b k : ℕ} → DigitsAre numbers 2 b k → gadget_of l ≡ line l.state (size numbers 0) (size numbers 1) b k
     unfolding gadget
     two_is d = word.is l.state ∙ rw (d.base, d.count) refl
+
+  -- where its kind is known by one of the laws above: its digits, as `digits_from` asks them
+  pub one-digits : {line : Known → (v b k : ℕ) → Gadget} → (KeptLine w numbers → OneWord w numbers line) → DigitsFrom numbers 1
+  one-digits kind = word-digits (kind l).has-digits
+
+  pub two-digits : {line : Known → (u v b k : ℕ) → Gadget} → (KeptLine w numbers → TwoWord w numbers line) → DigitsFrom numbers 2
+  two-digits kind = word-digits (kind l).has-digits

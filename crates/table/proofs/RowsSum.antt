@@ -9,20 +9,22 @@ use lib.Dec.{eqb}
 use lib.IntN.{ℤ, pos, nat_abs, ◌+ℤ◌, ◌*ℤ◌}
 use lib.ListN.{length, get_or}
 use Rattle.meaning.specs.Number.{remainder}
-use Rattle.meaning.specs.Word.{sum, number_at, without_first, kind_of}
+use Rattle.meaning.specs.Word.{number_at, without_first, kind_of}
 use Rattle.meaning.specs.Known.{Known, place_of}
 use Rattle.meaning.specs.Row.{Form, cell, constant, ◌⊕◌, ◌⊗◌, ◌≅◌, holds}
 use Rattle.meaning.specs.Reply.{Reply, reply}
 use Rattle.meaning.specs.Gadget.Sum.{terms_of, sum_form, sum_line}
 use Rattle.meaning.specs.Meaning.{gadget}
-use Rattle.groups.specs.Rows.{Leaves, first_refusal}
+use Rattle.std.specs.Prelude.{Result}
+use Rattle.text.specs.Word.{word_of}
+use Rattle.text.specs.declared.Word.{Word as Coded}
+use Rattle.text.specs.declared.Word.TheVariants.{Sum}
+use Rattle.groups.specs.Rows.{Leaves, rows_meaning, first_refusal}
 use Rattle.groups.proofs.RowsFirst.{first-none, first-row}
 use Rattle.groups.proofs.RowsForm.{leaves-whole, leaves-⊕, leaves-⊗, row-test}
-use Rattle.table.specs.Line.{gadget_of}
-use Rattle.table.specs.LineRows.{RowsGiven}
+use Rattle.table.specs.LineRows.{RowsGiven, RowsYield}
 use Rattle.table.specs.Sum.{PlacesInside}
 use Rattle.table.proofs.LineSum.{first-term, no-terms}
-use Rattle.table.proofs.RowsLine.{p-three}
 use Rattle.table.proofs.WorksLine.{some-number}
 
 -- ---- the sum so far
@@ -75,18 +77,18 @@ module _ (p : ℕ) (t : List ℕ) (ns : List ℤ) (places : List ℕ) where
 
 -- ---- the line, as a list that was read has it
 
-module _ {p : ℕ} {numbers : List ℤ} {table : List ℕ} {cells : ℕ} {places : List ℕ} (a : RowsGiven p sum numbers table cells places) where
-  pub sum-given : (0 < p) × (cells < length table) × (0 < length numbers) × PlacesInside numbers places (length table)
-  unfolding kind_of gadget sum_line
-  sum-given = (
-    omega (arith, p-three a refl),
+module _ {word : Coded} (is : word ≡ Sum) {p : ℕ} {numbers : List ℤ} {table : List ℕ} {cells : ℕ} {places : List ℕ} where
+  pub sum-given : RowsGiven p (word_of word) numbers table cells places
+      → (cells < length table) × (0 < length numbers) × PlacesInside numbers places (length table)
+  unfolding word_of kind_of gadget sum_line
+  sum-given = rw is (λ a. (
     omega (arith, a.room),
     omega (arith, some-number numbers a.kept.counted),
     record { named = rw a.places-long a.kept.keeps.names-made; inside = λ v h. a.inside v (omega (arith, a.places-long)) },
-  )
+  ))
 
-  pub sum-yield : {meaning : Option Reply} → ((s : Known) → s.p ≡ p → s.cells ≡ cells → s.places ≡ places
-      → meaning ≡ first_refusal (holds p table) 0 (sum_line s (number_at numbers 0) (terms_of (without_first numbers))).rows)
-      → meaning ≡ first_refusal (holds p table) 0 (gadget_of a.kept).rows
-  unfolding kind_of gadget
-  sum-yield yields = yields a.kept.state (a.prime refl) a.cells_are a.places-are
+  pub sum-yield : (r : Result (Unit {0}) ℕ) → ((s : Known) → s.p ≡ p → s.cells ≡ cells → s.places ≡ places
+      → rows_meaning r ≡ first_refusal (holds p table) 0 (sum_line s (number_at numbers 0) (terms_of (without_first numbers))).rows)
+      → RowsYield p (word_of word) numbers table cells places r
+  unfolding word_of kind_of gadget
+  sum-yield r yields = rw is (λ a. yields a.kept.state (a.prime refl) a.cells_are a.places-are)

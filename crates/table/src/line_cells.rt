@@ -11,11 +11,12 @@ use super::which::which_value;
 use groups::group::form_cells;
 use groups::numbers::digits_from;
 use groups::sign::signed_cells;
-use groups::value::known_cell;
+use groups::value::value_cell;
 use number::whole::{whole_at, whole_difference};
 use text::Word;
 
-// The values are those before the line, and beside them is the one that it makes, where it makes one.
+// The values are those before the line. `made` is a part of the values, none or one, the one that the line makes: an Option would be made of it for every
+// line, where two kinds of eight look at it.
 pub fn line_cells(
     word: Word,
     numbers: &[i64],
@@ -27,12 +28,20 @@ pub fn line_cells(
     requires { CellsGiven p (word_of word) numbers.now values.now made.now part.old }
     ensures { CellsYield p (word_of word) numbers.now values.now made.now part.old part.new }
 {
+    // A match, and no table of functions: what a kind's function takes differs (names, digits, a shift), and the compiler calls each one directly.
     match word {
         Word::Field => {}
-        Word::In | Word::Sum => known_cell(part, p, made, 0),
+        Word::In | Word::Sum => value_cell(part, p, whole_at(made, 0)),
         Word::Span => {
             let v = value_at(numbers, 0, values);
-            form_cells(part, v.whole, whole_at(numbers, 3), digits_from(numbers, 1));
+            let digits = digits_from(numbers, 1);
+            form_cells(
+                part,
+                v.whole,
+                whole_at(numbers, 3),
+                digits.base,
+                digits.count,
+            );
         }
         Word::Relu => {
             let v = value_at(numbers, 0, values);

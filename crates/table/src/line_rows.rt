@@ -8,7 +8,7 @@ use super::root::root_rows;
 use super::span::span_rows;
 use super::sum::sum_rows;
 use super::which::which_rows;
-use groups::cells::Table;
+use groups::cells::{GroupTable, Table};
 use groups::numbers::{digits_from, place_at};
 use number::Cell;
 use number::whole::whole_at;
@@ -25,34 +25,36 @@ pub fn line_rows(
     requires { RowsGiven table.p (word_of word) numbers.now table.cells.now at.0 places.now }
     ensures { RowsYield table.entry.p (word_of word) numbers.now table.entry.cells.now at.0 places.now result }
 {
+    // A match, and no table of functions: what a kind's function takes differs (names, digits, a shift), and the compiler calls each one directly.
     match word {
         Word::Field | Word::In => Ok(()),
         Word::Span => {
             let v = place_at(numbers, 0, places);
-            span_rows(table, v, at, digits_from(numbers, 1), whole_at(numbers, 3))
+            let digits = digits_from(numbers, 1);
+            span_rows(GroupTable { table, digits }, v, at, whole_at(numbers, 3))
         }
         Word::Sum => sum_rows(table, at, numbers, places),
-        Word::Relu => relu_rows(
-            table,
-            place_at(numbers, 0, places),
-            at,
-            digits_from(numbers, 1),
-        ),
+        Word::Relu => {
+            let v = place_at(numbers, 0, places);
+            let digits = digits_from(numbers, 1);
+            relu_rows(GroupTable { table, digits }, v, at)
+        }
         Word::Which => {
             let u = place_at(numbers, 0, places);
             let v = place_at(numbers, 1, places);
-            which_rows(table, u, v, at, digits_from(numbers, 2))
+            let digits = digits_from(numbers, 2);
+            which_rows(GroupTable { table, digits }, u, v, at)
         }
         Word::Max => {
             let u = place_at(numbers, 0, places);
             let v = place_at(numbers, 1, places);
-            max_rows(table, u, v, at, digits_from(numbers, 2))
+            let digits = digits_from(numbers, 2);
+            max_rows(GroupTable { table, digits }, u, v, at)
         }
-        Word::Root => root_rows(
-            table,
-            place_at(numbers, 0, places),
-            at,
-            digits_from(numbers, 1),
-        ),
+        Word::Root => {
+            let v = place_at(numbers, 0, places);
+            let digits = digits_from(numbers, 1);
+            root_rows(GroupTable { table, digits }, v, at)
+        }
     }
 }

@@ -16,6 +16,7 @@ use refusal::Refusal;
 use text::Word;
 
 // The values are those before the line. Next is the next input, which is the value of a line `in`. FORMAT 3.6
+#[tactic(auto, using(crate::proofs::WorksLine::line_yields))]
 pub fn line_works(
     word: Word,
     numbers: &[i64],
@@ -25,6 +26,7 @@ pub fn line_works(
     requires { ValuesGiven (word_of word) numbers.now values.now }
     ensures { WorkYield (word_of word) numbers.now values.now next.0 result }
 {
+    // A match, and no table of functions: what a kind's function takes differs (names, digits, a shift), and the compiler calls each one directly.
     match word {
         Word::Field => Ok(None),
         Word::In => Ok(Some(next)),

@@ -11,7 +11,7 @@ ghost use Rattle.groups.specs.Rows.{rows_meaning, first_refusal};
 ghost use Rattle.table.specs.Max.{max_cells};
 
 use super::value::Value;
-use groups::cells::Table;
+use groups::cells::GroupTable;
 use groups::digits::Digits;
 use groups::group::{group_rows, two_groups};
 use groups::rows::row_before;
@@ -53,24 +53,19 @@ pub fn max_cells(out: &mut [u32], p: u32, u: Value, v: Value, digits: Digits)
     value_cell(out, p, y);
     let over_u = whole_difference(y, u.whole);
     let over_v = whole_difference(y, v.whole);
-    two_groups(&mut out[1..], over_u, over_v, digits);
+    two_groups(&mut out[1..], over_u, over_v, digits.base, digits.count);
 }
 
 // ---- rows
 
-pub fn max_rows(
-    table: Table,
-    place_u: Cell,
-    place_v: Cell,
-    at: Cell,
-    digits: Digits,
-) -> Result<(), usize>
-    requires { (place_u.0 < length table.cells.now) × (place_v.0 < length table.cells.now)
-        × (at.0 + 1 + 2 * digits.count ≤ length table.cells.now) × (digits.base ^ digits.count ≤ table.p) }
-    ensures { let p = table.entry.p in let t = table.entry.cells.now in
+pub fn max_rows(group: GroupTable, place_u: Cell, place_v: Cell, at: Cell) -> Result<(), usize>
+    requires { (place_u.0 < length group.table.cells.now) × (place_v.0 < length group.table.cells.now)
+        × (at.0 + 1 + 2 * group.digits.count ≤ length group.table.cells.now) }
+    ensures { let p = group.entry.table.p in let t = group.entry.table.cells.now in
         (s : Known) (u v : ℕ) → s.p ≡ p → place_of s u ≡ place_u.0 → place_of s v ≡ place_v.0 → s.cells ≡ at.0
-        → rows_meaning result ≡ first_refusal (holds p t) 0 (max_line s u v digits.base digits.count).rows }
+        → rows_meaning result ≡ first_refusal (holds p t) 0 (max_line s u v group.entry.digits.base group.entry.digits.count).rows }
 {
+    let GroupTable { table, digits } = group;
     let k = digits.count;
     let made = table.at(at);
     let over_u = difference(made, table.at(place_u), table.p);

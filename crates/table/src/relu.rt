@@ -10,7 +10,7 @@ ghost use Rattle.groups.specs.Cells.{worked_meaning};
 ghost use Rattle.groups.specs.Rows.{rows_meaning, first_refusal};
 
 use super::value::Value;
-use groups::cells::Table;
+use groups::cells::GroupTable;
 use groups::digits::Digits;
 use groups::sign::{sign_rows, sign_works};
 use number::residue::{product, sum};
@@ -30,7 +30,7 @@ pub fn relu_works(v: Value, digits: Digits) -> Result<Option<Whole>, Refusal>
     ensures { worked_meaning result
         ≡ cond (sign_statement digits.base digits.count v.whole.0) (value (larger (pos 0) v.whole.0 ∷ [])) (refused_by 18) }
 {
-    if sign_works(v.whole, digits) {
+    if sign_works(v.whole, digits.base, digits.power()) {
         Ok(Some(relu_value(v)))
     } else {
         Err(Refusal::StatementFalse)
@@ -39,16 +39,17 @@ pub fn relu_works(v: Value, digits: Digits) -> Result<Option<Whole>, Refusal>
 
 // ---- rows
 
-pub fn relu_rows(table: Table, place: Cell, at: Cell, digits: Digits) -> Result<(), usize>
-    requires { (place.0 < length table.cells.now) × (at.0 + digits.count + 3 ≤ length table.cells.now) × (digits.base ^ digits.count ≤ table.p) }
-    ensures { let p = table.entry.p in let t = table.entry.cells.now in
+pub fn relu_rows(group: GroupTable, place: Cell, at: Cell) -> Result<(), usize>
+    requires { (place.0 < length group.table.cells.now) × (at.0 + group.digits.count + 3 ≤ length group.table.cells.now) }
+    ensures { let p = group.entry.table.p in let t = group.entry.table.cells.now in
         (s : Known) (v : ℕ) → s.p ≡ p → place_of s v ≡ place.0 → s.cells ≡ at.0
-        → rows_meaning result ≡ first_refusal (holds p t) 0 (relu_line s v digits.base digits.count).rows }
+        → rows_meaning result ≡ first_refusal (holds p t) 0 (relu_line s v group.entry.digits.base group.entry.digits.count).rows }
 {
+    let GroupTable { table, digits } = group;
     let value = table.at(place);
     let number = sum(value, Residue::from(digits.top_part()), table.p);
     let flag = table.at(at.after(1 + digits.count));
     let kept = product(flag, value, table.p);
     let made = table.at(at);
-    sign_rows(table, number, kept == made, at.after(1), digits)
+    sign_rows(group, number, kept == made, at.after(1))
 }

@@ -11,7 +11,7 @@ ghost use Rattle.groups.specs.Rows.{rows_meaning, first_refusal, Leaves};
 ghost use Rattle.table.specs.Root.{rest_cells, root_cells, four_groups};
 
 use super::value::Value;
-use groups::cells::Table;
+use groups::cells::GroupTable;
 use groups::digits::Digits;
 use groups::group::{group_rows, two_groups};
 use groups::rows::row_before;
@@ -53,7 +53,7 @@ pub fn root_cells(out: &mut [u32], p: u32, v: Value, digits: Digits)
 {
     let r = root_value(v);
     square_cells(out, p, r);
-    two_groups(&mut out[2..], v.whole, r.whole, digits);
+    two_groups(&mut out[2..], v.whole, r.whole, digits.base, digits.count);
     let at = 2 + 2 * digits.count;
     rest_cells(&mut out[at..], v, r, digits);
 }
@@ -77,18 +77,18 @@ fn rest_cells(out: &mut [u32], v: Value, r: Value, digits: Digits)
     let above = whole_difference(v.whole, q);
     let twice = whole_product(Whole::from(2), r.whole);
     let below = whole_difference(whole_sum(q, twice), v.whole);
-    two_groups(out, above, below, digits);
+    two_groups(out, above, below, digits.base, digits.count);
 }
 
 // ---- rows
 
-pub fn root_rows(table: Table, place: Cell, at: Cell, digits: Digits) -> Result<(), usize>
-    requires { (2 < table.p) × (place.0 < length table.cells.now) × (at.0 + 2 + 4 * digits.count ≤ length table.cells.now)
-        × (digits.base ^ digits.count ≤ table.p) }
-    ensures { let p = table.entry.p in let t = table.entry.cells.now in
+pub fn root_rows(group: GroupTable, place: Cell, at: Cell) -> Result<(), usize>
+    requires { (2 < group.table.p) × (place.0 < length group.table.cells.now) × (at.0 + 2 + 4 * group.digits.count ≤ length group.table.cells.now) }
+    ensures { let p = group.entry.table.p in let t = group.entry.table.cells.now in
         (s : Known) (v : ℕ) → s.p ≡ p → place_of s v ≡ place.0 → s.cells ≡ at.0
-        → rows_meaning result ≡ first_refusal (holds p t) 0 (root_line s v digits.base digits.count).rows }
+        → rows_meaning result ≡ first_refusal (holds p t) 0 (root_line s v group.entry.digits.base group.entry.digits.count).rows }
 {
+    let table = group.table;
     let p = table.p;
     let value = table.at(place);
     let root = table.at(at);
@@ -97,25 +97,25 @@ pub fn root_rows(table: Table, place: Cell, at: Cell, digits: Digits) -> Result<
     let over = difference(value, square, p);
     let twice = sum(root, root, p);
     let under = difference(sum(square, twice, p), value, p);
-    let later = four_groups(table, value, root, over, under, at.after(2), digits);
+    let later = four_groups(group, value, root, over, under, at.after(2));
     row_before(squared == square, 0, later)
 }
 
 // The four groups, after one row, over the forms A to D that leave these remainders modulo p.
 fn four_groups(
-    table: Table,
+    group: GroupTable,
     value: Residue,
     root: Residue,
     over: Residue,
     under: Residue,
     at: Cell,
-    digits: Digits,
 ) -> Result<(), usize>
-    requires { (at.0 + 4 * digits.count ≤ length table.cells.now) × (digits.base ^ digits.count ≤ table.p) }
-    ensures { let p = table.entry.p in let t = table.entry.cells.now in
+    requires { at.0 + 4 * group.digits.count ≤ length group.table.cells.now }
+    ensures { let p = group.entry.table.p in let t = group.entry.table.cells.now in
         (A B C D : Form) → Leaves p t value.0 A → Leaves p t root.0 B → Leaves p t over.0 C → Leaves p t under.0 D
-        → rows_meaning result ≡ first_refusal (holds p t) 1 (four_groups A B C D at.0 digits.base digits.count) }
+        → rows_meaning result ≡ first_refusal (holds p t) 1 (four_groups A B C D at.0 group.entry.digits.base group.entry.digits.count) }
 {
+    let GroupTable { table, digits } = group;
     let k = digits.count;
     let first = group_rows(table.cells, value, 1, at, digits);
     let second = group_rows(table.cells, root, k + 2, at.after(k), digits);

@@ -11,7 +11,7 @@ ghost use Rattle.groups.specs.Rows.{rows_meaning, first_refusal};
 ghost use Rattle.groups.specs.Cells.{worked_meaning, power_bound};
 
 use super::value::Value;
-use groups::cells::Table;
+use groups::cells::GroupTable;
 use groups::digits::Digits;
 use groups::group::group_rows;
 use number::residue::{difference, remainder_of};
@@ -36,19 +36,13 @@ pub fn span_works(v: Value, digits: Digits, shift: Whole) -> Result<Option<Whole
 
 // ---- rows
 
-pub fn span_rows(
-    table: Table,
-    place: Cell,
-    at: Cell,
-    digits: Digits,
-    shift: Whole,
-) -> Result<(), usize>
-    requires { (0 < table.p) × (place.0 < length table.cells.now) × (at.0 + digits.count ≤ length table.cells.now)
-        × (digits.base ^ digits.count ≤ table.p) }
-    ensures { let p = table.entry.p in let t = table.entry.cells.now in
+pub fn span_rows(group: GroupTable, place: Cell, at: Cell, shift: Whole) -> Result<(), usize>
+    requires { (place.0 < length group.table.cells.now) × (at.0 + group.digits.count ≤ length group.table.cells.now) }
+    ensures { let p = group.entry.table.p in let t = group.entry.table.cells.now in
         (s : Known) (v : ℕ) → s.p ≡ p → place_of s v ≡ place.0 → s.cells ≡ at.0
-        → rows_meaning result ≡ first_refusal (holds p t) 0 (span_line s v digits.base digits.count shift.0).rows }
+        → rows_meaning result ≡ first_refusal (holds p t) 0 (span_line s v group.entry.digits.base group.entry.digits.count shift.0).rows }
 {
+    let GroupTable { table, digits } = group;
     let lowest = remainder_of(shift, table.p);
     let number = difference(table.at(place), lowest, table.p);
     group_rows(table.cells, number, 0, at, digits)

@@ -1,5 +1,5 @@
 // A line `sum c0 c1 v1 c2 v2 ..`: the value y is c0 + c1·v1 + c2·v2 + .., its one cell is that of y, and its one row is that y is this sum
-// modulo p. FORMAT 3.8, 7.8
+// modulo p. The two loops add by other operations: the one whole numbers, over the values, the other remainders modulo p, over their cells. FORMAT 3.8, 7.8
 ghost use Rattle.std.specs.Prelude.{◌≡◌, ◌<◌, ℕ, ℤ, length, take};
 ghost use Rattle.meaning.specs.Word.{number_at, without_first};
 ghost use Rattle.meaning.specs.Known.{Known};
@@ -32,7 +32,7 @@ pub fn sum_works(numbers: &[i64], values: &[i64]) -> Whole
 // ---- rows
 
 pub fn sum_rows(table: Table, at: Cell, numbers: &[i64], places: &[u16]) -> Result<(), usize>
-    requires { (0 < table.p) × (at.0 < length table.cells.now) × (0 < length numbers.now) × PlacesInside numbers.now places.now (length table.cells.now) }
+    requires { (at.0 < length table.cells.now) × (0 < length numbers.now) × PlacesInside numbers.now places.now (length table.cells.now) }
     ensures { let p = table.entry.p in let t = table.entry.cells.now in
         (s : Known) → s.p ≡ p → s.cells ≡ at.0 → s.places ≡ places.now
         → rows_meaning result ≡ first_refusal (holds p t) 0 (sum_line s (number_at numbers.now 0) (terms_of (without_first numbers.now))).rows }

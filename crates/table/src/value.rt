@@ -15,7 +15,8 @@ pub struct Value {
     pub ghost small: { Bounded value_bound whole.0 },
 }
 
-// The value that the number at a place names.
+// The value that the number at a place names, with what the rules say of it. (`place_at` of `groups` finds its cell, which has no such struct: that it lies
+// inside is of a cell and a table, and max and which have two cells in one table.)
 pub fn value_at(numbers: &[i64], at: usize, values: &[i64]) -> Value
     requires { ValueAt numbers.now values.now at }
     ensures { result.whole.0 ≡ named numbers.now at values.now }

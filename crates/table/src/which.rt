@@ -10,7 +10,7 @@ ghost use Rattle.groups.specs.Cells.{worked_meaning};
 ghost use Rattle.groups.specs.Rows.{rows_meaning, first_refusal};
 
 use super::value::Value;
-use groups::cells::Table;
+use groups::cells::GroupTable;
 use groups::digits::Digits;
 use groups::sign::{sign_rows, sign_works};
 use number::residue::{difference, sum};
@@ -35,7 +35,11 @@ pub fn which_works(u: Value, v: Value, digits: Digits) -> Result<Option<Whole>, 
     ensures { worked_meaning result ≡ cond (sign_statement digits.base digits.count (u.whole.0 -ℤ v.whole.0))
         (value (which_value u.whole.0 v.whole.0 ∷ [])) (refused_by 18) }
 {
-    if sign_works(whole_difference(u.whole, v.whole), digits) {
+    if sign_works(
+        whole_difference(u.whole, v.whole),
+        digits.base,
+        digits.power(),
+    ) {
         Ok(Some(which_value(u, v)))
     } else {
         Err(Refusal::StatementFalse)
@@ -44,23 +48,18 @@ pub fn which_works(u: Value, v: Value, digits: Digits) -> Result<Option<Whole>, 
 
 // ---- rows
 
-pub fn which_rows(
-    table: Table,
-    place_u: Cell,
-    place_v: Cell,
-    at: Cell,
-    digits: Digits,
-) -> Result<(), usize>
-    requires { (place_u.0 < length table.cells.now) × (place_v.0 < length table.cells.now)
-        × (at.0 + digits.count + 3 ≤ length table.cells.now) × (digits.base ^ digits.count ≤ table.p) }
-    ensures { let p = table.entry.p in let t = table.entry.cells.now in
+pub fn which_rows(group: GroupTable, place_u: Cell, place_v: Cell, at: Cell) -> Result<(), usize>
+    requires { (place_u.0 < length group.table.cells.now) × (place_v.0 < length group.table.cells.now)
+        × (at.0 + group.digits.count + 3 ≤ length group.table.cells.now) }
+    ensures { let p = group.entry.table.p in let t = group.entry.table.cells.now in
         (s : Known) (u v : ℕ) → s.p ≡ p → place_of s u ≡ place_u.0 → place_of s v ≡ place_v.0 → s.cells ≡ at.0
-        → rows_meaning result ≡ first_refusal (holds p t) 0 (which_line s u v digits.base digits.count).rows }
+        → rows_meaning result ≡ first_refusal (holds p t) 0 (which_line s u v group.entry.digits.base group.entry.digits.count).rows }
 {
+    let GroupTable { table, digits } = group;
     let apart = difference(table.at(place_u), table.at(place_v), table.p);
     let number = sum(apart, Residue::from(digits.top_part()), table.p);
     let flag = table.at(at.after(1 + digits.count));
     let other = difference(Residue::from(1), flag, table.p);
     let made = table.at(at);
-    sign_rows(table, number, made == other, at.after(1), digits)
+    sign_rows(group, number, made == other, at.after(1))
 }

@@ -1,20 +1,22 @@
 // Reads the numbers and the words of the text format, and finds the places where lines end, each as its definition in `meaning` says, for every byte
 // string. Lines are put together of them in `lines`.
 //
-// A reader answers with an enum. `specs/` says how each answer is read as a value of the definitions or as a refusal's number, and a
-// contract says that it is the definition's. Nothing is read past a slice's end and no sum overflows, however long the bytes are.
+// A reader answers with what stands in a field and where the field ends, or with None. `specs/` says how each answer is read as a value of the definitions
+// or as a refusal's number, and a contract says that it is the definition's. Nothing is read past a slice's end and no sum overflows, however long the
+// bytes are.
 #![tactic(auto)]
 
 mod code;
+mod ended;
 
 ghost use Rattle.std.specs.Prelude.{◌≡◌, true, ◌||◌, ◌≤◌, ◌<◌, eqb, length};
-ghost use Rattle.meaning.specs.Text.{is_ended};
 ghost use Rattle.meaning.specs.Word.{kind_of};
 ghost use Rattle.text.specs.Number.{SizeRead, NumberYield};
 ghost use Rattle.text.specs.Word.{word_of, WordYield, OnlyWord, CountYield};
 ghost use Rattle.text.specs.Place.{Found, up_to};
 
 pub use code::UnknownCode;
+pub use ended::Text;
 
 // Bytes that end a field, and a line.
 const TAB: u8 = b'\t';
@@ -45,40 +47,40 @@ fn is_end(byte: u8) -> bool
 
 // ---- numbers
 
-// The size that the field at `at` spells: digits without a leading zero. Each byte is read once. The size is held to the limit once, at the end.
-fn size_from(text: &[u8], at: usize) -> Option<Field<u64>>
-    requires { (is_ended text.now ≡ true) × (at < length text.now) }
-    ensures { SizeRead (up_to text.now at) at result }
+// The size that the field at `at` spells: digits without a leading zero. The size is held to the limit once, at the end.
+fn size_from(text: Text, at: usize) -> Option<Field<u64>>
+    requires { at < length text.bytes.now }
+    ensures { SizeRead (up_to text.entry.bytes.now at) at result }
 {
-    let first = text[at];
+    let first = text.bytes[at];
     if !(b'1'..=b'9').contains(&first) {
         return None;
     }
     let mut n = u64::from(first - b'0');
-    for i in at + 1..text.len() {
-        let byte = text[i];
-        if !byte.is_ascii_digit() {
-            return (n <= LARGEST && is_end(byte)).then_some(Field { value: n, end: i });
-        }
-        if MOST_DIGITS <= i - at {
+    let mut end = at + 1;
+    // By index: no byte is held to the text's end, as the line's end, which is no digit, comes before it. A `for` over the places holds each to it, and a
+    // text of long numbers takes a fifth longer to read (docs/SPEED.md).
+    while text.bytes[end].is_ascii_digit() {
+        if MOST_DIGITS <= end - at {
             return None;
         }
-        n = 10 * n + u64::from(byte - b'0');
+        n = 10 * n + u64::from(text.bytes[end] - b'0');
+        end += 1;
     }
-    None
+    (n <= LARGEST && is_end(text.bytes[end])).then_some(Field { value: n, end })
 }
 
 // The number that the field at `at` spells. A zero is one where its field ends just after it. One call reads the digits with either sign:
 // with two this function is too large for the compiler to put it into the loop over the numbers, and each number pays for a call.
 // FORMAT 2.5, 2.6
-pub fn number_at(text: &[u8], at: usize) -> Option<Field<i64>>
-    requires { (is_ended text.now ≡ true) × (at < length text.now) }
-    ensures { NumberYield (up_to text.now at) at result }
+pub fn number_at(text: Text, at: usize) -> Option<Field<i64>>
+    requires { at < length text.bytes.now }
+    ensures { NumberYield (up_to text.entry.bytes.now at) at result }
 {
-    let first = text[at];
+    let first = text.bytes[at];
     if first == b'0' {
         let end = at + 1;
-        return is_end(text[end]).then_some(Field { value: 0, end });
+        return is_end(text.bytes[end]).then_some(Field { value: 0, end });
     }
     let negative = first == b'-';
     let size = size_from(text, if negative { at + 1 } else { at })?;
@@ -125,39 +127,37 @@ impl Word {
     }
 }
 
-// The only word that the field at `at` may be: the first byte tells it, or the first two.
-#[tactic(auto, using(crate::proofs::Words::second_inside))]
-fn only_word(text: &[u8], at: usize) -> Word
-    requires { (is_ended text.now ≡ true) × (at < length text.now) }
-    ensures { OnlyWord (up_to text.now at) at result }
+// The field at `at`, where it spells the only word that it may be. It stands in `word_at` once for each word, so that the compiler compares with the few
+// bytes of that word's spelling alone: compared with a spelling that is looked up, a line costs some 40 instructions more, of 150 (docs/SPEED.md).
+#[inline(always)]
+fn spelled(text: Text, at: usize, word: Word) -> Option<Field<Word>>
+    requires { (at < length text.bytes.now) × OnlyWord (up_to text.bytes.now at) at word }
+    ensures { WordYield (up_to text.entry.bytes.now at) at result }
 {
-    match text[at] {
-        b'f' => Word::Field,
-        b'i' => Word::In,
-        b's' if text[at + 1] == b'u' => Word::Sum,
-        b's' => Word::Span,
-        b'r' if text[at + 1] == b'e' => Word::Relu,
-        b'r' => Word::Root,
-        b'w' => Word::Which,
-        _ => Word::Max,
-    }
-}
-
-// The word that the field at `at` spells. FORMAT 3.1
-pub fn word_at(text: &[u8], at: usize) -> Option<Field<Word>>
-    requires { (is_ended text.now ≡ true) × (at < length text.now) }
-    ensures { WordYield (up_to text.now at) at result }
-{
-    let word = only_word(text, at);
     let spelling = word.spelling();
-    if !text[at..].starts_with(spelling) {
+    if !text.bytes[at..].starts_with(spelling) {
         return None;
     }
     let end = at + spelling.len();
-    is_end(text[end]).then_some(Field {
-        value: word,
-        end: end,
-    })
+    is_end(text.bytes[end]).then_some(Field { value: word, end })
+}
+
+// The word that the field at `at` spells: the first byte, or the first two, tell which one it may be. FORMAT 3.1
+#[tactic(auto, using(crate::proofs::Words::second_inside))]
+pub fn word_at(text: Text, at: usize) -> Option<Field<Word>>
+    requires { at < length text.bytes.now }
+    ensures { WordYield (up_to text.entry.bytes.now at) at result }
+{
+    match text.bytes[at] {
+        b'f' => spelled(text, at, Word::Field),
+        b'i' => spelled(text, at, Word::In),
+        b's' if text.bytes[at + 1] == b'u' => spelled(text, at, Word::Sum),
+        b's' => spelled(text, at, Word::Span),
+        b'r' if text.bytes[at + 1] == b'e' => spelled(text, at, Word::Relu),
+        b'r' => spelled(text, at, Word::Root),
+        b'w' => spelled(text, at, Word::Which),
+        _ => spelled(text, at, Word::Max),
+    }
 }
 
 // Whether so many numbers may follow a word. A sum has a constant, and then pairs.
@@ -185,11 +185,4 @@ pub fn line_end(text: &[u8], at: usize) -> usize
         Some(i) => at + i,
         None => text.len(),
     }
-}
-
-// Whether the last line of the text is ended, as each before it is. A text without bytes has no line, and is not ended. FORMAT 2.1
-pub fn is_ended(text: &[u8]) -> bool
-    ensures { result ≡ is_ended text.now }
-{
-    text.last() == Some(&LINE_END)
 }

@@ -21,7 +21,8 @@ pub struct Row<'a> {
     pub inputs: &'a [i64],
 }
 
-// 0, 0 or a refusal's number and place. FORMAT 9.3
+// 0, 0 or a refusal's number and place. `Refused` has no `Display`: nothing else prints a reply so, and `program` writes its own text into lent memory.
+// FORMAT 9.3
 fn print_reply(rt: &impl Print, reply: Result<(), Refused>) -> io::Result<()> {
     match reply {
         Ok(()) => print!(rt; ": 0 0"),
@@ -45,14 +46,12 @@ fn print_left(rt: &impl Print, reply: Result<(), Refused>, table: &[u32]) -> io:
     }
 }
 
-// How many cells a table of this list has, and no more than the room has. A table that is too short for its list is refused 13.
+// How many cells a table of this list has, and no more than the room has. A table that is too short for its list is refused 13. Of a refused list it
+// is 0 and no `None`: the call that is then made with an empty table is what tells the refusal.
 fn cell_count(list: &[u8], room: &[u32]) -> usize
     ensures { result ≤ length room.now }
 {
-    let Ok(summary) = read(list) else {
-        return 0;
-    };
-    summary.cells.min(room.len())
+    read(list).map_or(0, |summary| summary.cells.min(room.len()))
 }
 
 impl Row<'_> {

@@ -6,7 +6,7 @@ use std::fmt::Display;
 use std::io;
 use std::io::Print;
 
-// Also the lowest i64, which has no negative: below zero, n is -(m + 1) for its magnitude m.
+// By hand, as `number` has no `Display`: this program alone prints a whole number. Below zero, n is -(m + 1) for its magnitude m.
 fn print_whole(rt: &impl Print, n: Whole) -> io::Result<()> {
     let m = magnitude(n);
     if is_negative(n) {

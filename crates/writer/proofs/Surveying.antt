@@ -80,9 +80,6 @@ pub record WalkedGiven (all left : List Given) (st : State) (total n : ℕ) : Ty
   pub bytes : length (text_of all) ≡ total + length (text_of left)
   pub stands : Standing all left st n
 
-pub walked_start : (all : List Given) {st : State} → st.counts ≡ (Counts-of 0 0 0 0) → length st.ends ≡ value_limit → WalkedGiven all all st 0 0
-walked_start all e long = record { few = omega arith; bytes = omega arith; stands = at_first refl refl e long }
-
 module _ {all left : List Given} {st : State} {n : ℕ} where
   -- what a later line asks for
   pub standing-ready : Standing all left st n → StepReady n st

@@ -14,7 +14,8 @@ use refusal::{Refusal, Refused};
 use survey::survey_given;
 
 // The public call: for all lines and every buffer the reply of the definitions, with the text's length where it is written, and the buffer that it
-// leaves. FORMAT 9.23, 9.26, 9.27, 10.21
+// leaves. The rows come one by one, as the public call has them, and a caller is asked no more; below it they are `Given`.
+// FORMAT 9.23, 9.26, 9.27, 10.21
 pub fn write(
     words: &[u8],
     counts: &[usize],
@@ -31,6 +32,7 @@ pub fn write(
         counts,
         numbers,
     };
+    // `map_err` was tried, and that its closure keeps the promise of `first_refusal` is not proved.
     match survey_given(given) {
         Err(refused) => Err(first_refusal(given, refused)),
         Ok(length) => {
@@ -42,13 +44,13 @@ pub fn write(
     }
 }
 
-// The refusal of lines that a survey refuses so: a text that is too long is refused before any line is read. It is measured here alone, as a list that
-// is read has its bytes counted on the way. FORMAT 10.1, 13.1
+// The refusal of lines that the survey refuses with `refused`: a text that is too long is refused before any line is read. It is measured
+// here alone, as a list that is read has its bytes counted on the way. FORMAT 10.1, 13.1
 fn first_refusal(given: Given<'_>, refused: Refused) -> Refused
     ensures { IsFirstRefusal (text_of (lines_of given.entry)) refused result }
 {
-    let Some(_) = text_length(given) else {
+    if text_length(given).is_none() {
         return Refusal::TextTooLong.at(0);
-    };
+    }
     refused
 }

@@ -19,8 +19,8 @@ use borrow.Author.Rules.{rules}
 use Rattle.lines.proofs.fields_of.Goals as goal
 use Rattle.lines.proofs.fields_of.Goals.{Joined-spelled, In_ok-read, Start, in-Some+else-text-word-ne-TAB, in_default}
 
-line : (c : Start) → InLine c.args.text.now c.args.at (end_of c.args.text.now c.args.at)
-line c = in-line c.args.text.now c.requires.0 c.args.at c.requires.1
+line : (c : Start) → InLine c.args.text.bytes.now c.args.at (end_of c.args.text.bytes.now c.args.at)
+line c = in-line c.args.text.bytes.now c.args.text.ended c.args.at c.requires
 
 pub bounds-text-word : goal.bounds-text-word
 bounds-text-word c =
@@ -41,7 +41,7 @@ no-word-known q = let z : ◌≡◌ {A = ℕ} 0 1 = cc in omega arith
 Started : Joined-spelled → Type 0
 Started c =
     let s = c.args in
-    ((f : Field Word) × (c.word_at-spelled.result ≡ Some f) × (get_or s.text.now f.end 0 ≡ 9) × (c.match-spelled.spelled ≡ Some f) × (c.match-spelled.from ≡ f.end + 1))
+    ((f : Field Word) × (c.word_at-spelled.result ≡ Some f) × (get_or s.text.bytes.now f.end 0 ≡ 9) × (c.match-spelled.spelled ≡ Some f) × (c.match-spelled.from ≡ f.end + 1))
     ⊎ ((c.word_at-spelled.result ≡ None) × (c.match-spelled.spelled ≡ None) × (c.match-spelled.from ≡ s.at))
 
 started : (c : Joined-spelled) → Started c
@@ -51,24 +51,24 @@ started c = elim c.match-spelled.branch [
   | in_default w ↦ inr (w.in_default.is, w.spelled-is ∙ w.in_default.is, w.from-is)
 ]
 
-start-inside : (c : Joined-spelled) → c.match-spelled.from < length c.args.text.now
+start-inside : (c : Joined-spelled) → c.match-spelled.from < length c.args.text.bytes.now
 unfolding Started
 start-inside c =
-    let l = in-line c.args.text.now c.requires.0 c.args.at c.requires.1 in
+    let l = in-line c.args.text.bytes.now c.args.text.ended c.args.at c.requires in
     ⊎_elim
     (λ w. omega (arith, w.4, place_inside (place-next (word-place l c.word_at-spelled.ensures w.1) (λ e. omega (arith, w.2)))))
-    (λ w. omega (arith, w.2, c.requires.1))
+    (λ w. omega (arith, w.2, c.requires))
     (started c)
 
 pub numbers_from-requires : goal.numbers_from-requires
-numbers_from-requires c = (c.requires.0, start-inside (goal.at.numbers_from-requires c).Joined-spelled, c.requires.2)
+numbers_from-requires c = start-inside (goal.at.numbers_from-requires c).Joined-spelled
 
 pub returns-then-text-word-ne-TAB : goal.returns-then-text-word-ne-TAB
 returns-then-text-word-ne-TAB c =
     let l = line (goal.at.returns-then-text-word-ne-TAB c).Start in
     let no-tab = c.if-text-word-ne-TAB.true in
     record {
-      yields = word-alone l c.word_at-spelled.ensures c.in-Some.is no-tab _ c.requires.2 _ c.worded.ensures;
+      yields = word-alone l c.word_at-spelled.ensures c.in-Some.is no-tab _ c.told-numbers _ c.worded.ensures;
       left = word-alone-stored l c.word_at-spelled.ensures c.in-Some.is no-tab _;
     }
 
@@ -95,11 +95,11 @@ end-inside text {from} f after ended h yields =
     let l = in-line text ended from h in
     omega (arith, yields.2, cut-length l, l.inside)
 
-from-read : (c : In_ok-read) → NumbersYield (up_to c.args.text.now c.match-spelled.from) c.match-spelled.from c.numbers_from.new.numbers (Some c.in_ok-read.read)
+from-read : (c : In_ok-read) → NumbersYield (up_to c.args.text.bytes.now c.match-spelled.from) c.match-spelled.from c.numbers_from.new.numbers (Some c.in_ok-read.read)
 from-read c = rw c.in_ok-read.was at c.numbers_from.ensures.yields
 
-read-inside : (c : In_ok-read) → c.match-spelled.from < length c.args.text.now → c.in_ok-read.read.end < length c.args.text.now
-read-inside c inside = end-inside c.args.text.now c.in_ok-read.read c.numbers_from.new.numbers c.requires.0 inside (from-read c)
+read-inside : (c : In_ok-read) → c.match-spelled.from < length c.args.text.bytes.now → c.in_ok-read.read.end < length c.args.text.bytes.now
+read-inside c inside = end-inside c.args.text.bytes.now c.in_ok-read.read c.numbers_from.new.numbers c.args.text.ended inside (from-read c)
 
 pub worded-requires-in-Some-spelled : goal.worded-requires-in-Some-spelled
 worded-requires-in-Some-spelled c = let p = goal.at.worded-requires-in-Some-spelled c in let inside = read-inside p.In_ok-read (start-inside p.Joined-spelled) in search (rules, inside)
@@ -115,7 +115,7 @@ returns-in-Some-spelled c =
     ⊎_elim
     (λ w. record {
       yields = word-numbers l c.word_at-spelled.ensures w.1 w.2 _ (rw w.4 at c.numbers_from.ensures.yields)
-          (c.numbers_from.ensures.left.kept ∙ c.requires.2) c.in_ok-read.was _ (rw (same_field (sym is ∙ w.3)) at c.worded-in-Some-spelled.ensures);
+          (c.numbers_from.ensures.left.kept ∙ c.told-numbers) c.in_ok-read.was _ (rw (same_field (sym is ∙ w.3)) at c.worded-in-Some-spelled.ensures);
       left = word-stored l c.word_at-spelled.ensures w.1 w.2 (rw w.4 at c.numbers_from.ensures.left);
     })
     (λ w. absurd (no-word-known (sym w.1 ∙ is)))
@@ -130,7 +130,7 @@ returns-in-None c =
     (λ w. absurd (no-word-known (sym is ∙ w.3)))
     (λ w. record {
       yields = bare-numbers l c.word_at-spelled.ensures w.0 _ (rw w.2 at c.numbers_from.ensures.yields)
-          (c.numbers_from.ensures.left.kept ∙ c.requires.2) c.in_ok-read.was;
+          (c.numbers_from.ensures.left.kept ∙ c.told-numbers) c.in_ok-read.was;
       left = bare-stored l c.word_at-spelled.ensures w.0 (rw w.2 at c.numbers_from.ensures.left);
     })
     (started (goal.at.returns-in-None c).Joined-spelled)

@@ -20,18 +20,18 @@ use Rattle.lines.proofs.numbers_from.Goals.{In-Some, In_default}
 
 pub loop-count-init : goal.loop-count-init
 loop-count-init c = (
-  in-line c.args.text.now c.requires.0 c.args.from c.requires.1,
-  reading-start _ _ c.requires.2,
+  in-line c.args.text.bytes.now c.args.text.ended c.args.from c.requires,
+  reading-start _ _ c.told-numbers,
 )
 
 -- where no number is read
 stopped : (c : In_default) → let now = c.loop-count in
-    (NumbersYield (up_to c.args.text.now c.args.from) c.args.from now.numbers None)
-    × (Stored (leading_numbers (fields_from (up_to c.args.text.now c.args.from) c.args.from)) c.args.numbers.now now.numbers)
+    (NumbersYield (up_to c.args.text.bytes.now c.args.from) c.args.from now.numbers None)
+    × (Stored (leading_numbers (fields_from (up_to c.args.text.bytes.now c.args.from) c.args.from)) c.args.numbers.now now.numbers)
 unfolding NumbersYield fields_of
 stopped c =
     let now = c.loop-count in
-    let line = up_to c.args.text.now c.args.from in
+    let line = up_to c.args.text.bytes.now c.args.from in
     reading-none now.invariant.1 (omega arith) (fields-from line now.at) (number-is-none _ _ (rw (same_line now.invariant.0) at c.number_at.ensures) c.in_default.is)
 
 pub returns-in_default-clause-yields : goal.returns-in_default-clause-yields
@@ -42,28 +42,28 @@ returns-in_default-clause-left c = (stopped c).1
 
 -- what `number_at` answered, in the line
 number : (c : In-Some) → let s = c.args in
-    NumberYield (up_to s.text.now s.from) c.loop-count.at c.number_at.result
+    NumberYield (up_to s.text.bytes.now s.from) c.loop-count.at c.number_at.result
 number c = rw (same_line c.loop-count.invariant.0) at c.number_at.ensures
 
 -- after a number: where its field ends, which is in the line
 ends : (c : In-Some) → let s = c.args in
-    Found 9 (up_to s.text.now s.from) c.loop-count.at c.in-Some.number.end
+    Found 9 (up_to s.text.bytes.now s.from) c.loop-count.at c.in-Some.number.end
 ends c = number-ends _ _ (number c) c.in-Some.is
 
 place : (c : In-Some) → let s = c.args in
-    InLine s.text.now c.in-Some.number.end (end_of s.text.now s.from)
+    InLine s.text.bytes.now c.in-Some.number.end (end_of s.text.bytes.now s.from)
 place c = let l = c.loop-count.invariant.0 in place-later l (ends c).low (omega (arith, cut-length l, (ends c).high))
 
 -- and what is read with it
 turn : (c : In-Some) → let s = c.args in
     let now = c.loop-count in
-    let line = up_to s.text.now s.from in
+    let line = up_to s.text.bytes.now s.from in
     ReadingNumbers (fields_from line s.from) (parts_after 9 line c.in-Some.number.end) s.numbers.now (set now.numbers now.count c.in-Some.number.value) (now.count + 1)
 unfolding fields_of
 turn c =
     let s = c.args in
     let now = c.loop-count in
-    let line = up_to s.text.now s.from in
+    let line = up_to s.text.bytes.now s.from in
     reading-turn now.invariant.1 (omega arith) (fields-found line (ends c)) (number_is _ _ (number c) c.in-Some.is)
     c.loop-count-test.true
 
@@ -78,7 +78,7 @@ pub returns-then-text-end-ne-TAB : goal.returns-then-text-end-ne-TAB
 unfolding NumbersYield
 returns-then-text-end-ne-TAB c =
     let at-of = (goal.at.returns-then-text-end-ne-TAB c).In-Some in
-    let line = up_to c.args.text.now c.args.from in
+    let line = up_to c.args.text.bytes.now c.args.from in
     let l = place at-of in
     let end = c.in-Some.number.end in
     let last = ends-line l (ends at-of) c.if-text-end-ne-TAB.true in
@@ -89,7 +89,7 @@ pub loop-count-preserved : goal.loop-count-preserved
 unfolding fields_of
 loop-count-preserved c =
     let s = c.args in
-    let line = up_to s.text.now s.from in
+    let line = up_to s.text.bytes.now s.from in
     let l = place (goal.at.loop-count-preserved c).In-Some in
     let end = c.in-Some.number.end in
     let inside = before-end l (λ e. omega (arith, c.if-text-end-ne-TAB.false)) in (
@@ -101,5 +101,5 @@ pub returns : goal.returns
 unfolding NumbersYield fields_of
 returns c =
     let now = c.loop-count in
-    let full = reading-full now.invariant.1 (omega arith) (fields-from (up_to c.args.text.now c.args.from) now.at) c.loop-count-test.false in
+    let full = reading-full now.invariant.1 (omega arith) (fields-from (up_to c.args.text.bytes.now c.args.from) now.at) c.loop-count-test.false in
     record { yields = full.0; left = full.1 }

@@ -6,5 +6,5 @@ use Rattle.lines.proofs.numbers_from.Given as goal
 
 abbrev pub invariant-loop-count : goal.invariant-loop-count
 invariant-loop-count l =
-    InLine l.text l.at (end_of l.text l.from)
-    × ReadingNumbers (fields_from (up_to l.text l.from) l.from) (fields_from (up_to l.text l.from) l.at) l.initial.numbers l.numbers l.count
+    InLine l.text.bytes.now l.at (end_of l.text.bytes.now l.from)
+    × ReadingNumbers (fields_from (up_to l.text.bytes.now l.from) l.from) (fields_from (up_to l.text.bytes.now l.from) l.at) l.initial.numbers l.numbers l.count

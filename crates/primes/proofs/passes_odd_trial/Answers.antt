@@ -7,12 +7,14 @@ use native.Mathlib.Omega.{arith}
 use native.Mathlib.Decide.{dec_lt}
 use native.Mathlib.Nat.{mul-le-mul}
 use borrow.Author.Rules.{rules}
-use Rattle.primes.specs.Table.{table_end}
+use Rattle.std.specs.List.{list_any}
+use lib.Dec.{eqb}
+use Rattle.primes.specs.Table.{table_end, wheel}
 use Rattle.meaning.specs.Machine.{past_u16}
 use Rattle.meaning.specs.Number.{odd_prime}
 use Rattle.algebra.proofs.Root.{root-square, root-next}
 use Rattle.primes.proofs.OddPrime.{odd-prime-passes, odd-prime-fails}
-use Rattle.primes.proofs.PrimeTable.{Tried, prime-by-table, wheel-short, wheel-entry, wheel-none}
+use Rattle.primes.proofs.PrimeTable.{Tried, prime-by-table, steps_short, wheel-entry, wheel-none}
 use Rattle.primes.proofs.passes_odd_trial.Goals as goal
 use Rattle.primes.proofs.passes_odd_trial.Goals.{After-square_root-root, Else-has_divisor}
 
@@ -35,7 +37,9 @@ pub overflow_cast-root : goal.overflow_cast-root
 overflow_cast-root c = search (rules, short c)
 
 pub has_divisor-requires : goal.has_divisor-requires
-has_divisor-requires c = wheel-short c.loop-d.d (omega (arith, short (goal.at.has_divisor-requires c).After-square_root-root))
+has_divisor-requires c =
+    let small : c.loop-d.d < past_u16 = omega (arith, short (goal.at.has_divisor-requires c).After-square_root-root) in
+    search (steps_short, small)
 
 -- a number of the turn is far below n, whose root is above 240
 below : (d s root n : ℕ) → 240 ≤ d → d < root → s < 30 → root * root ≤ n → d + s < n
@@ -44,14 +48,17 @@ below d s root n h l k q = let m : 2 * root ≤ root * root = mul-le-mul (omega 
 pub returns-then-has_divisor : goal.returns-then-has_divisor
 returns-then-has_divisor c =
     let now = c.loop-d in
-    let w = wheel-entry c.args.n now.d (sym c.has_divisor.ensures ∙ c.if-has_divisor.true) in
+    let is : c.has_divisor.result ≡ list_any (λ s. eqb (c.args.n % (now.d + s)) 0) wheel = search (rules, c.has_divisor.ensures) in
+    let w = wheel-entry c.args.n now.d (sym is ∙ c.if-has_divisor.true) in
     odd-prime-fails _ _ (omega (arith, w.1)) (below now.d w.0 c.square_root-root.result _ now.auto.d c.loop-d-test.true w.2 (square (goal.at.returns-then-has_divisor c).After-square_root-root)) w.3
 
 -- a turn after which no number up to the next multiple of 30 divides n
 turned : (c : Else-has_divisor) → (k : ℕ) → table_end ≤ k → Tried k → k < c.loop-d.d + 30 → c.args.n % k ≢ 0
 turned c k h t l = elim (dec_lt k c.loop-d.d) [
   | yes e ↦ c.loop-d.invariant.1 k h t e
-  | no e ↦ wheel-none c.args.n c.loop-d.d k (sym c.has_divisor.ensures ∙ c.if-has_divisor.false) c.loop-d.invariant.0 (omega arith) l t
+  | no e ↦
+      let is : c.has_divisor.result ≡ list_any (λ s. eqb (c.args.n % (c.loop-d.d + s)) 0) wheel = search (rules, c.has_divisor.ensures) in
+      wheel-none c.args.n c.loop-d.d k (sym is ∙ c.if-has_divisor.false) c.loop-d.invariant.0 (omega arith) l t
 ]
 
 pub loop-d-preserved : goal.loop-d-preserved

@@ -6,8 +6,8 @@ use Rattle.text.proofs.Signed.{next-inside, minus-inside, reads-zero-if, reads-m
 use Rattle.text.proofs.number_at.Goals as goal
 use Rattle.text.proofs.number_at.Goals.{Start, Joined-negative, then-negative, else-negative}
 
-line : (c : Start) → InLine c.args.text.now c.args.at (end_of c.args.text.now c.args.at)
-line c = in-line c.args.text.now c.requires.0 c.args.at c.requires.1
+line : (c : Start) → InLine c.args.text.bytes.now c.args.at (end_of c.args.text.bytes.now c.args.at)
+line c = in-line c.args.text.bytes.now c.args.text.ended c.args.at c.requires
 
 pub bounds-text-end : goal.bounds-text-end
 bounds-text-end c = next-inside (line (goal.at.bounds-text-end c).Start) c.if-first-eq48.true
@@ -18,8 +18,8 @@ returns-then-first-eq48 c =
 
 pub size_from-requires : goal.size_from-requires
 size_from-requires c = elim c.if-negative.branch [
-  | then-negative w ↦ (c.requires.0, rw w.size_from-is (minus-inside (line (goal.at.size_from-requires c).Start) w.if-negative.true))
-  | else-negative w ↦ (c.requires.0, rw w.size_from-is c.requires.1)
+  | then-negative w ↦ rw w.size_from-is (minus-inside (line (goal.at.size_from-requires c).Start) w.if-negative.true)
+  | else-negative w ↦ rw w.size_from-is c.requires
 ]
 
 pub returns-in_err-size : goal.returns-in_err-size

@@ -24,9 +24,6 @@ returns-then-buffer-length c =
     let at = c.at-then-buffer-length.ensures in
     writes-by (rw (at.refusal, at.place) (write-no-room _ c.args.buffer.now read.2 (omega (arith, c.if-buffer-length.true, read.0))))
 
-pub write_text-requires : goal.write_text-requires
-write_text-requires c = omega (arith, c.if-buffer-length.false, c.in-Ok.ensures.0)
-
 pub returns-in-Err : goal.returns-in-Err
 returns-in-Err c = writes-by (write-not-read _ c.args.buffer.now c.first_refusal.ensures c.in-Err.ensures)
 

@@ -1,24 +1,16 @@
 -- Before each number, `Counting` holds of the bytes that are counted.
-use mathlib.Core.Path.{refl, sym, ◌∙◌}
+use mathlib.Core.Path.{sym, ◌∙◌}
 use native.Mathlib.Omega.{arith}
 use lib.ListN.{get_or}
 use lib.IntN.{pos}
 use Rattle.given_lines.proofs.Digits.{digit-bytes}
-use Rattle.given_lines.proofs.Taking.{counting-start, counting-stopped, counting-next, counting-few, counting-end}
+use Rattle.given_lines.proofs.Taking.{counting-stopped, counting-next, counting-end}
 use Rattle.given_lines.proofs.line.fields_length.Goals as goal
 use Rattle.given_lines.proofs.line.fields_length.Goals.{then-not-is_below+in_ok-total, else-not-is_below}
-
-pub loop-i-init : goal.loop-i-init
-loop-i-init c = counting-start _
 
 pub returns-in_err-total : goal.returns-in_err-total
 returns-in_err-total c =
     rw c.from_residual.ensures (counting-stopped c.loop-i.invariant c.loop-i-test.true (rw c.whole_at-x.ensures at c.in_err-total.ensures))
-
-pub overflow_add-total : goal.overflow_add-total
-overflow_add-total c =
-    let next = counting-next c.loop-i.invariant c.loop-i-test.true _ (rw c.whole_at-x.ensures at c.in_ok-total.ensures) refl in
-    omega (arith, counting-few next c.requires)
 
 pub loop-i-preserved : goal.loop-i-preserved
 loop-i-preserved c = elim c.if-not-is_below.branch [

@@ -3,7 +3,7 @@ use mathlib.Core.Path.{sym, ◌∙◌}
 use mir.Syntax.{w64}
 use mir.Val.{SFits}
 use borrow.Author.Rules.{rules}
-use Rattle.given_lines.proofs.Digits.{one_more, two-more, more-sized, more-large}
+use Rattle.given_lines.proofs.Digits.{one_more, two-more, more-sized}
 use Rattle.given_lines.proofs.line.more_bytes.Goals as goal
 use Rattle.given_lines.proofs.line.more_bytes.Goals.{Start}
 
@@ -25,6 +25,3 @@ overflow_sub-result c =
 pub returns-then-is_sized : goal.returns-then-is_sized
 returns-then-is_sized c =
     (more-sized c.args.x.0 c.is_sized.ensures c.if-is_sized.true (fits (goal.at.returns-then-is_sized c).Start) c.number_length.ensures).1
-
-pub returns : goal.returns
-returns c = more-large c.args.x.0 c.is_sized.ensures c.if-is_sized.false

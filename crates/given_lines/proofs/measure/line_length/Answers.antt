@@ -9,7 +9,7 @@ use mir.Val.{SFits}
 use Rattle.meaning.specs.Text.{number_text}
 use Rattle.given_lines.specs.Given.{word_meaning}
 use Rattle.given_lines.proofs.Texts.{word-most}
-use Rattle.given_lines.proofs.Lengths.{number-most, line-start, line-turn, line-over, line-end}
+use Rattle.given_lines.proofs.Lengths.{number-most, line-start, line-turn, line-end}
 use borrow.Author.Rules.{rules}
 use Rattle.given_lines.proofs.measure.line_length.Goals as goal
 use Rattle.given_lines.proofs.measure.line_length.Goals.{After-number_length}
@@ -39,12 +39,6 @@ loop-i-preserved c =
 
 pub loop-i-init : goal.loop-i-init
 loop-i-init c = line-start _ _ c.requires c.word_length.ensures
-
-pub returns-then-total-gt-TEXT_LIMIT : goal.returns-then-total-gt-TEXT_LIMIT
-returns-then-total-gt-TEXT_LIMIT c = line-over c.loop-i.invariant c.if-total-gt-TEXT_LIMIT.true
-
-pub returns-then-total-gt-TEXT_LIMIT-2 : goal.returns-then-total-gt-TEXT_LIMIT-2
-returns-then-total-gt-TEXT_LIMIT-2 c = line-over c.loop-i.invariant c.if-total-gt-TEXT_LIMIT-2.true
 
 pub returns : goal.returns
 returns c = line-end c.loop-i.invariant c.loop-i-test.false c.if-total-gt-TEXT_LIMIT-2.false

@@ -1,9 +1,6 @@
 -- Before each line, `MeasuringText` holds of the bytes that are counted.
-use Rattle.given_lines.proofs.Lengths.{text-start, text-turn, text-over, text-end}
+use Rattle.given_lines.proofs.Lengths.{text-turn, text-over, text-end}
 use Rattle.given_lines.proofs.measure.text_length.Goals as goal
-
-pub loop-line-init : goal.loop-line-init
-loop-line-init c = rw (c.into_iter-line-iterator.ensures.into_iter_gives, c.lines-line-items.ensures) (text-start _)
 
 pub returns-in_err-total : goal.returns-in_err-total
 returns-in_err-total c = rw c.from_residual.ensures (text-over c.loop-line.invariant c.in-Some.ensures.steps c.in_err-total.ensures)

@@ -1,10 +1,7 @@
 -- Before each line, `Begun` holds of the text: what is left are the lines that are left.
 use Rattle.given_lines.proofs.Texts.{lines-parts, no_lines}
-use Rattle.given_lines.proofs.Begun.{begun-start, begun-end, next-room, begun-next}
+use Rattle.given_lines.proofs.Begun.{begun-end, next-room, begun-next}
 use Rattle.given_lines.proofs.writing.write_text.Goals as goal
-
-pub loop-line-init : goal.loop-line-init
-loop-line-init c = rw (c.into_iter-line-iterator.ensures.into_iter_gives, c.lines-line-items.ensures) (begun-start c.requires)
 
 pub write_line-written-requires : goal.write_line-written-requires
 write_line-written-requires c = next-room c.loop-line.invariant (lines-parts c.in-Some.ensures.steps)

@@ -3,4 +3,4 @@ use Rattle.groups.proofs.CellsGroup.{GroupFilling}
 use Rattle.groups.proofs.group.group_cells.Given as goal
 
 abbrev pub invariant-loop-i : goal.invariant-loop-i
-invariant-loop-i l = GroupFilling l.digits.base l.digits.count l.n l.initial.out l.out l.i l.rest
+invariant-loop-i l = GroupFilling l.b l.k l.n l.initial.out l.out l.i l.rest

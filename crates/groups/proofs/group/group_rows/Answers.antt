@@ -110,16 +110,6 @@ returns-then-ge-3 c p f L h e =
     rw last (group-fails p s.table.now f L s.first s.at.0 b k
     (sym (c.loop-pair.invariant.1 p ∙ digit-fails p s.table.now s.first s.at.0 b k i (omega (arith, last, s.digits.group.some-digit)) great)))
 
-last_one : (c : Else-ge-3) → 2 * c.loop-pair.pair + 1 ≡ c.args.digits.count
-last_one c = omega (arith, c.loop-pair-test.false, c.if-digits-eq1.true)
-
-last_read : (c : Else-ge-3) → let s = c.args in
-    DigitRead s.table.now s.at.0 s.digits.base (2 * c.loop-pair.pair) c.residue_at-last.result.0
-last_read c =
-    let s = c.args in
-    digit-read s.table.now s.at.0 s.digits.base _ (omega (arith, c.after-then-digits-eq1.ensures, last_one c)) c.residue_at-last.ensures c.from-base.ensures
-    c.ge-then-digits-eq1.ensures c.if-ge-3.false
-
 pub returns : goal.returns
 returns c p f L h e =
     let now = c.loop-pair in

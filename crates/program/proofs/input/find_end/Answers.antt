@@ -13,12 +13,12 @@ loop-at-init c = seeking-start _
 pub returns-then-eq : goal.returns-then-eq
 unfolding bytes EndYield
 returns-then-eq c =
-    seeking-found c.loop-at.invariant c.requires c.loop-at-test.true c.line_end-end.ensures (c.eq.ensures ∙ bytes-equal _ _) c.if-eq.true
+    seeking-found c.loop-at.invariant c.args.text.ended c.loop-at-test.true c.line_end-end.ensures (c.eq.ensures ∙ bytes-equal _ _) c.if-eq.true
 
 pub loop-at-preserved : goal.loop-at-preserved
 unfolding bytes
 loop-at-preserved c =
-    seeking-turn c.loop-at.invariant c.requires c.loop-at-test.true c.line_end-end.ensures (c.eq.ensures ∙ bytes-equal _ _) c.if-eq.false
+    seeking-turn c.loop-at.invariant c.args.text.ended c.loop-at-test.true c.line_end-end.ensures (c.eq.ensures ∙ bytes-equal _ _) c.if-eq.false
 
 pub returns : goal.returns
 unfolding EndYield

@@ -5,7 +5,7 @@ use Rattle.program.proofs.Parting.{Seeking}
 use Rattle.program.proofs.input.find_end.Given as goal
 
 abbrev pub invariant-loop-at : goal.invariant-loop-at
-invariant-loop-at l = Seeking l.input l.at l.lines
+invariant-loop-at l = Seeking l.text.bytes.now l.at l.lines
 
 abbrev pub decreases-loop-at : goal.decreases-loop-at
-decreases-loop-at l = length l.input - l.at
+decreases-loop-at l = length l.text.bytes.now - l.at

@@ -2,31 +2,15 @@
 use mathlib.Core.Path.{◌≡◌}
 use mir.Syntax.{w64}
 use mir.Val.{to_z, of_z}
-use native.Mathlib.Omega.{arith}
-use Rattle.text.specs.Place.{Found}
-use Rattle.text.proofs.Numbers.{number-ends}
 use Rattle.program.specs.Input.{InputsYield}
-use Rattle.program.proofs.Inputs.{reading-start, reading-turn, reading-stops, reading-end}
+use Rattle.program.proofs.Inputs.{reading-turn, reading-stops, reading-end}
 use borrow.Author.Rules.{rules}
 use Rattle.program.proofs.input.read_inputs.Goals as goal
 use Rattle.program.proofs.input.read_inputs.Goals.{In-Some}
 
-pub loop-at-init : goal.loop-at-init
-loop-at-init c = reading-start _ _ _ c.requires.1 c.requires.2
-
 pub returns-in_default : goal.returns-in_default
 unfolding InputsYield
-returns-in_default c = reading-stops c.loop-at.invariant c.requires.0 c.loop-at-test.true c.number_of.ensures c.in_default.is
-
--- the place where the line that was read ends
-end : (c : In-Some) → Found 10 c.args.input.now c.loop-at.at c.in-Some.number.end
-end c = number-ends _ _ c.number_of.ensures c.in-Some.is
-
-pub overflow_add-at : goal.overflow_add-at
-overflow_add-at c = omega (arith, (end (goal.at.overflow_add-at c).In-Some).high)
-
-pub loop-at-smaller : goal.loop-at-smaller
-loop-at-smaller c = omega (arith, (end (goal.at.loop-at-smaller c).In-Some).low, c.loop-at-test.true)
+returns-in_default c = reading-stops c.loop-at.invariant c.args.text.ended c.loop-at-test.true c.number_of.ensures c.in_default.is
 
 -- a number that was read is what its bits say
 kept : (c : In-Some) → to_z w64 (of_z w64 c.in-Some.number.value) ≡ c.in-Some.number.value
@@ -35,7 +19,7 @@ kept c = search rules
 pub loop-at-preserved : goal.loop-at-preserved
 loop-at-preserved c =
     rw (c.store.ensures, kept (goal.at.loop-at-preserved c).In-Some)
-    (reading-turn c.loop-at.invariant c.requires.0 c.loop-at-test.true c.number_of.ensures c.in-Some.is)
+    (reading-turn c.loop-at.invariant c.args.text.ended c.loop-at-test.true c.number_of.ensures c.in-Some.is)
 
 pub returns : goal.returns
 unfolding InputsYield

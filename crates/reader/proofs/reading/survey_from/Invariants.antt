@@ -7,7 +7,7 @@ use Rattle.reader.proofs.reading.survey_from.Given as goal
 
 abbrev pub invariant-loop-at : goal.invariant-loop-at
 invariant-loop-at l =
-    (places : List ℕ) × Walked l.list l.start l.p l.numbers l.state places l.at l.n
+    (places : List ℕ) × Walked l.text.bytes.now l.start l.p l.state places l.at l.n
 
 abbrev pub decreases-loop-at : goal.decreases-loop-at
-decreases-loop-at l = length l.list - l.at
+decreases-loop-at l = length l.text.bytes.now - l.at

@@ -13,7 +13,7 @@ use Rattle.rules.proofs.sum.sum_ends.Goals.{After-plus-so_far, In-Some}
 
 pub loop-term-init : goal.loop-term-init
 loop-term-init c =
-    rw (c.into_iter-term-iterator.ensures.into_iter_gives, c.chunks_exact-term-items.ensures.rest, c.constant-so_far.ensures, whole c.args.numbers.now c.requires.0)
+    rw (c.into_iter-term-iterator.ensures.into_iter_gives, c.chunks_exact-term-items.ensures.rest, c.from-so_far.ensures.0, c.from-so_far.ensures.1, c.whole_at.ensures, whole c.args.numbers.now c.requires.0)
     (c.chunks_exact-term-items.ensures.size, sum-starts c.args.numbers.now c.requires.0 c.requires.1 c.requires.2 c.requires.3)
 
 -- the pair of this turn
@@ -22,19 +22,19 @@ two c = c.in-Some.ensures.steps.1.1 ∙ c.loop-term.invariant.0
 
 pub ends_of-value-requires : goal.ends_of-value-requires
 ends_of-value-requires c =
-    rw c.whole_at.ensures (name-made _ _ c.loop-term.invariant.1 c.in-Some.ensures.steps.1.0 (two (goal.at.ends_of-value-requires c).In-Some))
+    rw c.whole_at-in-loop-term.ensures (name-made _ _ c.loop-term.invariant.1 c.in-Some.ensures.steps.1.0 (two (goal.at.ends_of-value-requires c).In-Some))
 
 pub scaled-requires : goal.scaled-requires
 scaled-requires c =
     let sums = c.loop-term.invariant.1 in
-    rw c.whole_at-in-loop-term.ensures (record { size = coefficient-small _ _ sums c.in-Some.ensures.steps.1.0 (two (goal.at.scaled-requires c).In-Some) }, c.ends_of-value.ensures.sized)
+    rw c.whole_at-in-loop-term-2.ensures (record { size = coefficient-small _ _ sums c.in-Some.ensures.steps.1.0 (two (goal.at.scaled-requires c).In-Some) }, c.ends_of-value.ensures.sized)
 
 -- the ends after this term
 next : (c : After-plus-so_far)
     → let pair = c.in-Some.term.now in
     ends_meaning c.plus-so_far.result
     ≡ added (ends_meaning c.loop-term.so_far) (scaled (get_or pair 0 (pos 0)) (ends_at c.args.known.ends.now (nat_abs (get_or pair 1 (pos 0)))))
-next c = c.plus-so_far.ensures ∙ rw (c.scaled.ensures.scaled, c.whole_at-in-loop-term.ensures, c.ends_of-value.ensures.known, c.whole_at.ensures)
+next c = c.plus-so_far.ensures ∙ rw (c.scaled.ensures.scaled, c.whole_at-in-loop-term-2.ensures, c.ends_of-value.ensures.known, c.whole_at-in-loop-term.ensures)
 
 pub plus-so_far-requires : goal.plus-so_far-requires
 plus-so_far-requires c = (range-sized c.args.known.p c.loop-term.so_far c.args.known.ready.p-high c.loop-term.invariant.1.ranged, c.scaled.ensures.sized)

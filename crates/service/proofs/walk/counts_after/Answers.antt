@@ -1,11 +1,7 @@
 -- `service::walk::counts_after`: what is known before the line, and how much the line adds.
-use native.Mathlib.Omega.{arith}
 use Rattle.service.proofs.Standing.{counted-after}
 use Rattle.service.proofs.walk.counts_after.Goals as goal
 
 pub returns-clause-yields : goal.returns-clause-yields
 returns-clause-yields c =
-    rw c.counts_with.ensures (λ n s is keeps was. counted-after n s _ _ _ keeps was (c.line_size.ensures.yields n s is keeps))
-
-pub returns-clause-more : goal.returns-clause-more
-returns-clause-more c = rw c.counts_with.ensures (omega arith, omega (arith, c.line_size.ensures.small.0))
+    rw c.add.ensures (λ n s is keeps was. counted-after n s _ _ _ keeps was (c.line_size.ensures.yields n s is keeps))

@@ -1,11 +1,12 @@
 -- `service::working::work_lines`: the walk that works each line, with what holds before each line as the invariant.
+use mathlib.Core.Path.{◌≡◌}
 use Prim.Native.Nat.{◌-◌}
 use lib.ListN.{length}
 use Rattle.service.proofs.Worked.{WorkingOn}
 use Rattle.service.proofs.working.work_lines.Given as goal
 
-abbrev pub invariant-loop-at : goal.invariant-loop-at
-invariant-loop-at l = WorkingOn l.list l.inputs l.numbers l.values l.counts l.at l.n
+abbrev pub invariant-loop-line : goal.invariant-loop-line
+invariant-loop-line l = (l.walk.text.bytes.now ≡ l.list) × WorkingOn l.list l.inputs l.values l.walk.counts l.walk.at l.walk.number
 
-abbrev pub decreases-loop-at : goal.decreases-loop-at
-decreases-loop-at l = length l.list - l.at
+abbrev pub decreases-loop-line : goal.decreases-loop-line
+decreases-loop-line l = length l.walk.text.bytes.now - l.walk.at

@@ -1,36 +1,39 @@
 -- `service::writing::write_lines`: the walk that writes each line's cells, with what holds before each line as the invariant.
-use mathlib.Core.Path.{refl}
-use Prim.Native.Nat.{◌≤◌}
-use lib.ListN.{length}
-use Rattle.service.proofs.Written.{writing-first, writing-end, writing-next, at-line, first-inside, cells-given, made-is, made-stand, next}
+use mathlib.Core.Path.{◌∙◌}
+use Rattle.service.specs.Taken.{Took}
+use Rattle.service.proofs.Standing.{taken-here}
+use Rattle.service.proofs.Written.{Writing, writing-first, writing-end, writing-next, cells-given, made-is, made-stand, next}
 use Rattle.service.proofs.writing.write_lines.Goals as goal
-use Rattle.service.proofs.writing.write_lines.Goals.{After-from-first}
+use Rattle.service.proofs.writing.write_lines.Goals.{In-Some}
 
-pub loop-at-init : goal.loop-at-init
-loop-at-init c =
-    rw c.counts_of-counts.ensures (writing-first c.args.list.now c.args.p c.args.values.now c.args.table.now _ refl c.requires)
+pub loop-line-init : goal.loop-line-init
+loop-line-init c =
+    let start = c.over-walk.ensures in
+    (start.over, rw (start.at-start, start.first, start.none-counted) (writing-first c.args.list.now c.args.p c.args.values.now c.args.table.now c.told-values c.requires))
 
--- the line's first cell is one of the table's
-first : (c : After-from-first) → c.from-first.result ≤ length c.loop-at.table
-first c =
-    let w = c.loop-at.invariant in
-    let inside = c.loop-at-test.true in
-    rw c.from-first.ensures (first-inside w inside (c.take_line-line.ensures.yields (at-line w inside)))
+-- what held before the line that is taken, and the line
+here : (c : In-Some) → Writing c.args.list.now c.args.p c.args.values.now c.args.table.now c.loop-line.table c.in-Some.line.before c.loop-line.walk.at c.in-Some.line.number
+here c = let takes = c.in-Some.ensures in rw (takes.counts-before, takes.number_is) c.loop-line.invariant.1
+
+took : (c : In-Some) → Took (here c).stands c.next.new.numbers c.in-Some.line c.next.new.self.at
+took c = taken-here c.loop-line.invariant.0 c.in-Some.ensures (here c).stands
 
 pub line_cells-requires : goal.line_cells-requires
 line_cells-requires c =
-    let w = c.loop-at.invariant in
-    let inside = c.loop-at-test.true in
-    rw c.from-first.ensures (cells-given w inside (c.take_line-line.ensures.yields (at-line w inside)))
+    let l = (goal.at.line_cells-requires c).In-Some in
+    rw c.from-first.ensures (cells-given (here l) (took l))
 
-pub loop-at-preserved : goal.loop-at-preserved
-loop-at-preserved c =
-    let w = c.loop-at.invariant in
-    let inside = c.loop-at-test.true in
-    let took = c.take_line-line.ensures.yields (at-line w inside) in
+pub loop-line-preserved : goal.loop-line-preserved
+loop-line-preserved c =
+    let l = (goal.at.loop-line-preserved c).In-Some in
+    let takes = c.in-Some.ensures in
+    let w = here l in
+    let t = took l in
     let yields = rw c.from-first.ensures at c.line_cells.ensures in
-    let written = yields (cells-given w inside took) (next w _ _ took.left_is took.kept) (rw (made-is w inside took) (made-stand w _ _ took.left_is took.kept)) in
-    rw c.from-first.ensures (writing-next w _ _ took.left_is took.kept _ _ written took.next took.long)
+    let written = yields (cells-given w t) (next w _ _ t.left_is t.kept) (rw (made-is w t) (made-stand w _ _ t.left_is t.kept)) in (
+      takes.same_list ∙ c.loop-line.invariant.0,
+      rw (c.from-first.ensures, takes.counts-after, takes.number-after) (writing-next w _ _ t.left_is t.kept _ written t.next),
+    )
 
 pub returns : goal.returns
-returns c = writing-end c.loop-at.invariant c.loop-at-test.false
+returns c = writing-end c.loop-line.invariant.1 (rw c.loop-line.invariant.0 at c.in_default.ensures)

@@ -16,6 +16,7 @@ use Rattle.table.proofs.max.max_cells.Goals as goal
 
 pub two_groups-requires : goal.two_groups-requires
 two_groups-requires c = (
+  omega (arith, c.args.digits.group.base),
   search rules,
   rw c.whole_difference-over_u.ensures (bounded-more (bounded-difference c.max_value.result.small c.args.u.small) (lit≤ tt)),
   rw c.whole_difference-over_v.ensures (bounded-more (bounded-difference c.max_value.result.small c.args.v.small) (lit≤ tt)),

@@ -1,10 +1,12 @@
 -- `table::root::rest_cells`: the two differences fit, and the groups are over them.
+use native.Mathlib.Omega.{arith}
 use Rattle.table.specs.Root.{rest_cells}
 use Rattle.table.proofs.CellsRoot.{above-bounded, below-bounded, below-fits}
 use Rattle.table.proofs.root.rest_cells.Goals as goal
 
 pub two_groups-requires : goal.two_groups-requires
 two_groups-requires c = (
+  omega (arith, c.args.digits.group.base),
   c.requires,
   rw (c.whole_difference-above.ensures, c.whole_product-q.ensures) (above-bounded c.args.r.small c.args.v.small),
   rw (

@@ -10,18 +10,22 @@ use Rattle.algebra.proofs.Congruence.{remainder-below}
 use Rattle.table.proofs.LineSum.{left-after-first, first-named, rest-named}
 use Rattle.table.proofs.RowsSum.{sum-start, sum-next, sum-end}
 use Rattle.table.proofs.sum.sum_rows.Goals as goal
-use Rattle.table.proofs.sum.sum_rows.Goals.{In-Some}
+use Rattle.table.proofs.sum.sum_rows.Goals.{In-Some, Start}
+
+-- a table that has a cell has a p above it
+positive : (s : Start) → 0 < s.args.table.p
+positive s = omega (arith, s.args.table.remainders s.args.at.0 s.requires.0)
 
 pub loop-term-init : goal.loop-term-init
 loop-term-init c =
     let a = c.args in
     let total : c.remainder_of-total.result.0 ≡ remainder a.table.p (get_or a.numbers.now 0 (pos 0)) = rw c.whole_at.ensures at c.remainder_of-total.ensures in
-    let pairs = c.chunks_exact-term-items.ensures.rest ∙ left-after-first a.numbers.now (omega (arith, c.requires.2)) in
+    let pairs = c.chunks_exact-term-items.ensures.rest ∙ left-after-first a.numbers.now (omega (arith, c.requires.1)) in
     rw c.into_iter-term-iterator.ensures.into_iter_gives (
       c.chunks_exact-term-items.ensures.size,
-      rw total (remainder-below a.table.p _ c.requires.0),
-      rw pairs c.requires.3.named,
-      sum-start a.table.p a.table.cells.now a.numbers.now a.places.now c.requires.0 pairs total,
+      rw total (remainder-below a.table.p _ (positive (goal.at.loop-term-init c).Start)),
+      rw pairs c.requires.2.named,
+      sum-start a.table.p a.table.cells.now a.numbers.now a.places.now (positive (goal.at.loop-term-init c).Start) pairs total,
     )
 
 -- the pair has two numbers, and names a value that has a place
@@ -40,9 +44,6 @@ place_at-place-requires c =
       below = name.1;
     }
 
-pub at-requires : goal.at-requires
-at-requires c = rw c.place_at-place.ensures (c.requires.3.inside _ (named (goal.at.at-requires c).In-Some).1)
-
 pub loop-term-preserved : goal.loop-term-preserved
 loop-term-preserved c =
     let a = c.args in
@@ -51,7 +52,7 @@ loop-term-preserved c =
       steps.0 ∙ c.loop-term.invariant.0,
       c.sum-total.ensures.0,
       rest-named _ _ _ steps.1.0 (two now) (length a.places.now) c.loop-term.invariant.2,
-      sum-next a.table.p a.table.cells.now a.numbers.now a.places.now _ _ _ steps.1.0 (two now) c.requires.0 c.loop-term.invariant.3
+      sum-next a.table.p a.table.cells.now a.numbers.now a.places.now _ _ _ steps.1.0 (two now) (positive (goal.at.loop-term-preserved c).Start) c.loop-term.invariant.3
           (rw c.whole_at-in-loop-term.ensures at c.remainder_of-factor.ensures) c.place_at-place.ensures c.at.ensures c.product-part.ensures c.sum-total.ensures,
     )
 

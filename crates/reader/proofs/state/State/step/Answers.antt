@@ -15,8 +15,8 @@ use Rattle.reader.proofs.state.State.step.Goals as goal
 use Rattle.reader.proofs.state.State.step.Goals.{After-read_ends, After-value_at-at}
 
 line-yield : (c : After-read_ends) (s : Known) (places : List ℕ) → s ≡ state_of c.args.self.now places
-    → made_meaning c.read_ends.result ≡ line_yield s (line_with (word_of c.args.word) c.args.numbers.now)
-line-yield c s places is = c.read_ends.ensures.yields s (rw c.from.ensures (meaning-state (record { is = is; sized = c.requires.0 })))
+    → made_meaning c.read_ends.result ≡ line_yield s (line_with (word_of c.args.line.word) c.args.line.numbers.now)
+line-yield c s places is = c.read_ends.ensures.yields s (rw c.from.ensures (meaning-state (record { is = is; sized = c.requires })))
 
 pub returns-in_err-ends-clause-yields : goal.returns-in_err-ends-clause-yields
 returns-in_err-ends-clause-yields c = λ s places long is.
@@ -25,11 +25,11 @@ returns-in_err-ends-clause-yields c = λ s places long is.
 
 -- the line has ends
 with-ends : (c : After-value_at-at) (s : Known) (places : List ℕ) → s ≡ state_of c.args.self.now places
-    → makes (ends_meaning c.in_ok-ends.ends ∷ []) ≡ line_yield s (line_with (word_of c.args.word) c.args.numbers.now)
+    → makes (ends_meaning c.in_ok-ends.ends ∷ []) ≡ line_yield s (line_with (word_of c.args.line.word) c.args.line.numbers.now)
 with-ends c s places is = rw c.in_ok-ends.was at (line-yield (goal.at-After-value_at-at c).After-read_ends s places is)
 
 below : (c : After-value_at-at) → c.value_at-at.result < value_limit
-below c = inside _ _ c.requires.0 (with-ends c) c.value_at-at.ensures.span c.value_at-at.ensures.other
+below c = inside _ _ c.requires (with-ends c) c.value_at-at.ensures.span c.value_at-at.ensures.other
 
 pub offset_bounds-self-at : goal.offset_bounds-self-at
 offset_bounds-self-at c = record { fits = omega (arith, below (goal.at.offset_bounds-self-at c).After-value_at-at) }
@@ -39,10 +39,10 @@ bounds-self-at c = below (goal.at.bounds-self-at c).After-value_at-at
 
 pub returns-clause-yields : goal.returns-clause-yields
 returns-clause-yields c = λ s places long is.
-    rw c.counts_with-self.ensures (taken _ _ c.requires.0 (with-ends (goal.at.returns-clause-yields c).After-value_at-at) c.value_at-at.ensures.span c.value_at-at.ensures.other
-    (λ z kept. c.line_size.ensures.yields 1 z c.requires.1.counted kept) s places long is)
+    rw c.add-self.ensures (taken _ _ c.requires (with-ends (goal.at.returns-clause-yields c).After-value_at-at) c.value_at-at.ensures.span c.value_at-at.ensures.other
+    (λ z kept. c.line_size.ensures.yields 1 z c.args.line.parsed.counted kept) s places long is)
 
 pub returns-clause-held : goal.returns-clause-held
 returns-clause-held c =
-    rw c.counts_with-self.ensures (taken-left _ _ c.requires.0 (with-ends (goal.at.returns-clause-held c).After-value_at-at) c.value_at-at.ensures.span c.value_at-at.ensures.other
-    (λ z kept. c.line_size.ensures.yields 1 z c.requires.1.counted kept) c.in_ok-ends.ensures.sized)
+    rw c.add-self.ensures (taken-left _ _ c.requires (with-ends (goal.at.returns-clause-held c).After-value_at-at) c.value_at-at.ensures.span c.value_at-at.ensures.other
+    (λ z kept. c.line_size.ensures.yields 1 z c.args.line.parsed.counted kept) c.in_ok-ends.ensures.sized)

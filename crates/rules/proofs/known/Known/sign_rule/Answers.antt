@@ -30,16 +30,16 @@ overflow_mul-c c =
     let at = (goal.at.overflow_mul-c c).In-Some in
     part-fits (base at) c.args.digits.kept.count-one (part at) (omega (arith, c.args.self.ready.p-high)) (search rules)
 
-pub returns-then-self-c : goal.returns-then-self-c
-returns-then-self-c c =
-    let at = (goal.at.returns-then-self-c c).In-Some in
-    sym (rule-above _ _ _ _ _ (rw (part-power (base at) c.args.digits.kept.count-one (part at)) at c.if-self-c.true))
+pub returns-then-from-c : goal.returns-then-from-c
+returns-then-from-c c =
+    let at = (goal.at.returns-then-from-c c).In-Some in
+    sym (rule-above _ _ _ _ _ (rw (part-power (base at) c.args.digits.kept.count-one (part at)) at (rw c.from.ensures at c.if-from-c.true)))
 
 pub is_narrow-requires : goal.is_narrow-requires
 is_narrow-requires c =
     let at = (goal.at.is_narrow-requires c).In-Some in
     let one = c.args.digits.kept.count-one in
-    let r = part-within (base at) one (part at) c.if-self-c.false in
+    let r = part-within (base at) one (part at) (rw c.from.ensures at c.if-from-c.false) in
     let small : top_part c.args.digits.base c.args.digits.count ≤ greatest = omega (arith, r.within, top-part (base at) one (part at), c.args.self.ready.p-high) in (
       r.positive,
       r.within,
@@ -53,4 +53,4 @@ returns c =
     let at = (goal.at.returns c).In-Some in
     let one = c.args.digits.kept.count-one in
     (rw (c.negated.ensures, c.wide_whole.ensures, top-part (base at) one (part at)) at c.is_narrow.ensures)
-    ∙ sym (rule-within _ _ _ _ _ (part-within (base at) one (part at) c.if-self-c.false))
+    ∙ sym (rule-within _ _ _ _ _ (part-within (base at) one (part at) (rw c.from.ensures at c.if-from-c.false)))
