@@ -10,8 +10,7 @@ use std::io;
 use std::io::{ErrorKind, Print, Read};
 
 // Reads until the buffer is full or the input ends, and says how many bytes were read. By hand: `read_to_end` asks for a heap, and `read_exact` refuses
-// an input that ends early. The turns are counted, as every loop has to end and a reader
-// may be interrupted again and again.
+// an input that ends early. The turns are counted, as every loop has to end and a reader may be interrupted again and again.
 fn read_full<R: Read>(reader: &mut R, buffer: &mut [u8]) -> io::Result<usize>
     ensures { IfOk result (λ n. n ≤ length buffer.new) }
 {

@@ -1,6 +1,6 @@
 -- Each way out is one law of `Responding`.
-use mathlib.Core.Path.{◌≡◌, refl, ap, ◌∙◌}
-use Prim.Native.Nat.{ℕ, ◌+◌}
+use mathlib.Core.Path.{◌≡◌, ap, ◌∙◌}
+use Prim.Native.Nat.{◌+◌}
 use native.Mathlib.Omega.{arith}
 use borrow.Author.Rules.{rules}
 use lib.ListN.{take, replicate}
@@ -9,10 +9,10 @@ use Rattle.meaning.specs.Text.{lines_of}
 use Rattle.meaning.specs.Reply.{make_reply, reply}
 use Rattle.refusal.specs.Refusal.{refused_reply}
 use Rattle.meaning.specs.Program.{refusal_text, making_text, parts_of, on_parts}
+use Rattle.reader.proofs.Placing.{passed_on, gone_on}
 use Rattle.program.proofs.Answering.{take-replicate, passed_text, table-made, making-refused}
 use Rattle.program.proofs.Limits.{list-most}
 use Rattle.program.proofs.Responding.{inputs-no-number, inputs-numbers, place-fits, no_number, made-answer}
-use Rattle.std.specs.Prelude.{Result, Ok, Err}
 use Rattle.program.proofs.making.make_list.Goals as goal
 use Rattle.program.proofs.making.make_list.Goals.{After-make}
 
@@ -22,18 +22,12 @@ map_err-requires c e is =
     let fits = place-fits c.requires.0.given c.requires.0.listed _ fails in
     ((λ _ _ _ _ _. omega (arith, fits)), (λ _ _ _ _ _. omega (arith, fits)))
 
--- a result is one of its two cases
-split-of : {A : Type 0} → (r : Result ℕ ℕ) → ((i : ℕ) → r ≡ Err i → A) → ((n : ℕ) → r ≡ Ok n → A) → A
-split-of (Ok n) failed kept = kept n refl
-split-of (Err i) failed kept = failed i refl
-
 pub returns-in_err-count-clause-answer : goal.returns-in_err-count-clause-answer
-returns-in_err-count-clause-answer c = split-of c.read_inputs-read.result (λ i is.
+returns-in_err-count-clause-answer c =
+    let (i, is, placed, out) = passed_on c.read_inputs-read.result c.from_residual.result _ c.map_err.ensures.cases c.in_err-count.was c.from_residual.ensures.1 in
     let fails = inputs-no-number _ _ c.read_inputs-read.ensures is in
-    let told : refused_reply c.in_err-count.field-0.0 ≡ reply 3 (c.args.end.lines + 1 + i) =
-    search (rules, c.map_err.ensures.cases, c.in_err-count.was, c.in_err-count.ensures.cases, is) in
-    passed_text _ _ _ c.from_residual.ensures.1 ∙ ap refusal_text told ∙ no_number c.requires.0.given c.requires.0.listed _ fails)
-    (λ n is. search (rules, c.map_err.ensures.variant, c.in_err-count.was, is))
+    let told : refused_reply c.in_err-count.field-0.0 ≡ reply 3 (c.args.end.lines + 1 + i) = search (rules, placed) in
+    passed_text _ _ _ c.from_residual.ensures.1 ∙ ap refusal_text told ∙ no_number c.requires.0.given c.requires.0.listed _ fails
 
 pub slice_bounds-make-end-3 : goal.slice_bounds-make-end-3
 slice_bounds-make-end-3 c = omega (arith, (list-most c.requires.0.listed).cells-most, c.requires.0.cells_are)
@@ -47,9 +41,7 @@ answer : (c : After-make)
     → making_text (make_reply (take c.args.end.at c.args.text.bytes.now) (take c.in_ok-count.count c.read_inputs-read.new.inputs) (replicate c.args.cells 0))
     ≡ on_parts (parts_of (lines_of c.args.text.bytes.now))
 answer c =
-    let given : c.read_inputs-read.result ≡ Ok c.in_ok-count.count =
-    search (rules, c.map_err.ensures.cases, c.in_ok-count.was, c.map_err.ensures.variant) in
-    let numbers = inputs-numbers _ _ c.read_inputs-read.ensures given in
+    let numbers = inputs-numbers _ _ c.read_inputs-read.ensures (gone_on c.read_inputs-read.result _ c.map_err.ensures.cases c.in_ok-count.was) in
     made-answer c.requires.0.given c.requires.0.listed numbers c.args.cells (omega arith) c.requires.0.cells_are
 
 pub returns-in_err-make-clause-answer : goal.returns-in_err-make-clause-answer
