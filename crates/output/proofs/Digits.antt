@@ -1,30 +1,32 @@
--- A number's digits are those that the library writes, and how many there are, by the power of 10 just below the number.
-use mathlib.Core.Path.{◌≡◌, sym, ◌∙◌}
-use mathlib.Core.List.{List, [], ◌++◌, append-nil}
-use Prim.Native.Nat.{ℕ, zero, suc, ◌+◌, ◌*◌, ◌/◌, ◌^◌, ◌≤◌, ◌<◌}
+-- Writing a number's digits, the last ones first, two by two: what is known before each two, how they are written, and what is known at the end. How many digits there
+-- are is told by the power of 10 just below the number.
+use mathlib.Core.Path.{◌≡◌, refl, sym, ap, subst, ◌∙◌}
+use mathlib.Core.List.{List, [], ◌∷◌, ◌++◌, append_assoc}
+use Prim.Native.Nat.{ℕ, zero, suc, ◌+◌, ◌-◌, ◌*◌, ◌/◌, ◌%◌, ◌^◌, ◌≤◌, ◌<◌}
 use native.Mathlib.Nat.{pow-suc, pow-le-pow_right}
 use native.Mathlib.Omega.{arith}
-use borrow.Author.Tests.{lt-ltb, le-ltb}
-use lib.ListN.{length, drop}
+use lib.ListN.{length, drop, set, length-append}
+use Rattle.std.proofs.lemmas.List.{drop-set}
 use Rattle.std.specs.Prelude.{Option as Answer, Some, None, IfNone, IfSome}
 use Rattle.std.specs.Option.{unwrap_or}
-use Rattle.std.specs.Fmt.{decimal}
-use Rattle.std.proofs.lemmas.Fmt.{PrependsLastDigit, decimal_from_prepends, length-decimal-le_succ}
-use Rattle.meaning.specs.Machine.{past_u64}
-use Rattle.meaning.specs.Text.{decimal_before, decimal_of}
-use Rattle.output.specs.Written.{Written}
-use Rattle.meaning.proofs.Decimal.{length-short, length-long, some-digit, decimal-most, decimal-of-64}
+use Rattle.meaning.specs.Text.{decimal_of}
+use Rattle.output.specs.Written.{Written, PairStands}
+use Rattle.output.proofs.Writing.{nothing_written, written_byte}
+use Rattle.meaning.proofs.Decimal.{decimal-short, decimal-long, length-short, length-long, some-digit, decimal-most, decimal-of-64}
 
-prepends : PrependsLastDigit decimal_before
-unfolding decimal_before
-prepends = record {
-  one = λ k n acc h. simp (lt-ltb n 10 h);
-  more = λ k n acc h. simp (le-ltb n 10 h);
-}
+-- ---- how many digits
 
-pub decimal_written : (n : ℕ) → n < past_u64 → decimal n ≡ decimal_of n
-unfolding decimal_of
-decimal_written n h = sym (decimal_from_prepends decimal_before prepends (suc n) n [] h (omega (arith, length-decimal-le_succ n h)) ∙ append-nil (decimal n))
+pub one_digit : (n : ℕ) → n < 10 → length (decimal_of n) ≡ 1
+one_digit n h = length-short n h
+
+pub two_digits : (n : ℕ) → 10 ≤ n → n < 100 → length (decimal_of n) ≡ 2
+two_digits n h k = omega (arith, length-long n h, length-short (n / 10) (omega arith))
+
+pub three_digits : (n : ℕ) → 100 ≤ n → n < 1000 → length (decimal_of n) ≡ 3
+three_digits n h k = omega (arith, length-long n (omega arith), two_digits (n / 10) (omega arith) (omega arith))
+
+pub four_digits : (n : ℕ) → 1000 ≤ n → n < 10000 → length (decimal_of n) ≡ 4
+four_digits n h k = omega (arith, length-long n (omega arith), three_digits (n / 10) (omega arith) (omega arith))
 
 -- a number from a power of 10 on has more digits than its exponent says
 decimal-least : (k n : ℕ) → 10 ^ k ≤ n → suc k ≤ length (decimal_of n)
@@ -43,12 +45,99 @@ log_length n (Some k) none low high =
     let power : 10 ^ suc k ≡ 10 ^ k * 10 = pow-suc 10 k in
     omega (arith, decimal-least k n low, decimal-most k n (omega (arith, power, high)))
 
--- digits that are written to end at their count start at the start
-pub digits_stand : (digits before after : List ℕ) (start count : ℕ) → start + length digits ≡ count → count ≡ length digits
-    → drop start after ≡ digits ++ drop count before → Written digits before after count
-digits_stand digits before after start count ends counted written =
-    let first : start ≡ 0 = omega arith in
-    record { stands = rw (first, counted) at written; counted = counted }
+-- ---- two digits of more
+
+decimal-pair : (n : ℕ) → 100 ≤ n → decimal_of n ≡ decimal_of (n / 100) ++ (48 + n % 100 / 10) ∷ (48 + n % 100 % 10) ∷ []
+decimal-pair n h =
+    let tens : n / 10 / 10 ≡ n / 100 = omega arith in
+    let tens_digit : n / 10 % 10 ≡ n % 100 / 10 = omega arith in
+    let ones : n % 10 ≡ n % 100 % 10 = omega arith in
+    decimal-long n (omega arith) ∙ rw (decimal-long (n / 10) (omega arith), append_assoc, tens, tens_digit, ones)
+
+length-pair : (n : ℕ) → 100 ≤ n → length (decimal_of n) ≡ length (decimal_of (n / 100)) + 2
+length-pair n h = ap length (decimal-pair n h) ∙ length-append _ _
+
+-- the digits of rest are to be written before the place `at`; those from there on stand
+pub record Filling (n : ℕ) (before part : List ℕ) (rest at : ℕ) : Type 0 where
+  pub place : length (decimal_of rest) ≡ at
+  pub kept : length part ≡ length before
+  pub within : at ≤ length part
+  pub stands : decimal_of rest ++ drop at part ≡ decimal_of n ++ drop (length (decimal_of n)) before
+
+pub filling_start : (n : ℕ) (before : List ℕ) (count : ℕ) → count ≡ length (decimal_of n) → length (decimal_of n) ≤ length before → Filling n before before n count
+filling_start n before count e h = record { place = sym e; kept = refl; within = omega (arith, e, h); stands = rw e }
+
+module _ {n : ℕ} {before part : List ℕ} {rest at : ℕ} (f : Filling n before part rest at) where
+  filling_place : 100 ≤ rest → 2 ≤ at
+  filling_place h = omega (arith, f.place, length-pair rest h, some-digit (rest / 100))
+
+  filling_turn : {after : List ℕ} → 100 ≤ rest → PairStands (rest % 100) (at - 2) part after → Filling n before after (rest / 100) (at - 2)
+  filling_turn {after} h w =
+      let two = filling_place h in
+      let here : at - 2 + 2 ≡ at = omega arith in
+      record {
+        place = omega (arith, f.place, length-pair rest h);
+        kept = w.kept ∙ f.kept;
+        within = omega (arith, f.within, w.kept);
+        stands =
+            ap (λ (ds : List ℕ). decimal_of (rest / 100) ++ ds) (w.stands ∙ rw here)
+            ∙ sym (append_assoc (decimal_of (rest / 100)) ((48 + rest % 100 / 10) ∷ (48 + rest % 100 % 10) ∷ []) (drop at part))
+            ∙ ap (λ (ds : List ℕ). ds ++ drop at part) (sym (decimal-pair rest h)) ∙ f.stands;
+      }
+
+  pub filling_room : length (decimal_of rest) ≤ length part
+  filling_room = omega (arith, f.place, f.within)
+
+  pub filling_four-place : 10000 ≤ rest → 4 ≤ at
+  filling_four-place h = omega (arith, f.place, length-pair rest (omega arith), length-pair (rest / 100) (omega arith), some-digit (rest / 100 / 100))
+
+  pub filling_end : {after : List ℕ} {count m : ℕ} → count ≡ length (decimal_of n) → Written (decimal_of rest) part after m → Written (decimal_of n) before after count
+  filling_end e w = record { stands = w.stands ∙ ap (λ (i : ℕ). decimal_of rest ++ drop i part) f.place ∙ f.stands; counted = e }
+
+-- four digits, where both pairs are of one remainder
+pub filling_four : {n : ℕ} {before part first last : List ℕ} {rest at : ℕ} → Filling n before part rest at → 10000 ≤ rest
+    → PairStands (rest % 10000 % 100) (at - 2) part first → PairStands (rest % 10000 / 100) (at - 4) first last → Filling n before last (rest / 10000) (at - 4)
+filling_four {rest = rest} {at} f h w v =
+    let ones : rest % 10000 % 100 ≡ rest % 100 = omega arith in
+    let hundreds : rest % 10000 / 100 ≡ rest / 100 % 100 = omega arith in
+    let left : rest / 100 / 100 ≡ rest / 10000 = omega arith in
+    let place : at - 2 - 2 ≡ at - 4 = omega arith in
+    rw (left, place) at (filling_turn (filling_turn f (omega arith) (rw ones at w)) (omega arith) (rw (hundreds, ← place) at v))
+
+-- ---- one digit, and two
+
+pub one_written : {n : ℕ} {before : List ℕ} → n < 10 → length (decimal_of n) ≤ length before → Written (decimal_of n) before (set before 0 (48 + n)) 1
+one_written {n} {before} h room =
+    subst (λ (ds : List ℕ). Written ds before (set before 0 (48 + n)) 1) (sym (decimal-short n h))
+    (written_byte (48 + n) (nothing_written before) (omega (arith, length-short n h)))
+
+pub two_written : {n : ℕ} {before after : List ℕ} → 10 ≤ n → n < 100 → PairStands n 0 before after → Written (decimal_of n) before after 2
+two_written {n} {before} {after} h k w =
+    let both : decimal_of n ≡ (48 + n / 10) ∷ (48 + n % 10) ∷ [] = decimal-long n h ∙ rw (decimal-short (n / 10) (omega arith)) in
+    record { stands = w.stands ∙ rw both; counted = rw both }
+
+-- three, and four
+pub three_written : {n : ℕ} {before after : List ℕ} → 100 ≤ n → n < 1000 → length (decimal_of n) ≤ length before → PairStands (n % 100) 1 before after
+    → Written (decimal_of n) before (set after 0 (48 + n / 100)) 3
+three_written {n} {before} {after} h k room w =
+    let size = three_digits n h k in
+    let all : decimal_of n ≡ (48 + n / 100) ∷ (48 + n % 100 / 10) ∷ (48 + n % 100 % 10) ∷ [] = decimal-pair n h ∙ rw (decimal-short (n / 100) (omega arith)) in
+    record { stands = drop-set after 0 (48 + n / 100) (omega (arith, w.kept)) ∙ ap (λ (ds : List ℕ). (48 + n / 100) ∷ ds) w.stands ∙ rw all; counted = sym size }
+
+pub four_written : {n : ℕ} {before middle after : List ℕ} → 1000 ≤ n → n < 10000 → PairStands (n % 100) 2 before middle → PairStands (n / 100) 0 middle after
+    → Written (decimal_of n) before after 4
+four_written {n} {before} {middle} {after} h k w v =
+    let tens : n / 100 / 10 ≡ n / 1000 = omega arith in
+    let first = two_written {n = n / 100} (omega arith) (omega arith) v in
+    let size = four_digits n h k in
+    let two = two_digits (n / 100) (omega arith) (omega arith) in
+    record {
+      stands =
+          first.stands ∙ ap (λ (i : ℕ). decimal_of (n / 100) ++ drop i middle) two ∙ ap (λ (ds : List ℕ). decimal_of (n / 100) ++ ds) w.stands
+          ∙ sym (append_assoc (decimal_of (n / 100)) ((48 + n % 100 / 10) ∷ (48 + n % 100 % 10) ∷ []) (drop 4 before))
+          ∙ rw (← decimal-pair n (omega arith), size) refl;
+      counted = sym size;
+    }
 
 -- a number of 64 bits has few digits, as the check applies it
 pub ruleset short_digits = (decimal-of-64)

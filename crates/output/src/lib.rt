@@ -3,11 +3,10 @@
 // this text. How much was written is answered, as by std's `write`.
 #![tactic(auto)]
 
-ghost use Rattle.std.specs.Prelude.{◌≡◌, ◌≤◌, length};
+ghost use Rattle.std.specs.Prelude.{◌≡◌, ◌≤◌, ◌<◌, ◌+◌, length};
 ghost use Rattle.meaning.specs.Text.{decimal_of, number_text};
-ghost use Rattle.output.specs.Written.{Written, field_text};
+ghost use Rattle.output.specs.Written.{Written, PairStands, field_text};
 
-use itoa::write_digits;
 use number::Whole;
 use number::whole::{is_negative, magnitude};
 
@@ -22,22 +21,75 @@ pub fn write_bytes(part: &mut [u8], text: &[u8]) -> usize
 
 // ---- a number as it is written: its decimal digits, without a leading zero
 
-// How many digits it has. `as`, as there is no `From` from a u32 to a usize.
-#[tactic(auto, using(crate::proofs::Digits::log_length))]
+// How many digits it has. One or two, as most numbers have, are told without the logarithm. `as`, as there is no `From` from a u32 to a usize.
+#[tactic(auto, using(crate::proofs::Digits::one_digit, crate::proofs::Digits::two_digits, crate::proofs::Digits::log_length))]
 pub fn decimal_length(n: u64) -> usize
     ensures { result ≡ length (decimal_of n) }
 {
+    if n < 10 {
+        return 1;
+    }
+    if n < 100 {
+        return 2;
+    }
     n.checked_ilog10().unwrap_or(0) as usize + 1
 }
 
-// Writes the digits. The kit's `itoa` has the loop over them, proved; one here would be the same again, and the library's `write!` can fail.
-#[tactic(auto, using(crate::proofs::Digits::decimal_written, crate::proofs::Digits::digits_stand))]
+// Writes two digits at a place.
+#[inline(always)]
+fn write_pair(part: &mut [u8], at: usize, n: u64)
+    requires { (n < 100) × (at + 2 ≤ length part.old) }
+    ensures { PairStands n at part.old part.new }
+{
+    part[at] = b'0' + (n / 10) as u8;
+    part[at + 1] = b'0' + (n % 10) as u8;
+}
+
+// Writes a number of up to four digits, as nearly all have that the program writes: they take no loop, and their count is told on the way.
+#[inline(always)]
+#[tactic(auto, using(crate::proofs::Digits::one_digit, crate::proofs::Digits::two_digits, crate::proofs::Digits::three_digits, crate::proofs::Digits::four_digits, crate::proofs::Digits::one_written, crate::proofs::Digits::two_written, crate::proofs::Digits::three_written, crate::proofs::Digits::four_written))]
+fn write_short(part: &mut [u8], n: u64) -> usize
+    requires { (n < 10000) × (length (decimal_of n) ≤ length part.old) }
+    ensures { Written (decimal_of n) part.old part.new result }
+{
+    if n < 10 {
+        part[0] = b'0' + n as u8;
+        return 1;
+    }
+    if n < 100 {
+        write_pair(part, 0, n);
+        return 2;
+    }
+    if n < 1000 {
+        write_pair(part, 1, n % 100);
+        part[0] = b'0' + (n / 100) as u8;
+        return 3;
+    }
+    write_pair(part, 2, n % 100);
+    write_pair(part, 0, n / 100);
+    4
+}
+
+// Writes the digits, of a long number the last ones first, four a turn: each division waits for the one before it. By hand, and not by the kit's `itoa`, whose
+// table of digits would stand in the image, and which costs more where numbers are short (docs/SPEED.md).
 pub fn write_decimal(part: &mut [u8], n: u64) -> usize
     requires { length (decimal_of n) ≤ length part.old }
     ensures { Written (decimal_of n) part.old part.new result }
 {
+    if n < 10_000 {
+        return write_short(part, n);
+    }
     let count = decimal_length(n);
-    write_digits(n, part, count);
+    let mut rest = n;
+    let mut at = count;
+    while 10_000 <= rest {
+        let four = rest % 10_000;
+        write_pair(part, at - 2, four % 100);
+        write_pair(part, at - 4, four / 100);
+        rest /= 10_000;
+        at -= 4;
+    }
+    write_short(part, rest);
     count
 }
 
