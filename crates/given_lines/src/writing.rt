@@ -3,7 +3,9 @@
 // The room of a part stays a clause: it is of this text. How much was written is answered, as by std's `write`, and a place in the part goes on by it.
 ghost use Rattle.std.specs.Prelude.{◌∷◌, ◌≤◌, length};
 ghost use Rattle.meaning.specs.Text.{number_text};
+ghost use Rattle.meaning.specs.Word.{kind_of};
 ghost use Rattle.meaning.specs.Write.{word_text, text_of};
+ghost use Rattle.text.specs.Word.{word_of};
 ghost use Rattle.output.specs.Written.{Written};
 ghost use Rattle.given_lines.specs.Given.{word_meaning, line_text, line_meaning, lines_of};
 
@@ -50,6 +52,16 @@ fn write_tabbed(part: &mut [u8], x: Whole) -> usize
     1 + write_signed(&mut part[1..], x)
 }
 
+// Writes a word that the caller names. It stands in `write_word` once for each word, so that the compiler stores the few bytes of that word: with a spelling
+// that is looked up, each line would call C's `memmove`, which the library then asks of who links it.
+#[inline(always)]
+fn write_spelling(part: &mut [u8], word: Word) -> usize
+    requires { length (kind_of (word_of word)).spelling ≤ length part.old }
+    ensures { Written (kind_of (word_of word)).spelling part.old part.new result }
+{
+    write_bytes(part, word.spelling())
+}
+
 // Writes a word, and nothing where there is none.
 #[tactic(auto, unfolding(meaning::specs::Write::word_text))]
 fn write_word(part: &mut [u8], word: Option<Word>) -> usize
@@ -57,8 +69,15 @@ fn write_word(part: &mut [u8], word: Option<Word>) -> usize
     ensures { Written (word_text (word_meaning word)) part.old part.new result }
 {
     match word {
-        Some(word) => write_bytes(part, word.spelling()),
         None => 0,
+        Some(Word::Field) => write_spelling(part, Word::Field),
+        Some(Word::In) => write_spelling(part, Word::In),
+        Some(Word::Span) => write_spelling(part, Word::Span),
+        Some(Word::Sum) => write_spelling(part, Word::Sum),
+        Some(Word::Relu) => write_spelling(part, Word::Relu),
+        Some(Word::Which) => write_spelling(part, Word::Which),
+        Some(Word::Max) => write_spelling(part, Word::Max),
+        Some(Word::Root) => write_spelling(part, Word::Root),
     }
 }
 
