@@ -16,11 +16,7 @@ use lib.Seq.{drop-drop, get_or-drop, take_all}
 use Rattle.std.specs.Prelude.{Option as Answer, Some, None, ◌==◌}
 use Rattle.std.specs.List.{position, position_or_len}
 use Rattle.std.proofs.lemmas.List.Recursion.{is_position_or_len}
-use Rattle.std.specs.Option.{option_copied, option_eq}
-use Rattle.std.specs.List.{slice_get}
-use denote.Bor.{Bor}
-use native.Mathlib.Decide.{dec_lt}
-use Rattle.std.proofs.lemmas.Option.{cond_some, none-some, slice_get-get_or, slice_get_past}
+use Rattle.std.proofs.lemmas.Option.{cond_some, none-some}
 use Rattle.std.proofs.lemmas.List.Sums.{prefix_len-le-length}
 use Rattle.meaning.specs.Text.{on_first, split, without_last, lines_of, is_ended}
 use Rattle.text.specs.Place.{index_of, Found, field_at, lines_from}
@@ -136,6 +132,16 @@ module _ {separator : ℕ} {xs : List ℕ} {at i : ℕ} (searched : Searched sep
   pub search-stop : index_of separator (drop i xs) ≡ 0 → Found separator xs at i
   search-stop here = record { low = searched.low; high = searched.high; is = omega (arith, searched.same, here) }
 
+  pub search-here : i < length xs → get_or xs i 0 ≡ separator → Found separator xs at i
+  search-here h q = search-stop (index-here separator xs i h q)
+
+  pub search-on : {place : ℕ} → Found separator xs i place → Found separator xs at place
+  search-on found = record {
+    low = omega (arith, searched.low, found.low);
+    high = found.high;
+    is = omega (arith, searched.same, found.is);
+  }
+
 -- ---- the part before the first separator, and those after it
 
 -- the parts after the one that ends at a place: none, where that is the end
@@ -198,36 +204,18 @@ fields-one xs h = fields-from xs 0 ∙ rw (parts_none 9 xs (index_of 9 xs) h, fi
 
 -- ---- an ended text
 
-ended-empty : (text : List ℕ) → length text ≡ 0 → is_ended text ≡ false
+pub ended_empty : (text : List ℕ) → length text ≡ 0 → is_ended text ≡ false
 unfolding is_ended
-ended-empty [] h = refl
-ended-empty (x ∷ xs) h = let z : ⊥ = omega arith in absurd z
+ended_empty [] h = refl
+ended_empty (x ∷ xs) h = let z : ⊥ = omega arith in absurd z
 
-ended-last : (text : List ℕ) → (length text ≡ 0 → ⊥) → is_ended text ≡ eqb (get_or text (length text - 1) 0) 10
+pub ended_last : (text : List ℕ) → (length text ≡ 0 → ⊥) → is_ended text ≡ eqb (get_or text (length text - 1) 0) 10
 unfolding is_ended
-ended-last [] h = absurd (h refl)
-ended-last (x ∷ []) h = refl
-ended-last (x ∷ (y ∷ xs)) h =
+ended_last [] h = absurd (h refl)
+ended_last (x ∷ []) h = refl
+ended_last (x ∷ (y ∷ xs)) h =
     let e : length (x ∷ (y ∷ xs)) - 1 ≡ suc (length (y ∷ xs) - 1) = omega arith in
-    rw e (ended-last (y ∷ xs) (λ z. omega arith))
-
--- the last byte, where there is one, says it
-some-last : (o : Answer (Bor ℕ)) (x : ℕ) (ten : Bor ℕ) → option_copied o ≡ Some x → option_eq (λ a b. eqb a.now b.now) o (Some ten) ≡ eqb x ten.now
-some-last None x ten q = absurd (none-some x q)
-some-last (Some y) x ten q = let e : y.now ≡ x = cc in rw e
-
-none-last : (o : Answer (Bor ℕ)) (ten : Bor ℕ) → option_copied o ≡ None → option_eq (λ a b. eqb a.now b.now) o (Some ten) ≡ false
-none-last None ten q = refl
-none-last (Some y) ten q = absurd (none-some y.now (sym q))
-
-pub ended-by-last : (text : List ℕ) (last : Answer (Bor ℕ)) (ten : Bor ℕ) → option_copied last ≡ slice_get text (length text - 1) → ten.now ≡ 10
-    → option_eq (λ a b. eqb a.now b.now) last (Some ten) ≡ is_ended text
-ended-by-last text last ten q e = elim (dec_lt 0 (length text)) [
-  | yes h ↦
-      let some-byte = slice_get-get_or text (length text - 1) 0 (omega arith) in
-      some-last last (get_or text (length text - 1) 0) ten (q ∙ some-byte) ∙ rw e (sym (ended-last text (λ z. omega arith)))
-  | no h ↦ none-last last ten (q ∙ slice_get_past text (length text - 1) (omega arith)) ∙ sym (ended-empty text (omega arith))
-]
+    rw e (ended_last (y ∷ xs) (λ z. omega arith))
 
 ended-index-at : (t : Bool) (n m : ℕ) → n < m → cond t 0 (suc n) < suc m
 ended-index-at true n m h = omega arith
@@ -246,8 +234,8 @@ module _ (text : List ℕ) where
   ended-from at h =
       let n : length (drop at text) ≡ length text - at = length-drop at text in
       let last : at + (length (drop at text) - 1) ≡ length text - 1 = omega arith in
-      ended-last (drop at text) (λ z. omega arith)
-      ∙ rw (get_or-drop at text (length (drop at text) - 1) 0, last) (sym (ended-last text (λ z. omega arith)))
+      ended_last (drop at text) (λ z. omega arith)
+      ∙ rw (get_or-drop at text (length (drop at text) - 1) 0, last) (sym (ended_last text (λ z. omega arith)))
 
   -- ---- the lines that are left at a place
 

@@ -109,12 +109,12 @@ field-front {text} {at} {end} l =
     ∙ ap (λ (xs : List ℕ). xs ++ drop end text) (sym (take-append-drop (index_of 9 left) left)) ∙ append_assoc (take (index_of 9 left) left) (drop (index_of 9 left) left) (drop end text)
 
 -- the text's next i bytes are those of a spelling: what is left of the field is the same as what is left of the spelling just where all is
-record Spelling (text : List ℕ) (at end : ℕ) (spelled : List ℕ) (i : ℕ) : Type 0 where
+pub record Spelling (text : List ℕ) (at end : ℕ) (spelled : List ℕ) (i : ℕ) : Type 0 where
   pub place : InLine text (at + i) end
   pub searched : Searched 9 (take end text) at (at + i)
   pub left : field_at (take end text) at ≡ take i spelled ++ field_at (take end text) (at + i)
 
-spelling-start : {text : List ℕ} {at end : ℕ} → InLine text at end → (spelled : List ℕ) → Spelling text at end spelled 0
+pub spelling-start : {text : List ℕ} {at end : ℕ} → InLine text at end → (spelled : List ℕ) → Spelling text at end spelled 0
 spelling-start {text} {at} {end} l spelled =
     let e : at + 0 ≡ at = omega arith in record {
       place = rw e l;
@@ -139,16 +139,6 @@ spelling-next {text} {at} {end} {spelled} {i} s h letter q =
           ∙ sym (append_assoc (take i spelled) (get_or spelled i 0 ∷ []) (field_at line (at + suc i)))
           ∙ ap (λ (xs : List ℕ). xs ++ field_at line (at + suc i)) (sym (take-suc spelled i 0 h));
     }
-
--- as far as the text goes on with the spelling of a word
-spelling-to : {text : List ℕ} {at end : ℕ} → InLine text at end → (w : Word) → (rest : List ℕ) → drop at text ≡ (kind_of w).spelling ++ rest
-    → (i : ℕ) → i ≤ length (kind_of w).spelling → Spelling text at end (kind_of w).spelling i
-spelling-to l w rest q zero h = spelling-start l (kind_of w).spelling
-spelling-to {text} {at} l w rest q (suc i) h =
-    let p = (kind_of w).spelling in
-    let byte : get_or text (at + i) 0 ≡ get_or p i 0 =
-    sym (get_or-drop at text i 0) ∙ ap (λ (xs : List ℕ). get_or xs i 0) q ∙ get_or-append p rest 0 i (omega arith) in
-    spelling-next (spelling-to l w rest q i (omega arith)) (omega arith) (above_at p (spelling-comparable w).1 i (omega arith)) byte
 
 -- ---- a word, as the check asks for it
 
@@ -182,10 +172,22 @@ module _ (text : List ℕ) (at : ℕ) (ended : is_ended text ≡ true) (inside :
   pub other_word : ((rest : List ℕ) → drop at text ≢ spelled ++ rest) → WordYield line at None
   other_word differs = no_word (λ q. differs _ (rw q at (field-front l)))
 
-  module _ (rest : List ℕ) (goes-on : drop at text ≡ spelled ++ rest) where
-    s : Spelling text at (end_of text at) spelled (length spelled)
-    s = spelling-to l (word_of w) rest goes-on (length spelled) (omega arith)
+  -- before a byte of the spelling
+  module _ {i : ℕ} (s : Spelling text at (end_of text at) spelled i) (h : i < length spelled) where
+    pub byte_there : at + i < length text
+    byte_there = place_inside s.place
 
+    pub byte_differs : get_or text (at + i) 0 ≢ get_or spelled i 0 → WordYield line at None
+    byte_differs differs =
+        other_word (λ rest q. differs (sym (get_or-drop at text i 0) ∙ ap (λ (xs : List ℕ). get_or xs i 0) q ∙ get_or-append spelled rest 0 i h))
+
+    pub byte_same : get_or text (at + i) 0 ≡ get_or spelled i 0 → Spelling text at (end_of text at) spelled (i + 1)
+    byte_same q =
+        let e : i + 1 ≡ suc i = omega arith in
+        rw e (spelling-next s h (above_at spelled (spelling-comparable (word_of w)).1 i h) q)
+
+  -- after the last
+  module _ (s : Spelling text at (end_of text at) spelled (length spelled)) where
     pub after_word : at + length spelled < length text
     after_word = place_inside s.place
 

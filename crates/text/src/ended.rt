@@ -16,13 +16,16 @@ impl<'a> Text<'a> {
     ghost use Rattle.text.specs.Ended.{EndedYield};
 
     // The text of these bytes, where their last line is ended. No bytes are no line. FORMAT 2.1
+    #[tactic(auto, using(crate::proofs::Places::ended_empty, crate::proofs::Places::ended_last))]
     pub fn of(bytes: &'a [u8]) -> Option<Text<'a>>
         ensures { EndedYield bytes.now result }
     {
-        if bytes.last() == Some(&LINE_END) {
-            Some(Text { bytes })
-        } else {
-            None
+        if bytes.is_empty() {
+            return None;
         }
+        if bytes[bytes.len() - 1] != LINE_END {
+            return None;
+        }
+        Some(Text { bytes })
     }
 }

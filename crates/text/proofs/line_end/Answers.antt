@@ -1,27 +1,44 @@
--- The search of the library finds the first byte 10.
-use Rattle.text.proofs.Places.{found-some, found-none}
-use Rattle.std.specs.Prelude.{◌≡◌, drop, ◌==◌}
-use Rattle.std.proofs.Common.{refl, ◌∙◌, length-drop}
-use lib.Seq.{take_all}
-use Rattle.std.specs.List.{position}
-use Rattle.std.proofs.lemmas.Iterator.{YieldsList-from_slice}
-use Rattle.std.proofs.lemmas.Iterator.Search.{position_from_yields_List}
-use borrow.Author.Tests.{tests}
+-- No separator stands from `at` to `i`; in a turn the four bytes from `i` on are passed one by one.
+use Prim.Native.Nat.{◌+◌}
+use native.Mathlib.Omega.{arith}
+use Rattle.text.proofs.Places.{search-past, search-here}
 use Rattle.text.proofs.line_end.Goals as goal
-use Rattle.text.proofs.line_end.Goals.{After-position}
-use Rattle.std.proofs.Common.{rules, arith}
 
-searched : (c : After-position) → c.position.result ≡ position (λ x. x == 10) (drop c.args.at c.args.text.now)
-searched c =
-    let text = c.args.text.now in
-    let left : c.iter.result.rest.now ≡ drop c.args.at text = c.iter.ensures.rest ∙ take_all _ (drop c.args.at text) (omega (arith, length-drop c.args.at text)) in
-    rw left at (position_from_yields_List (λ x. x == 10) _ _ c.position.result c.position.ensures.ran (YieldsList-from_slice c.iter.result.rest.now refl)
-    (λ x b q k. search (rules, tests)))
+pub returns-then-text-i-eq-LINE_END : goal.returns-then-text-i-eq-LINE_END
+returns-then-text-i-eq-LINE_END c =
+    let at-loop = c.loop-i in
+    let passed0 = at-loop.invariant in
+    search-here passed0 (omega (arith, c.loop-i-test.true)) c.if-text-i-eq-LINE_END.true
 
-pub returns-in-Some : goal.returns-in-Some
-returns-in-Some c =
-    found-some 10 c.args.text.now c.args.at c.requires c.position.result (searched (goal.at.returns-in-Some c).After-position) c.in-Some.is
+pub returns-then-text-i-eq-LINE_END-2 : goal.returns-then-text-i-eq-LINE_END-2
+returns-then-text-i-eq-LINE_END-2 c =
+    let at-loop = c.loop-i in
+    let passed0 = at-loop.invariant in
+    let passed1 = search-past passed0 (omega (arith, c.loop-i-test.true)) c.if-text-i-eq-LINE_END.false {j = at-loop.i + 1} (omega arith) in
+    search-here passed1 (omega (arith, c.loop-i-test.true)) c.if-text-i-eq-LINE_END-2.true
 
-pub returns-in-None : goal.returns-in-None
-returns-in-None c =
-    found-none 10 c.args.text.now c.args.at c.requires c.position.result (searched (goal.at.returns-in-None c).After-position) c.in-None.is
+pub returns-then-text-i-eq-LINE_END-3 : goal.returns-then-text-i-eq-LINE_END-3
+returns-then-text-i-eq-LINE_END-3 c =
+    let at-loop = c.loop-i in
+    let passed0 = at-loop.invariant in
+    let passed1 = search-past passed0 (omega (arith, c.loop-i-test.true)) c.if-text-i-eq-LINE_END.false {j = at-loop.i + 1} (omega arith) in
+    let passed2 = search-past passed1 (omega (arith, c.loop-i-test.true)) c.if-text-i-eq-LINE_END-2.false {j = at-loop.i + 2} (omega arith) in
+    search-here passed2 (omega (arith, c.loop-i-test.true)) c.if-text-i-eq-LINE_END-3.true
+
+pub returns-then-text-i-eq-LINE_END-4 : goal.returns-then-text-i-eq-LINE_END-4
+returns-then-text-i-eq-LINE_END-4 c =
+    let at-loop = c.loop-i in
+    let passed0 = at-loop.invariant in
+    let passed1 = search-past passed0 (omega (arith, c.loop-i-test.true)) c.if-text-i-eq-LINE_END.false {j = at-loop.i + 1} (omega arith) in
+    let passed2 = search-past passed1 (omega (arith, c.loop-i-test.true)) c.if-text-i-eq-LINE_END-2.false {j = at-loop.i + 2} (omega arith) in
+    let passed3 = search-past passed2 (omega (arith, c.loop-i-test.true)) c.if-text-i-eq-LINE_END-3.false {j = at-loop.i + 3} (omega arith) in
+    search-here passed3 (omega (arith, c.loop-i-test.true)) c.if-text-i-eq-LINE_END-4.true
+
+pub loop-i-preserved : goal.loop-i-preserved
+loop-i-preserved c =
+    let at-loop = c.loop-i in
+    let passed0 = at-loop.invariant in
+    let passed1 = search-past passed0 (omega (arith, c.loop-i-test.true)) c.if-text-i-eq-LINE_END.false {j = at-loop.i + 1} (omega arith) in
+    let passed2 = search-past passed1 (omega (arith, c.loop-i-test.true)) c.if-text-i-eq-LINE_END-2.false {j = at-loop.i + 2} (omega arith) in
+    let passed3 = search-past passed2 (omega (arith, c.loop-i-test.true)) c.if-text-i-eq-LINE_END-3.false {j = at-loop.i + 3} (omega arith) in
+    search-past passed3 (omega (arith, c.loop-i-test.true)) c.if-text-i-eq-LINE_END-4.false (omega arith)
