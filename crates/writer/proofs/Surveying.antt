@@ -80,6 +80,11 @@ pub record WalkedGiven (all left : List Given) (st : State) (total n : ℕ) : Ty
   pub bytes : length (text_of all) ≡ total + length (text_of left)
   pub stands : Standing all left st n
 
+-- where the bytes of a line pass the limit, so do those of all lines
+pub too-long : {all left later : List Given} {g : Given} {st : State} {total n size : ℕ} → WalkedGiven all left st total n → left ≡ g ∷ later
+    → size ≡ suc (length (given_text g)) → text_limit < total + size → text_limit < length (text_of all)
+too-long w is sized over = omega (arith, w.bytes, bytes-here is sized, over)
+
 module _ {all left : List Given} {st : State} {n : ℕ} where
   -- what a later line asks for
   pub standing-ready : Standing all left st n → StepReady n st

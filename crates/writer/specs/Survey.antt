@@ -1,6 +1,6 @@
 -- How the answers of reading given lines are read: what a line does to what is known, the first one or a later one; and that all lines are read, that
 -- one is refused, or that their text is too long.
-use Rattle.std.specs.Prelude.{ℕ, ◌≤◌, ◌<◌, ◌≡◌, Result, Ok, Err, IfOk, List, length}
+use Rattle.std.specs.Prelude.{ℕ, ◌≤◌, ◌<◌, ◌≡◌, Option, Some, None, Result, Ok, Err, IfOk, List, length}
 use Rattle.meaning.specs.Line.{Line}
 use Rattle.meaning.specs.Known.{Known, fresh}
 use Rattle.meaning.specs.Refusal.{text_limit, value_limit, reading}
@@ -43,9 +43,11 @@ pub record AsLater (l : Line) (before after : State) (r : Result Unit Refusal) :
 unfoldable pub IsRead : Survey → Type 0
 IsRead s = (p : ℕ) × (values : ℕ) × (inputs : ℕ) × (cells : ℕ) × (rows : ℕ) × (counted p values inputs cells rows ≡ s)
 
--- the answer for lines with this text: its length, where it is read, and else its refusal if it is not too long. FORMAT 4.8, 10.1, 13.1
-abbrev pub FoundYield : (text : List ℕ) → Result ℕ Refused → Type 0
-FoundYield text (Ok n) = (n ≡ length text) × (n ≤ text_limit) × IsRead (survey_of (reading text))
+-- the answer for lines with this text: its length, where it is read, none where it is too long, and else its refusal if it is not too long.
+-- FORMAT 4.8, 10.1, 13.1
+abbrev pub FoundYield : (text : List ℕ) → Result (Option ℕ) Refused → Type 0
+FoundYield text (Ok (Some n)) = (n ≡ length text) × (n ≤ text_limit) × IsRead (survey_of (reading text))
+FoundYield text (Ok None) = text_limit < length text
 FoundYield text (Err r) = length text ≤ text_limit → refused_at (number_of r.refusal) r.place ≡ survey_of (reading text)
 
 -- the refusal of lines of which one is refused: that refusal, or that the text is too long. FORMAT 13.1

@@ -35,7 +35,8 @@ pub fn write(
     // `map_err` was tried, and that its closure keeps the promise of `first_refusal` is not proved.
     match survey_given(given) {
         Err(refused) => Err(first_refusal(given, refused)),
-        Ok(length) => {
+        Ok(None) => Err(Refusal::TextTooLong.at(0)),
+        Ok(Some(length)) => {
             if buffer.len() < length {
                 return Err(Refusal::BufferTooShort.at(0));
             }
@@ -44,7 +45,7 @@ pub fn write(
     }
 }
 
-// The refusal of lines that the survey refuses with `refused`: a text that is too long is refused before any line is read. It is measured
+// The refusal of lines of which the survey refuses one with `refused`: a text that is too long is refused before any line is read. It is measured
 // here alone, as a list that is read has its bytes counted on the way. FORMAT 10.1, 13.1
 fn first_refusal(given: Given<'_>, refused: Refused) -> Refused
     ensures { IsFirstRefusal (text_of (lines_of given.entry)) refused result }

@@ -25,8 +25,9 @@ fn advance(n: usize, line: Parsed, state: &mut State) -> Result<(), Refusal>
     state.step(line)
 }
 
-// How many bytes the text of these lines has, if none of them is refused and it is not too long. FORMAT 9.26, 10.1
-pub fn survey_given(given: Given<'_>) -> Result<usize, Refused>
+// How many bytes the text of these lines has, if none of them is refused, and none where it is too long: that is seen where its bytes pass the limit, and
+// refused before any later line. FORMAT 9.26, 10.1
+pub fn survey_given(given: Given<'_>) -> Result<Option<usize>, Refused>
     requires { 0 < length given.words.now }
     ensures { FoundYield (text_of (lines_of given.entry)) result }
 {
@@ -44,9 +45,10 @@ pub fn survey_given(given: Given<'_>) -> Result<usize, Refused>
         };
         advance(n, parsed, &mut state).map_err(|refusal| refusal.at(n))?;
         total += read.size;
-        if TEXT_LIMIT < total {
-            return Err(Refusal::TextTooLong.at(0));
+        let too_long = TEXT_LIMIT < total;
+        if too_long {
+            return Ok(None);
         }
     }
-    Ok(total)
+    Ok(Some(total))
 }

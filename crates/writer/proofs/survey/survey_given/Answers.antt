@@ -10,7 +10,7 @@ use Rattle.meaning.specs.Write.{Given, text_of}
 use Rattle.given_lines.specs.Given.{lines_of, lines_left}
 use Rattle.given_lines.proofs.Texts.{no_lines}
 use Rattle.reader.proofs.Placing.{passed_on, refused_as, gone_on}
-use Rattle.writer.proofs.Surveying.{length-lines_given, some-given, read-parsed, bytes-here, standing-ready, standing-end, standing-none, standing-stopped, standing-next}
+use Rattle.writer.proofs.Surveying.{length-lines_given, some-given, read-parsed, bytes-here, too-long, standing-ready, standing-end, standing-none, standing-stopped, standing-next}
 use borrow.Author.Rules.{rules}
 use Rattle.writer.proofs.survey.survey_given.Goals as goal
 use Rattle.writer.proofs.survey.survey_given.Goals.{After-into_iter-n-iterator, In-Some-line_given}
@@ -56,10 +56,10 @@ bytes-are : (c : In-Some-line_given) → length (text_of (lines_of c.args.given)
     ≡ c.loop-n.total + c.in-Some-line_given.read.size + length (text_of (lines_left c.next.new.self.iter))
 bytes-are c = omega (arith, c.loop-n.invariant.bytes, bytes-here c.in-Some.ensures.steps.0 c.in-Some-line_given.ensures.sized)
 
-pub returns-then-total-gt-TEXT_LIMIT : goal.returns-then-total-gt-TEXT_LIMIT
-returns-then-total-gt-TEXT_LIMIT c =
-    let bytes = bytes-are (goal.at.returns-then-total-gt-TEXT_LIMIT c).In-Some-line_given in
-    λ h. absurd (omega (arith, c.if-total-gt-TEXT_LIMIT.true))
+pub returns-then-too_long : goal.returns-then-too_long
+returns-then-too_long c =
+    let (is, _, _, _) = c.in-Some.ensures.steps in
+    too-long c.loop-n.invariant is c.in-Some-line_given.ensures.sized c.if-too_long.true
 
 pub loop-n-preserved : goal.loop-n-preserved
 loop-n-preserved c =
