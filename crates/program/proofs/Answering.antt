@@ -8,7 +8,8 @@ use lib.IntN.{ℤ}
 use lib.ListN.{length, take, replicate}
 use lib.Seq.{take_at}
 use Rattle.meaning.specs.Reply.{Reply, reply, making, make_reply}
-use Rattle.meaning.specs.Program.{refusal_text, table_text, making_text}
+use Rattle.meaning.specs.Text.{lines_of}
+use Rattle.meaning.specs.Program.{refusal_text, table_text, making_text, parts_of, on_parts}
 use Rattle.service.specs.Reply.{Makes}
 use Rattle.std.specs.Prelude.{None, Result, Ok, Err, IsErrAnd}
 use Rattle.std.specs.Prelude.{Option as Perhaps}
@@ -18,7 +19,8 @@ use Rattle.refusal.specs.Refusal.{number_of, refused_reply}
 use Rattle.service.proofs.Replies.{not-accepted}
 use Rattle.output.specs.Written.{Written}
 use Rattle.program.specs.Answered.{Answered, longest_answer}
-use Rattle.program.specs.Made.{made_text}
+use Rattle.program.specs.Made.{made_text, PartsYield}
+use Rattle.program.specs.declared.making.Listed.{Listed}
 
 module _ {answer before : List ℕ} (short : length answer ≤ longest_answer) where
   pub answered-room : {after : List ℕ} {r : ℕ} → Written answer before after r → length answer ≤ length before → Answered answer before after r
@@ -72,3 +74,9 @@ refused-alone x r given e none = ap (error_or given) (rw none at e)
 pub passed_text : (table : List ℕ) (r : Result ℕ Refused) (broken : Refused) → IsErrAnd r (λ x. x ≡ broken) → made_text table r ≡ refusal_text (refused_reply broken)
 passed_text table (Ok n) broken h = absurd h
 passed_text table (Err x) broken h = rw h refl
+
+-- and of the list that is read
+pub passed_read : (input : List ℕ) (r : Result Listed Refused) (broken : Refused) → IsErrAnd r (λ x. x ≡ broken)
+    → refusal_text (refused_reply broken) ≡ on_parts (parts_of (lines_of input)) → PartsYield input r
+passed_read input (Ok l) broken h e = absurd h
+passed_read input (Err x) broken h e = rw h e

@@ -26,23 +26,23 @@ pub returns-in_err-count-clause-answer : goal.returns-in_err-count-clause-answer
 returns-in_err-count-clause-answer c =
     let (i, is, placed, out) = passed_on c.read_inputs-read.result c.from_residual.result _ c.map_err.ensures.cases c.in_err-count.was c.from_residual.ensures.1 in
     let fails = inputs-no-number _ _ c.read_inputs-read.ensures is in
-    let told : refused_reply c.in_err-count.field-0.0 ≡ reply 3 (c.args.end.lines + 1 + i) = search (rules, placed) in
+    let told : refused_reply c.in_err-count.field-0.0 ≡ reply 3 (c.args.listed.end.lines + 1 + i) = search (rules, placed) in
     passed_text _ _ _ c.from_residual.ensures.1 ∙ ap refusal_text told ∙ no_number c.requires.0.given c.requires.0.listed _ fails
 
 pub slice_bounds-make-end-3 : goal.slice_bounds-make-end-3
 slice_bounds-make-end-3 c = omega (arith, (list-most c.requires.0.listed).cells-most, c.requires.0.cells_are)
 
-zeros : (c : After-make) → take c.args.cells c.args.table.now ≡ replicate c.args.cells 0
+zeros : (c : After-make) → take c.args.listed.cells c.args.table.now ≡ replicate c.args.listed.cells 0
 zeros c =
     rw c.requires.1
-    (take-replicate c.args.cells cell_limit (omega (arith, (list-most c.requires.0.listed).cells-most, c.requires.0.cells_are)))
+    (take-replicate c.args.listed.cells cell_limit (omega (arith, (list-most c.requires.0.listed).cells-most, c.requires.0.cells_are)))
 
 answer : (c : After-make)
-    → making_text (make_reply (take c.args.end.at c.args.text.bytes.now) (take c.in_ok-count.count c.read_inputs-read.new.inputs) (replicate c.args.cells 0))
-    ≡ on_parts (parts_of (lines_of c.args.text.bytes.now))
+    → making_text (make_reply (take c.args.listed.end.at c.args.listed.text.bytes.now) (take c.in_ok-count.count c.read_inputs-read.new.inputs) (replicate c.args.listed.cells 0))
+    ≡ on_parts (parts_of (lines_of c.args.listed.text.bytes.now))
 answer c =
     let numbers = inputs-numbers _ _ c.read_inputs-read.ensures (gone_on c.read_inputs-read.result _ c.map_err.ensures.cases c.in_ok-count.was) in
-    made-answer c.requires.0.given c.requires.0.listed numbers c.args.cells (omega arith) c.requires.0.cells_are
+    made-answer c.requires.0.given c.requires.0.listed numbers c.args.listed.cells (omega arith) c.requires.0.cells_are
 
 pub returns-in_err-make-clause-answer : goal.returns-in_err-make-clause-answer
 returns-in_err-make-clause-answer c =
