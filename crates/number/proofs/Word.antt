@@ -1,4 +1,5 @@
--- Whole numbers in a machine word. What fits is said by the two parts of an integer, as algebra has them, so that `omega` decides it.
+-- Whole numbers in a machine word. A signed local holds bits, so a use of x reads `to_z w64 (of_z w64 x)`: `back` takes the bits away
+-- where x fits. What fits is said by the two parts of an integer, as algebra has them, so that `omega` decides it.
 use mathlib.Core.Path.{◌≡◌, refl}
 use mathlib.Core.Bool.{true, false, not}
 use Prim.Native.Nat.{ℕ, suc, ◌+◌, ◌-◌, ◌*◌, ◌≤◌, ◌<◌}
@@ -8,12 +9,22 @@ use lib.IntN.{ℤ, pos, negsuc}
 use lib.Signed.{mag, lt_z, non_neg, ◌≤ℤ◌, ◌<ℤ◌, lt_z_no}
 use borrow.Author.Tests.{le-ltb}
 use mir.Syntax.{w64}
-use mir.Val.{Fits, SFits}
+use mir.Val.{Fits, SFits, to_z, of_z}
+use mir.ValLaws.{to_z-of_z, to_z_pos}
 use Rattle.meaning.specs.Machine.{past_u32, past_i64}
 use Rattle.algebra.proofs.Test.{≡-test, false-test}
 use Rattle.algebra.specs.Root.{square_root}
 use Rattle.algebra.proofs.Root.{root-unique}
 use Rattle.algebra.proofs.Integer.Order.{positive_part, negative_part, integer}
+
+-- ---- bits
+
+pub back : {z : ℤ} → SFits w64 z → to_z w64 (of_z w64 z) ≡ z
+back {z} f = to_z-of_z w64 z f
+
+-- bits below 2 ^ 63 are that number
+pub small : (n : ℕ) → n < past_i64 → to_z w64 n ≡ pos n
+small n h = to_z_pos w64 n h
 
 -- ---- what fits, by the two parts
 

@@ -25,7 +25,7 @@ use Rattle.rules.specs.Ready.{BoundedEnds, greatest}
 use Rattle.rules.specs.Yield.{refuses, makes, yield_of, ends_meaning}
 use Rattle.rules.specs.declared.ends.Ends.{Ends as ReadEnds}
 use Rattle.rules.proofs.Rules.{yield_with}
-use Rattle.reader.specs.State.{state_of, WithinLimits}
+use Rattle.reader.specs.State.{known_of, state_of, WithinLimits, Ordered}
 use Rattle.reader.specs.Size.{added, Adds}
 use Rattle.reader.specs.Step.{stops, goes, step_of, placed_at, Stepped}
 use Rattle.reader.specs.declared.counts.Counts.{Counts}
@@ -147,11 +147,13 @@ module _ {s : Known} {st : State} {places : List ℕ} (held : Held s st places) 
         (ap₂ (λ (xs ys : List ℕ). xs ++ ys) (ap (λ (z : Known). z.places) (sym held.is))
         (ap (λ (i : ℕ). i ∷ []) (ap (λ (z : Known). z.cells) (sym held.is)) ∙ ap (places_from s.cells) (sym parts.1))))
 
-    pub grown-left : BoundedEnds greatest e → Stepped (Ok tt) st (entered st st.counts.values e size)
+    pub grown-left : BoundedEnds greatest e → (Ordered (known_of st) → Ordered (known_of (entered st st.counts.values e size)))
+        → Stepped (Ok tt) st (entered st st.counts.values e size)
     unfolding yield_of
-    grown-left small = record {
+    grown-left small ordered = record {
       prime = refl;
       long = length-set st.ends st.counts.values e;
       left = (few-values held l size (λ k. (grows-so k).adds) (gadget s l).made yields, drop-set-lt (st.counts.values + size.values) st.ends st.counts.values e (omega (arith, one)));
       sized = sized-entered st st.counts.values (st.counts.values + size.values) e held.sized.sized small (omega (arith, room, held.sized.long)) (λ i h o. lt_of_le-ne (omega (arith, one)) o);
+      ordered = ordered;
     }

@@ -1,4 +1,5 @@
--- The laws behind reading: how much a line adds, its answer taken into the arrays, one step, then the walk over the lines, the whole text, and that reading is exact.
+-- The laws behind reading: how much a line adds, its answer taken into the arrays, one step, that the known ends stay in order, then the walk over the
+-- lines, the whole text, and that reading is exact.
 pub mod Sizes
 pub mod Growth
 pub mod Narrowing
@@ -6,6 +7,7 @@ pub mod Placing
 pub mod Steps
 pub mod Firsts
 pub mod Stopping
+pub mod Ordered
 pub mod Walk
 pub mod Whole
 pub mod Exact

@@ -21,7 +21,7 @@ use Rattle.meaning.proofs.Lines.{first-named}
 use Rattle.rules.specs.Ready.{BoundedEnds, greatest}
 use Rattle.rules.specs.Yield.{makes, span_yield, line_with, ends_meaning}
 use Rattle.rules.specs.declared.ends.Ends.{Ends as ReadEnds}
-use Rattle.reader.specs.State.{state_of}
+use Rattle.reader.specs.State.{known_of, state_of, Ordered}
 use Rattle.reader.specs.Size.{Adds}
 use Rattle.reader.specs.Step.{goes, step_of, placed_at, Stepped}
 use Rattle.reader.specs.declared.counts.Counts.{Counts}
@@ -71,13 +71,14 @@ module _ {s : Known} {st : State} {places : List ℕ} (held : Held s st places) 
         (rw same (known-narrowed ∙ sym (append-nil (set s.known (size_at ns 0) new))))
         (rw same (take-set-le st.counts.values places st.counts.values st.counts.cells.0 (omega arith) ∙ ap (λ (z : Known). z.places) (sym held.is) ∙ sym (append-nil s.places)))
 
-    pub narrowed-left : BoundedEnds greatest e → Stepped (Ok tt) st (entered st at e size)
+    pub narrowed-left : BoundedEnds greatest e → (Ordered (known_of st) → Ordered (known_of (entered st at e size))) → Stepped (Ok tt) st (entered st at e size)
     unfolding span_yield
-    narrowed-left small =
+    narrowed-left small ordered =
         let same : st.counts.values + size.values ≡ st.counts.values = omega (arith, none_made) in
         record {
           prime = refl;
           long = length-set st.ends at e;
           left = (few-values held line size adds-so (new ∷ []) yields, drop-set-lt (st.counts.values + size.values) st.ends at e (omega (arith, named)));
           sized = sized-entered st at (st.counts.values + size.values) e held.sized.sized small (omega (arith, named, held.sized.few.values-most, held.sized.long)) (λ i h o. omega (arith, none_made));
+          ordered = ordered;
         }

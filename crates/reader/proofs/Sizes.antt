@@ -2,10 +2,11 @@
 use mathlib.Core.Path.{◌≡◌, refl, sym, ap, ◌∙◌}
 use mathlib.Core.Bool.{true}
 use mathlib.Core.List.{List}
-use Prim.Native.Nat.{ℕ, suc, ◌+◌, ◌*◌}
+use Prim.Native.Nat.{ℕ, suc, ◌+◌, ◌*◌, ◌≤◌, ◌<◌}
 use native.Mathlib.Omega.{arith}
 use lib.Dec.{T, eqb, eqb→eq}
-use lib.ListN.{length, get_or}
+use lib.ListN.{length, get_or, take}
+use Rattle.std.proofs.lemmas.List.{get_or-take, length-take}
 use lib.IntN.{ℤ, pos, nat_abs}
 use lib.Signed.{◌≤ℤ◌}
 use Rattle.algebra.proofs.Test.{left, right, ≡-test}
@@ -92,6 +93,19 @@ module _ (s : Known) (ns : List ℤ) (k : ℕ) where
 
 -- ---- as the code counts them, from a word and numbers of which the line has the first
 
+-- numbers that others begin with
+pub record FirstOf (ns numbers : List ℤ) : Type 0 where
+  pub most : length ns ≤ length numbers
+  pub same : (i : ℕ) → i < length ns → get_or ns i (pos 0) ≡ get_or numbers i (pos 0)
+
+pub all_first : (numbers : List ℤ) → FirstOf numbers numbers
+all_first numbers = record { most = omega arith; same = λ i h. refl }
+
+pub taken-first : (count : ℕ) (numbers : List ℤ) → FirstOf (take count numbers) numbers
+taken-first count numbers =
+    let taken = length-take count numbers in
+    record { most = omega (arith, taken); same = λ i h. get_or-take count numbers i (pos 0) (omega (arith, taken)) }
+
 -- a word that is followed by n numbers and no other count
 abbrev pub HasCount : Word → (n : ℕ) → Type 0
 HasCount w n = (ns : List ℤ) → (kind_of (word_of w)).is_counted ns ≡ eqb (length ns) n
@@ -103,48 +117,52 @@ count-is numbers n q only e =
 
 -- what a count tells of the line: how much it adds
 abbrev pub Sizes : Word → List ℤ → Counts → Type 0
-Sizes v numbers c =
-    (n : ℕ) (s : Known) → (kind_of (word_of v)).is_counted numbers ≡ true → Keeps n s (line_with (word_of v) numbers)
-    → Adds s (line_with (word_of v) numbers) c
+Sizes v ns c =
+    (n : ℕ) (s : Known) → (kind_of (word_of v)).is_counted ns ≡ true → Keeps n s (line_with (word_of v) ns)
+    → Adds s (line_with (word_of v) ns) c
 
-module _ {v : Word} {c : Counts} (numbers : List ℤ) where
-  pub field_sizes : v ≡ Field → c ≡ counted 0 0 0 0 → Sizes v numbers c
+module _ {v : Word} {c : Counts} (ns : List ℤ) where
+  pub field_sizes : v ≡ Field → c ≡ counted 0 0 0 0 → Sizes v ns c
   unfolding word_of
-  field_sizes q e n s h k = rw (q, e) (adds-field s numbers 0)
+  field_sizes q e n s h k = rw (q, e) (adds-field s ns 0)
 
-  pub input_sizes : v ≡ In → c ≡ counted 1 1 1 0 → Sizes v numbers c
+  pub input_sizes : v ≡ In → c ≡ counted 1 1 1 0 → Sizes v ns c
   unfolding word_of
-  input_sizes q e n s h k = rw (q, e) (adds-input s numbers 0)
+  input_sizes q e n s h k = rw (q, e) (adds-input s ns 0)
 
-  pub sum_sizes : v ≡ Sum → c ≡ counted 1 0 1 1 → Sizes v numbers c
+  pub sum_sizes : v ≡ Sum → c ≡ counted 1 0 1 1 → Sizes v ns c
   unfolding word_of
-  sum_sizes q e n s h k = rw (q, e) (adds-sum s numbers 0)
+  sum_sizes q e n s h k = rw (q, e) (adds-sum s ns 0)
 
-  -- a line whose digit count stands at place i + 1
-  digit-sizes : (w : Word) (i : ℕ) {values each cells rows : ℕ} → v ≡ w → (sized : DigitSize numbers (suc i) values each cells rows c)
-      → ((kind_of (word_of w)).digits numbers ≡ digits_at numbers i)
-      → ((s : Known) → size_at numbers (suc i) ≡ sized.count → Adds s (line_with (word_of w) numbers) (counted values 0 (each * sized.count + cells) (each * sized.count + rows)))
-      → Sizes v numbers c
-  digit-sizes w i q sized is adds n s h kept =
-      let here : Keeps n s (line_with (word_of w) numbers) = rw q at kept in
-      rw (q, sized.counts-are) (adds s (digits-counted s (word_of w) numbers i sized.count is sized.is-count.1 here))
+-- a line with digits, whose count is read at a place of the numbers that are given: the line's own are the first of these, and where they are as many
+-- as belong to the word, it is the place of the line's digit count
+module _ {v : Word} {c : Counts} {ns numbers : List ℤ} (first : FirstOf ns numbers) {at : ℕ} where
+  digit-sizes : (w : Word) (m i : ℕ) {values each cells rows : ℕ} → v ≡ w → HasCount w m → suc i < m → (z : DigitSize numbers at values each cells rows c)
+      → (length ns ≡ m → at ≡ suc i) → ((kind_of (word_of w)).digits ns ≡ digits_at ns i)
+      → ((s : Known) → size_at ns (suc i) ≡ z.count → Adds s (line_with (word_of w) ns) (counted values 0 (each * z.count + cells) (each * z.count + rows)))
+      → Sizes v ns c
+  digit-sizes w m i q only inside z place is adds n s h kept =
+      let long : length ns ≡ m = count-is ns m q only h in
+      let same : get_or ns (suc i) (pos 0) ≡ get_or numbers at (pos 0) = rw (place long) (first.same (suc i) (omega arith)) in
+      let here : Keeps n s (line_with (word_of w) ns) = rw q at kept in
+      rw (q, z.counts-are) (adds s (digits-counted s (word_of w) ns i z.count is (rw (← same) at z.is-count.1) here))
 
-  pub span-sizes : v ≡ Span → DigitSize numbers 2 0 1 0 1 c → Sizes v numbers c
+  pub span-sizes : v ≡ Span → DigitSize numbers at 0 1 0 1 c → (length ns ≡ 4 → at ≡ 2) → Sizes v ns c
   unfolding word_of kind_of
-  span-sizes q z = digit-sizes Span 1 q z refl (λ s. adds-span s numbers z.count)
+  span-sizes q z place = digit-sizes Span 4 1 q (λ ms. refl) (omega arith) z place refl (λ s. adds-span s ns z.count)
 
-  pub relu-sizes : v ≡ Relu → DigitSize numbers 2 1 1 3 5 c → Sizes v numbers c
+  pub relu-sizes : v ≡ Relu → DigitSize numbers at 1 1 3 5 c → (length ns ≡ 3 → at ≡ 2) → Sizes v ns c
   unfolding word_of kind_of
-  relu-sizes q z = digit-sizes Relu 1 q z refl (λ s. adds-relu s numbers z.count)
+  relu-sizes q z place = digit-sizes Relu 3 1 q (λ ms. refl) (omega arith) z place refl (λ s. adds-relu s ns z.count)
 
-  pub which-sizes : v ≡ Which → DigitSize numbers 3 1 1 3 5 c → Sizes v numbers c
+  pub which-sizes : v ≡ Which → DigitSize numbers at 1 1 3 5 c → (length ns ≡ 4 → at ≡ 3) → Sizes v ns c
   unfolding word_of kind_of
-  which-sizes q z = digit-sizes Which 2 q z refl (λ s. adds-which s numbers z.count)
+  which-sizes q z place = digit-sizes Which 4 2 q (λ ms. refl) (omega arith) z place refl (λ s. adds-which s ns z.count)
 
-  pub max-sizes : v ≡ Max → DigitSize numbers 3 1 2 1 3 c → Sizes v numbers c
+  pub max-sizes : v ≡ Max → DigitSize numbers at 1 2 1 3 c → (length ns ≡ 4 → at ≡ 3) → Sizes v ns c
   unfolding word_of kind_of
-  max-sizes q z = digit-sizes Max 2 q z refl (λ s. adds-max s numbers z.count)
+  max-sizes q z place = digit-sizes Max 4 2 q (λ ms. refl) (omega arith) z place refl (λ s. adds-max s ns z.count)
 
-  pub root-sizes : v ≡ Root → DigitSize numbers 2 1 4 2 5 c → Sizes v numbers c
+  pub root-sizes : v ≡ Root → DigitSize numbers at 1 4 2 5 c → (length ns ≡ 3 → at ≡ 2) → Sizes v ns c
   unfolding word_of kind_of
-  root-sizes q z = digit-sizes Root 1 q z refl (λ s. adds-root s numbers z.count)
+  root-sizes q z place = digit-sizes Root 3 1 q (λ ms. refl) (omega arith) z place refl (λ s. adds-root s ns z.count)

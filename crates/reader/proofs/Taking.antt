@@ -4,7 +4,7 @@ use mathlib.Core.Logic.{⊎_elim}
 use mathlib.Core.List.{List, [], ◌∷◌}
 use Prim.Native.Nat.{ℕ, ◌<◌}
 use native.Mathlib.Omega.{arith}
-use lib.ListN.{length, get_or}
+use lib.ListN.{length, get_or, replicate}
 use lib.IntN.{ℤ, pos, nat_abs}
 use lib.Signed.{◌≤ℤ◌}
 use Rattle.std.specs.Prelude.{Result, Ok, Err}
@@ -22,13 +22,14 @@ use Rattle.text.specs.declared.Word.TheVariants.{Span}
 use Rattle.rules.specs.Ready.{BoundedEnds, greatest}
 use Rattle.rules.specs.Yield.{makes, yield_of, span_yield, line_with, ends_meaning}
 use Rattle.rules.specs.declared.ends.Ends.{Ends}
-use Rattle.reader.specs.State.{state_of, WithinLimits}
+use Rattle.reader.specs.State.{known_of, state_of, WithinLimits, Ordered}
 use Rattle.reader.specs.Size.{Adds}
 use Rattle.reader.specs.Line.{NotSpan, yield_by, line_yield}
 use Rattle.reader.specs.Step.{stops, goes, step_of, step_meaning, placed_at, Stepped}
 use Rattle.reader.specs.declared.counts.Counts.{Counts}
 use Rattle.reader.specs.declared.state.State.{State}
 use Rattle.reader.proofs.Growth.{Held, Grows, entered, room, grown, grown-left}
+use Rattle.reader.proofs.Ordered.{ordered-step}
 use Rattle.reader.proofs.Narrowing.{named, narrowed, narrowed-left}
 use Rattle.reader.proofs.Steps.{span_or_other, yield-by-word, grows-by-word, span-word, name-counted}
 
@@ -81,8 +82,11 @@ module _ (w : Word) (numbers : List ℤ) {st : State} {at : ℕ} {e : Ends} (siz
         (λ o. rw (other-at o) (grown (held s places is) line (makes-it o s places is) size (grows o s) long))
         (span_or_other w)
 
+    stays-ordered : Ordered (known_of st) → Ordered (known_of (entered st at e size))
+    stays-ordered = ordered-step _ _ line (taken _ (replicate value_limit 0) refl refl)
+
     pub taken-left : BoundedEnds greatest e → Stepped (Ok tt) st (entered st at e size)
     taken-left small = ⊎_elim
-        (λ q. narrowed-left (held _ [] refl) numbers at (names-it q _) (narrows-it q _ [] refl) size (span-adds q _) small)
-        (λ o. rw (other-at o) (grown-left (held _ [] refl) line (makes-it o _ [] refl) size (grows o _) small))
+        (λ q. narrowed-left (held _ [] refl) numbers at (names-it q _) (narrows-it q _ [] refl) size (span-adds q _) small stays-ordered)
+        (λ o. rw (other-at o) (grown-left (held _ [] refl) line (makes-it o _ [] refl) size (grows o _) small (rw (other-at o) at stays-ordered)))
         (span_or_other w)

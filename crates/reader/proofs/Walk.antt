@@ -1,6 +1,6 @@
 -- Walking the lines of a list: what holds before each line, that it holds again after a line that is not refused, and what is found
 -- where the walk ends.
-use mathlib.Core.Path.{◌≡◌, refl, sym, ap, ◌∙◌}
+use mathlib.Core.Path.{◌≡◌, refl, sym, ap, ◌∙◌, subst}
 use mathlib.Core.List.{List, [], ◌∷◌, ◌++◌}
 use mathlib.Core.Option.{none}
 use Prim.Native.Nat.{ℕ, suc, ◌+◌, ◌≤◌, ◌<◌}
@@ -16,12 +16,13 @@ use Rattle.meaning.specs.Line.{Line, line_of}
 use Rattle.meaning.specs.Known.{Known}
 use Rattle.meaning.specs.Meaning.{gadget, after}
 use Rattle.meaning.specs.Refusal.{value_limit, cell_limit, Reading, on_reading, rules, first_broken, plain, read_line, read_from}
-use Rattle.meaning.specs.Kept.{Keeps}
+use Rattle.meaning.specs.Kept.{Keeps, Sound}
 use Rattle.meaning.proofs.Kept.{keeps-all}
+use Rattle.meaning.proofs.Lines.{sound-after}
 use Rattle.text.specs.Place.{lines_from}
 use Rattle.rules.specs.Ready.{greatest}
 use Rattle.rules.specs.Yield.{ends_meaning}
-use Rattle.reader.specs.State.{state_of, WithinLimits}
+use Rattle.reader.specs.State.{state_of, WithinLimits, Ordered}
 use Rattle.reader.specs.Step.{stops, goes, step_option, placed_at, Stepped}
 use Rattle.reader.specs.Size.{counted as counts}
 use Rattle.reader.specs.Read.{only, counted, refused_at, survey_of}
@@ -31,12 +32,15 @@ use Rattle.reader.proofs.Steps.{few}
 use Rattle.reader.proofs.Stopping.{stopped-at, gone_at, step-later}
 
 -- what holds before line n of a list, of which `lines` are the lines from 1 on and `left` those from n on. Whether the lines are parts of a text
--- or are given as words and numbers makes no difference here
+-- or are given as words and numbers makes no difference here. No step asks for `sound` and `ordered`, which say of what the code knows that p is an odd
+-- prime, and that the ends of each value lie in its signed range and in order. FORMAT 1.1, 5.1
 pub record Walking (lines left : List (List ℕ)) (p : ℕ) (st : State) (places : List ℕ) (n : ℕ) : Type 0 where
   pub later : 1 ≤ n
   pub prime : st.p ≡ p
   pub sized : WithinLimits st
   pub places-long : length places ≡ value_limit
+  pub sound : Sound n (state_of st places)
+  pub ordered : Ordered (state_of st places).known
   pub survey-left : survey_of (read_from plain 1 (only p) lines) ≡ survey_of (read_from plain n (state_of st places) left)
 
 -- as many values are known as the code counts
@@ -62,6 +66,8 @@ walk_start lines p st places prime none-yet long odd small o = record {
     sized = λ i d h. let none : i < 0 = rw none-yet at h in absurd (omega arith);
   };
   places-long = o;
+  sound = record { start = λ e. absurd (omega arith); prime = λ _. rw prime odd; ranged = rw none-yet tt };
+  ordered = rw none-yet tt;
   survey-left = rw (prime, none-yet) refl;
 }
 
@@ -132,6 +138,8 @@ module _ {lines left : List (List ℕ)} {p : ℕ} {st : State} {places : List �
         prime = step.prime ∙ w.prime;
         sized = room;
         places-long = places-long ∙ w.places-long;
+        sound = rw (add-one n) (subst (λ (z : Known). Sound (suc n) z) (sym gone.2) (sound-after n s gone.0 w.sound keeps));
+        ordered = step.ordered w.ordered;
         survey-left = survey-here ∙ gone.3 ∙ ap (λ (i : ℕ). survey_of (read_from plain i t later)) (sym (add-one n));
       }
 

@@ -5,7 +5,7 @@ use Rattle.meaning.specs.Line.{Line}
 use Rattle.meaning.specs.Known.{Known}
 use Rattle.meaning.specs.Meaning.{after}
 use Rattle.meaning.specs.Refusal.{on_some, rules, first_broken, value_limit}
-use Rattle.reader.specs.State.{state_of}
+use Rattle.reader.specs.State.{known_of, state_of, Ordered}
 use Rattle.rules.specs.Ready.{BoundedEnds, greatest}
 use Rattle.rules.specs.declared.ends.Ends.{Ends}
 use Rattle.refusal.specs.declared.refused.Refusal.{Refusal}
@@ -40,9 +40,11 @@ abbrev pub Left : Result Unit Refusal → State → State → Type 0
 Left (Ok done) before after = (after.counts.values ≤ value_limit) × (drop after.counts.values after.ends ≡ drop after.counts.values before.ends)
 Left (Err broken) before after = after ≡ before
 
--- and p, and that the known ends are small. What the array has for the values is in the state that `step_meaning` reads, so that the two say all of it
+-- and p, that the known ends are small, and that they stay in order. What the array has for the values is in the state that `step_meaning` reads, so
+-- that the two say all of it
 pub record Stepped (r : Result Unit Refusal) (before after : State) : Type 0 where
   pub prime : after.p ≡ before.p
   pub long : length after.ends ≡ length before.ends
   pub left : Left r before after
   pub sized : (i : ℕ) (d : Ends) → i < after.counts.values → BoundedEnds greatest (get_or after.ends i d)
+  pub ordered : Ordered (known_of before) → Ordered (known_of after)

@@ -48,6 +48,7 @@ pub fn read(list: &[u8]) -> Result<Summary, Refused>
 }
 
 // The same with the count of inputs, which making asks for. FORMAT 10.1, 10.2, 10.3, 13.1
+#[tactic(auto, using(crate::proofs::Whole::too_long))]
 pub fn survey(list: &[u8]) -> Result<Surveyed, Refused>
     ensures yields { survey_meaning result ≡ survey_of (reading list.now) }
     ensures prime { PrimeFound result }

@@ -1,6 +1,6 @@
 // How many values, inputs, cells and rows a line has. It goes by the line's word and digit count alone, so that reading counts them
 // with the same function as the walks over a list that was read.
-ghost use Rattle.std.specs.Prelude.{◌≡◌, true, ℕ, ◌≤◌};
+ghost use Rattle.std.specs.Prelude.{◌≡◌, true, ℕ, ◌≤◌, take};
 ghost use Rattle.meaning.specs.Word.{kind_of};
 ghost use Rattle.meaning.specs.Known.{Known};
 ghost use Rattle.meaning.specs.Kept.{Keeps};
@@ -43,12 +43,15 @@ fn digit_size(
 }
 
 // How much a line adds to the counts of a list: its values, inputs, cells and rows. The walks over a list that was read go by it.
+// The numbers are the line's, or begin with them: an array that lines are read into may be given whole.
 // It is always inline, as its counts would pass through memory.
 #[inline(always)]
 #[tactic(auto, using(crate::proofs::Sizes::field_sizes, crate::proofs::Sizes::input_sizes, crate::proofs::Sizes::sum_sizes))]
 pub fn line_size(word: Word, numbers: &[i64]) -> Counts
     ensures yields { (n : ℕ) (s : Known) → (kind_of (word_of word)).is_counted numbers.now ≡ true
         → Keeps n s (line_with (word_of word) numbers.now) → Adds s (line_with (word_of word) numbers.now) result }
+    ensures first { (n count : ℕ) (s : Known) → (kind_of (word_of word)).is_counted (take count numbers.now) ≡ true
+        → Keeps n s (line_with (word_of word) (take count numbers.now)) → Adds s (line_with (word_of word) (take count numbers.now)) result }
     ensures small { FewCounts result }
 {
     match word {

@@ -15,13 +15,10 @@ use Rattle.reader.specs.Read.{first_meaning}
 use Rattle.reader.specs.Step.{step_option}
 use Rattle.reader.proofs.Steps.{no-line-step, line_step, numbers-fit, line-parsed}
 use Rattle.reader.proofs.Placing.{passed_on, refused_as, gone_on}
-use Rattle.reader.proofs.Whole.{ended_some, first-within, lines_start, survey-too-long, survey-not-ended, first-stopped, first-is-prime, survey-after}
+use Rattle.reader.proofs.Whole.{ended_some, first-within, lines_start, survey-not-ended, first-stopped, first-is-prime, survey-after}
 use borrow.Author.Rules.{rules}
 use Rattle.reader.proofs.reading.survey.Goals as goal
 use Rattle.reader.proofs.reading.survey.Goals.{After-first_parsed, In-Some, In_ok-p}
-
-pub returns-then-list-gt65536-clause-yields : goal.returns-then-list-gt65536-clause-yields
-returns-then-list-gt65536-clause-yields c = rw (c.at.ensures.refusal, c.at.ensures.place) (survey-too-long c.args.list.now (omega arith))
 
 pub returns-in_default-clause-yields : goal.returns-in_default-clause-yields
 returns-in_default-clause-yields c =
