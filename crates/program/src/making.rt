@@ -40,7 +40,8 @@ fn make_parts(text: Text, end: Ending, table: &mut [u32; 4096]) -> Result<usize,
     make_list(text, end, usize::from(found.counts.cells), table)
 }
 
-// The same where the list is read, and has so many cells. More inputs than a list can have values are a wrong count of inputs. FORMAT 11.6, 11.7
+// The same where the list is read, and has so many cells. More inputs than a list can have values are a wrong count of inputs.
+// FORMAT 9.7, 9.8, 11.6, 11.7, 13.7
 #[tactic(auto, using(crate::proofs::Responding::too_many_inputs))]
 fn make_list(
     text: Text,
