@@ -6,7 +6,7 @@ ghost use Rattle.given_lines.specs.Given.{line_meaning};
 
 use text::Word;
 
-// The three rows, as the C interface lends them. FORMAT 9.23
+// The three rows, as the C interface lends them. FORMAT 9.23, 9.25
 #[derive(Clone, Copy)]
 pub struct Given<'a> {
     pub words: &'a [u8],
@@ -14,7 +14,7 @@ pub struct Given<'a> {
     pub numbers: &'a [i64],
 }
 
-// A line: its word, if its code is one's, and its numbers.
+// A line: its word, if its code is one's, and its numbers. FORMAT 9.24
 #[derive(Clone, Copy)]
 pub struct GivenLine<'a> {
     pub word: Option<Word>,

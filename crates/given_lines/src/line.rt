@@ -65,7 +65,7 @@ fn fields_length(numbers: &[i64]) -> Option<usize>
     Some(total)
 }
 
-// The line as it is read, if its text is a line.
+// The line as it is read, if its text is a line. FORMAT 2.9, 3.1, 4.5
 pub fn line_given(line: GivenLine<'_>) -> Option<Readable>
     ensures { ReadableYield line.entry result }
 {

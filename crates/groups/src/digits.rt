@@ -13,7 +13,7 @@ pub struct Digits {
 }
 
 impl Digits {
-    // c = b^k.
+    // c = b^k. The cast keeps k, which is 31 at most (FORMAT 4.2).
     pub fn power(self) -> u64
         ensures { result ≡ self.base ^ self.count }
     {

@@ -16,7 +16,7 @@ pub fn size_at(numbers: &[i64], at: usize) -> usize
     size_of(whole_at(numbers, at))
 }
 
-// The base at a place and the digit count after it.
+// The base at a place and the digit count after it. A number's size has 31 bits (FORMAT 2.6), so that the cast keeps the base.
 pub fn digits_from(numbers: &[i64], at: usize) -> Digits
     requires { DigitsFrom numbers.now at }
     ensures { DigitsAre numbers.now at result.base result.count }

@@ -49,7 +49,7 @@ fn read_parts(text: Text, end: Ending) -> Result<Listed, Refused>
 }
 
 // Makes the first cells of the table, which is all 0 before, and answers how many. More inputs than a list can have values are a wrong count of inputs.
-// FORMAT 11.6, 11.7
+// FORMAT 9.7, 9.8, 11.6, 11.7, 13.7
 #[tactic(auto, using(crate::proofs::Responding::too_many_inputs))]
 pub fn make_list(listed: Listed, table: &mut [u32; 4096]) -> Result<usize, Refused>
     requires { InputsGiven listed.text.bytes.now listed.end listed.cells × (table.old ≡ replicate cell_limit 0) }

@@ -55,7 +55,7 @@ impl Known<'_> {
 
     // Ok where the rules 7 (the names are made), 8 (room for the new values) and 9 (room for the cells) are kept, else the first of them that
     // is broken.
-    // FORMAT 10.7, 10.8, 10.9
+    // FORMAT 4.6, 4.7, 10.7, 10.8, 10.9
     pub(crate) fn early_broken(self, named: bool, new: usize, width: usize) -> Result<(), Refusal>
         requires { (new ≤ 1) × (width ≤ cell_limit) }
         ensures { result ≡ early_broken named (length self.entry.ends.now) new self.entry.cells width }
@@ -115,7 +115,7 @@ impl Known<'_> {
 
     // The base and the digit count of a line that keeps the rules 6 to 9, or the first of them that it breaks. The base stands at a place and
     // the digit count k after it. `ranged` is what else rule 6 asks of the line, and `named` what rule 7 asks; the line makes `new` values and
-    // has `each` · k + `more` cells. They are three small numbers and no struct: each kind writes them once, in its own reading.
+    // has `each` · k + `more` cells (FORMAT 4.6, 4.7). They are three small numbers and no struct: each kind writes them once, in its own reading.
     // The count is widened by `as`, as in `Digits::of`.
     fn begin_line(
         self,

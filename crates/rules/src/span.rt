@@ -16,6 +16,7 @@ use super::known::Known;
 use number::whole::{Whole, in_range, whole_at, whole_sum, wide_whole};
 use refusal::Refusal;
 
+// Beside its base and digit count, rule 6 asks of a span that its shift lies in -M..M. FORMAT 4.3, 10.6
 #[tactic(auto, using(crate::proofs::DigitKinds::span_laws))]
 pub fn read_span(known: Known, numbers: &[i64]) -> Result<Ends, Refusal>
     requires { (4 ≤ length numbers.now) × Small 4 numbers.now }

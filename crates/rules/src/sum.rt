@@ -17,7 +17,7 @@ use super::known::Known;
 use number::whole::{Whole, in_range, whole_at, whole_product, whole_sum};
 use refusal::Refusal;
 
-// c0, then pairs of a coefficient and a name.
+// c0, then pairs of a coefficient and a name. FORMAT 4.5
 #[tactic(auto, using(crate::proofs::SumLine::sum_laws))]
 pub fn read_sum(known: Known, numbers: &[i64]) -> Result<Ends, Refusal>
     requires { (length numbers.now % 2 ≡ 1) × Small (length numbers.now) numbers.now }

@@ -47,7 +47,7 @@ fn is_end(byte: u8) -> bool
 
 // ---- numbers
 
-// The size that the field at `at` spells: digits without a leading zero. The size is held to the limit once, at the end.
+// The size that the field at `at` spells: digits without a leading zero (FORMAT 2.5). The size is held to the limit once, at the end.
 fn size_from(text: Text, at: usize) -> Option<Field<u64>>
     requires { at < length text.bytes.now }
     ensures { SizeRead (up_to text.entry.bytes.now at) at result }
