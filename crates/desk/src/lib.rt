@@ -3,10 +3,12 @@
 #![tactic(auto)]
 
 ghost use Rattle.std.specs.Prelude.{◌≡◌, ◌+◌, ◌<◌, eqb};
-ghost use Rattle.meaning.specs.Desk.{full_count, call_of};
+ghost use Rattle.meaning.specs.Reply.{reply};
+ghost use Rattle.meaning.specs.Desk.{full_count, called, call_of};
 ghost use Rattle.meaning.specs.Desk.{raised as raised_desk};
 ghost use Rattle.service.specs.Reply.{reply_meaning};
-ghost use Rattle.desk.specs.Desk.{desk_meaning, Fresh, Answers, Agrees, CountsOne};
+ghost use Rattle.refusal.specs.Refusal.{number_of};
+ghost use Rattle.desk.specs.Desk.{desk_meaning, called_meaning, Fresh, Answers, Agrees, CountsOne};
 
 use refusal::{Refusal, Refused};
 use service::check;
@@ -21,6 +23,13 @@ pub struct Desk {
     pub refused: u64,
 }
 
+// The desk after a call, and the call's reply.
+#[derive(Clone, Copy)]
+pub struct Called {
+    pub desk: Desk,
+    pub reply: Result<(), Refused>,
+}
+
 impl Desk {
     #[tactic(auto, unfolding(meaning::specs::Desk::fresh_desk))]
     pub fn fresh() -> Desk
@@ -29,20 +38,33 @@ impl Desk {
         Desk::default()
     }
 
-    // The public call, for every desk, also one whose counts were damaged: 19 and 20 come first and leave it as it is. FORMAT 10.19, 10.20, 13.8
-    pub fn call(&mut self, list: &[u8], table: &[u32]) -> Result<(), Refused>
-        ensures answers { Answers self.old (call_of list.now table.now) self.new result }
-        ensures counts { Agrees self.old → self.old.heard < full_count → CountsOne self.old self.new result }
+    // The public call, for every desk, also one whose counts were damaged: 19 and 20 come first and leave it as it is. By value, as `fresh` answers one: so a
+    // call is lent nothing that it could write. FORMAT 10.19, 10.20, 13.8
+    pub fn call(self, list: &[u8], table: &[u32]) -> Called
+        ensures answers { Answers self (call_of list.now table.now) result.desk result.reply }
+        ensures counts { Agrees self → self.heard < full_count → CountsOne self result.desk result.reply }
     {
         if !self.agrees() {
-            return Err(Refusal::DeskDamaged.at(0));
+            return self.refused_by(Refusal::DeskDamaged);
         }
-        if self.heard == FULL_COUNT {
-            return Err(Refusal::DeskFull.at(0));
+        let full = self.heard == FULL_COUNT;
+        if full {
+            return self.refused_by(Refusal::DeskFull);
         }
         let reply = check(list, table);
-        self.count(reply);
-        reply
+        let mut desk = self;
+        desk.count(reply);
+        Called { desk, reply }
+    }
+
+    // A call that is not counted: the desk stays as it is.
+    fn refused_by(self, refusal: Refusal) -> Called
+        ensures { called_meaning result.desk result.reply ≡ called (desk_meaning self) (reply (number_of refusal) 0) }
+    {
+        Called {
+            desk: self,
+            reply: Err(refusal.at(0)),
+        }
     }
 
     // heard is accepted + refused, over whole numbers: the sum of a damaged desk's counts may be past 64 bits.

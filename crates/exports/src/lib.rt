@@ -87,16 +87,17 @@ pub extern "C" fn digit_table_desk_call(
     ensures { called (counted heard.new accepted.new refused.new) (reply result place.new)
         ≡ desk_call (counted heard.old accepted.old refused.old) list.now table.now }
 {
-    let mut desk = Desk {
+    let desk = Desk {
         heard: *heard,
         accepted: *accepted,
         refused: *refused,
     };
-    let called = desk.call(list, table);
-    *heard = desk.heard;
-    *accepted = desk.accepted;
-    *refused = desk.refused;
-    tell(called.and(Ok(0)), place)
+    let call = desk.call(list, table);
+    let after = call.desk;
+    *heard = after.heard;
+    *accepted = after.accepted;
+    *refused = after.refused;
+    tell(call.reply.and(Ok(0)), place)
 }
 
 // Shows a line: how many cells the part of the table has, and its first cell, which is written; both 0 where the part is empty.
