@@ -44,10 +44,11 @@ impl Desk {
         ensures answers { Answers self (call_of list.now table.now) result.desk result.reply }
         ensures counts { Agrees self → self.heard < full_count → CountsOne self result.desk result.reply }
     {
-        if !self.agrees() {
+        let agrees = self.agrees();
+        let full = self.heard == FULL_COUNT;
+        if !agrees {
             return self.refused_by(Refusal::DeskDamaged);
         }
-        let full = self.heard == FULL_COUNT;
         if full {
             return self.refused_by(Refusal::DeskFull);
         }

@@ -68,10 +68,10 @@ pub filling_start : (n : ℕ) (before : List ℕ) (count : ℕ) → count ≡ le
 filling_start n before count e h = record { place = sym e; kept = refl; within = omega (arith, e, h); stands = rw e }
 
 module _ {n : ℕ} {before part : List ℕ} {rest at : ℕ} (f : Filling n before part rest at) where
-  filling_place : 100 ≤ rest → 2 ≤ at
+  pub filling_place : 100 ≤ rest → 2 ≤ at
   filling_place h = omega (arith, f.place, length-pair rest h, some-digit (rest / 100))
 
-  filling_turn : {after : List ℕ} → 100 ≤ rest → PairStands (rest % 100) (at - 2) part after → Filling n before after (rest / 100) (at - 2)
+  pub filling_turn : {after : List ℕ} → 100 ≤ rest → PairStands (rest % 100) (at - 2) part after → Filling n before after (rest / 100) (at - 2)
   filling_turn {after} h w =
       let two = filling_place h in
       let here : at - 2 + 2 ≡ at = omega arith in
@@ -88,21 +88,8 @@ module _ {n : ℕ} {before part : List ℕ} {rest at : ℕ} (f : Filling n befor
   pub filling_room : length (decimal_of rest) ≤ length part
   filling_room = omega (arith, f.place, f.within)
 
-  pub filling_four-place : 10000 ≤ rest → 4 ≤ at
-  filling_four-place h = omega (arith, f.place, length-pair rest (omega arith), length-pair (rest / 100) (omega arith), some-digit (rest / 100 / 100))
-
   pub filling_end : {after : List ℕ} {count m : ℕ} → count ≡ length (decimal_of n) → Written (decimal_of rest) part after m → Written (decimal_of n) before after count
   filling_end e w = record { stands = w.stands ∙ ap (λ (i : ℕ). decimal_of rest ++ drop i part) f.place ∙ f.stands; counted = e }
-
--- four digits, where both pairs are of one remainder
-pub filling_four : {n : ℕ} {before part first last : List ℕ} {rest at : ℕ} → Filling n before part rest at → 10000 ≤ rest
-    → PairStands (rest % 10000 % 100) (at - 2) part first → PairStands (rest % 10000 / 100) (at - 4) first last → Filling n before last (rest / 10000) (at - 4)
-filling_four {rest = rest} {at} f h w v =
-    let ones : rest % 10000 % 100 ≡ rest % 100 = omega arith in
-    let hundreds : rest % 10000 / 100 ≡ rest / 100 % 100 = omega arith in
-    let left : rest / 100 / 100 ≡ rest / 10000 = omega arith in
-    let place : at - 2 - 2 ≡ at - 4 = omega arith in
-    rw (left, place) at (filling_turn (filling_turn f (omega arith) (rw ones at w)) (omega arith) (rw (hundreds, ← place) at v))
 
 -- ---- one digit, and two
 

@@ -70,7 +70,7 @@ fn write_short(part: &mut [u8], n: u64) -> usize
     4
 }
 
-// Writes the digits, of a long number the last ones first, four a turn: each division waits for the one before it. By hand, and not by the kit's `itoa`, whose
+// Writes the digits, of a long number the last ones first, two a turn: each division waits for the one before it. By hand, and not by the kit's `itoa`, whose
 // table of digits would stand in the image, and which costs more where numbers are short (docs/SPEED.md).
 pub fn write_decimal(part: &mut [u8], n: u64) -> usize
     requires { length (decimal_of n) ≤ length part.old }
@@ -83,11 +83,9 @@ pub fn write_decimal(part: &mut [u8], n: u64) -> usize
     let mut rest = n;
     let mut at = count;
     while 10_000 <= rest {
-        let four = rest % 10_000;
-        write_pair(part, at - 2, four % 100);
-        write_pair(part, at - 4, four / 100);
-        rest /= 10_000;
-        at -= 4;
+        at -= 2;
+        write_pair(part, at, rest % 100);
+        rest /= 100;
     }
     write_short(part, rest);
     count

@@ -19,8 +19,8 @@ returns-then-first-eq48 c =
 
 pub size_from-requires : goal.size_from-requires
 size_from-requires c = elim c.if-first-eq45.branch [
-  | then-first-eq45 w ↦ rw w.from-is (minus-inside (line (goal.at.size_from-requires c).Start) w.if-first-eq45.true)
-  | else-first-eq45 w ↦ rw w.from-is c.requires
+  | then-first-eq45 w ↦ omega (arith, w.from-is, minus-inside (line (goal.at.size_from-requires c).Start) w.if-first-eq45.true)
+  | else-first-eq45 w ↦ omega (arith, w.from-is, c.requires)
 ]
 
 pub returns-in_err-size : goal.returns-in_err-size

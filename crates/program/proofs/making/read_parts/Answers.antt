@@ -3,6 +3,7 @@ use mathlib.Core.Path.{refl}
 use Rattle.service.proofs.ReadList.{survey-refused, survey-counted}
 use Rattle.program.proofs.Answering.{passed_read}
 use Rattle.program.proofs.Responding.{list-refused, list_read}
+use native.Mathlib.Omega.{arith}
 use Rattle.program.proofs.making.read_parts.Goals as goal
 
 pub returns-in_err-found : goal.returns-in_err-found
@@ -10,4 +11,6 @@ returns-in_err-found c =
     passed_read _ _ _ c.from_residual.ensures.1 (list-refused c.requires _ _ (survey-refused _ _ c.survey.ensures.yields _ c.in_err-found.was))
 
 pub returns : goal.returns
-returns c = (refl, rw c.from.ensures (list_read c.requires (survey-counted _ _ c.survey.ensures.yields c.survey.ensures.prime _ c.in_ok-found.was)))
+returns c =
+    let read = list_read c.requires (survey-counted _ _ c.survey.ensures.yields c.survey.ensures.prime _ c.in_ok-found.was) in
+    (refl, record { given = read.given; listed = read.listed; cells_are = omega (arith, read.cells_are, c.from.ensures) })
