@@ -19,8 +19,9 @@ use Rattle.refusal.specs.Refusal.{number_of, refused_reply}
 use Rattle.service.proofs.Replies.{not-accepted}
 use Rattle.output.specs.Written.{Written}
 use Rattle.program.specs.Answered.{Answered, longest_answer}
-use Rattle.program.specs.Made.{made_text, PartsYield}
-use Rattle.program.specs.declared.making.Listed.{Listed}
+use Rattle.program.specs.Made.{PartsYield, ColumnYield}
+use Rattle.program.specs.declared.input.Ending.{Ending}
+use Rattle.program.specs.declared.reading.Listed.{Listed}
 
 module _ {answer before : List ℕ} (short : length answer ≤ longest_answer) where
   pub answered-room : {after : List ℕ} {r : ℕ} → Written answer before after r → length answer ≤ length before → Answered answer before after r
@@ -70,13 +71,14 @@ module _ (list table last : List ℕ) (xs : List ℤ) (cells : ℕ) (zeros : tak
 pub refused-alone : {A : Type 0} (x : Perhaps A) (r given : Refused) → Err r ≡ ok_or x given → x ≡ None → r ≡ given
 refused-alone x r given e none = ap (error_or given) (rw none at e)
 
--- a refusal that is passed on is the answer
-pub passed_text : (table : List ℕ) (r : Result ℕ Refused) (broken : Refused) → IsErrAnd r (λ x. x ≡ broken) → made_text table r ≡ refusal_text (refused_reply broken)
-passed_text table (Ok n) broken h = absurd h
-passed_text table (Err x) broken h = rw h refl
-
--- and of the list that is read
+-- a refusal that is passed on is the answer: of the list
 pub passed_read : (input : List ℕ) (r : Result Listed Refused) (broken : Refused) → IsErrAnd r (λ x. x ≡ broken)
     → refusal_text (refused_reply broken) ≡ on_parts (parts_of (lines_of input)) → PartsYield input r
 passed_read input (Ok l) broken h e = absurd h
 passed_read input (Err x) broken h e = rw h e
+
+-- and of its inputs
+pub passed_column : (input : List ℕ) (end : Ending) (cells : ℕ) (stored : List ℤ) (r : Result ℕ Refused) (broken : Refused) → IsErrAnd r (λ x. x ≡ broken)
+    → refusal_text (refused_reply broken) ≡ on_parts (parts_of (lines_of input)) → ColumnYield input end cells stored r
+passed_column input end cells stored (Ok n) broken h e = absurd h
+passed_column input end cells stored (Err x) broken h e = rw h e

@@ -28,7 +28,7 @@ use Rattle.std.specs.Prelude.{Some, None, Result, Ok, Err}
 use Rattle.std.specs.Prelude.{Option as Perhaps}
 use Rattle.text.proofs.Places.{lines-few}
 use Rattle.program.proofs.Limits.{list-most, joined-few}
-use Rattle.program.proofs.Answering.{passed_text, refused-alone}
+use Rattle.program.proofs.Answering.{refused-alone}
 use Rattle.program.specs.Made.{ListGiven, InputsGiven}
 
 -- ---- the answers
@@ -167,4 +167,4 @@ too_many_inputs input end ps ls last stored count are short inside listed counte
     sym (too_many given (record { lines = ls; last = last; is_read = is_read; p-most = p-most }) numbers h)
 
 -- any other input, by whether its last line is ended and whether it has a line `end`
-pub ruleset input_answered = (respond-unended, respond-parts, respond-missing, list-given, passed_text, refused-alone)
+pub ruleset input_answered = (respond-unended, respond-parts, respond-missing, list-given, refused-alone)

@@ -9,7 +9,7 @@ use text::{Text, line_end};
 // The line after a list.
 const END: &[u8] = b"end";
 
-// Where the first line `end` starts, and how many lines come before it. No ghost field says where it is: the two steps of `making` know different
+// Where the first line `end` starts, and how many lines come before it. No ghost field says where it is: the steps of `reading` know different
 // things of it (`ListGiven`, `InputsGiven`).
 #[derive(Clone, Copy)]
 pub struct Ending {

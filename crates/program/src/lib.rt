@@ -4,15 +4,18 @@
 mod answer;
 mod answer_text;
 mod input;
-mod making;
+mod reading;
 
+ghost use Rattle.std.specs.Prelude.{◌≡◌, replicate};
+ghost use Rattle.meaning.specs.Refusal.{cell_limit};
 ghost use Rattle.meaning.specs.Text.{lines_of};
 ghost use Rattle.meaning.specs.Program.{parts_of, on_parts, respond as response_to};
 ghost use Rattle.program.specs.Answered.{Answered};
-ghost use Rattle.program.specs.Made.{InputsGiven};
+ghost use Rattle.program.specs.Made.{InputsGiven, ColumnGiven};
 
 use answer::{answer_refusal, answer_table};
-use making::{Listed, make_list, read_list};
+use reading::{Listed, read_column, read_list};
+use service::make;
 
 // The public call: for every input the program's answer, where it has room in the output. FORMAT 9.16, 11.11
 pub fn respond(input: &[u8], output: &mut [u8]) -> usize
@@ -29,10 +32,38 @@ fn answer_list(listed: Listed, output: &mut [u8]) -> usize
     requires { InputsGiven listed.text.bytes.now listed.end listed.cells }
     ensures { Answered (on_parts (parts_of (lines_of listed.entry.text.bytes.now))) output.old output.new result }
 {
-    // Room for the cells of any list, fixed memory; how many are made is answered. It is 16 KiB that are set to 0, which only a list that is read pays for.
+    // Room for as many inputs as a list can have, fixed memory; how many there are is answered.
+    let mut inputs: [i64; 256] = [0; 256];
+    match read_column(listed, &mut inputs) {
+        Ok(count) => answer_made(listed, &inputs[..count], output),
+        Err(unread) => answer_refusal(output, unread),
+    }
+}
+
+// The answer where its inputs are numbers too.
+fn answer_made(listed: Listed, inputs: &[i64], output: &mut [u8]) -> usize
+    requires { InputsGiven listed.text.bytes.now listed.end listed.cells × ColumnGiven listed.text.bytes.now listed.end listed.cells inputs.now }
+    ensures { Answered (on_parts (parts_of (lines_of listed.entry.text.bytes.now))) output.old output.new result }
+{
+    // Room for the cells of any list, fixed memory. It is 16 KiB that are set to 0, which only what can be made pays for.
     let mut table: [u32; 4096] = [0; 4096];
-    match make_list(listed, &mut table) {
-        Ok(cells) => answer_table(output, &table[..cells]),
+    answer_within(listed, inputs, &mut table, output)
+}
+
+// The same within a table that is all 0: the first cells of it, or the refusal of making them.
+fn answer_within(
+    listed: Listed,
+    inputs: &[i64],
+    table: &mut [u32; 4096],
+    output: &mut [u8],
+) -> usize
+    requires { InputsGiven listed.text.bytes.now listed.end listed.cells × ColumnGiven listed.text.bytes.now listed.end listed.cells inputs.now
+        × (table.old ≡ replicate cell_limit 0) }
+    ensures { Answered (on_parts (parts_of (lines_of listed.entry.text.bytes.now))) output.old output.new result }
+{
+    let list = &listed.text.bytes[..listed.end.at];
+    match make(list, inputs, &mut table[..listed.cells]) {
+        Ok(()) => answer_table(output, &table[..listed.cells]),
         Err(refused) => answer_refusal(output, refused),
     }
 }

@@ -4,7 +4,7 @@ use Rattle.service.proofs.ReadList.{survey-refused, survey-counted}
 use Rattle.program.proofs.Answering.{passed_read}
 use Rattle.program.proofs.Responding.{list-refused, list_read}
 use native.Mathlib.Omega.{arith}
-use Rattle.program.proofs.making.read_parts.Goals as goal
+use Rattle.program.proofs.reading.read_parts.Goals as goal
 
 pub returns-in_err-found : goal.returns-in_err-found
 returns-in_err-found c =
