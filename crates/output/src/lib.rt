@@ -82,7 +82,7 @@ pub fn write_decimal(part: &mut [u8], n: u64) -> usize
     let count = decimal_length(n);
     let mut rest = n;
     let mut at = count;
-    while 10_000 <= rest {
+    while 100 <= rest {
         at -= 2;
         write_pair(part, at, rest % 100);
         rest /= 100;
