@@ -19,7 +19,7 @@ use Rattle.refusal.specs.Refusal.{number_of, refused_reply}
 use Rattle.service.proofs.Replies.{not-accepted}
 use Rattle.output.specs.Written.{Written}
 use Rattle.program.specs.Answered.{Answered, longest_answer}
-use Rattle.program.specs.Made.{PartsYield, ColumnYield}
+use Rattle.program.specs.Made.{PartsYield, ColumnYield, made_text}
 use Rattle.program.specs.declared.input.Ending.{Ending}
 use Rattle.program.specs.declared.reading.Listed.{Listed}
 
@@ -66,6 +66,11 @@ module _ (list table last : List ℕ) (xs : List ℤ) (cells : ℕ) (zeros : tak
   pub making-refused : {r : Refused} → Makes list xs (take cells table) (Err r) last → refusal_text (refused_reply r) ≡ making_text (make_reply list xs (replicate cells 0))
   making-refused {r} yields =
       rw (← zeros) (making-refusal r last ∙ ap₂ (λ (q : Reply) (t : List ℕ). making_text (making q t)) yields.replied yields.left)
+
+  pub making-answered : (rest : List ℕ) → length last ≡ cells → (r : Result (Unit {0}) Refused) → Makes list xs (take cells table) r last
+      → made_text (take cells (last ++ rest)) r ≡ making_text (make_reply list xs (replicate cells 0))
+  making-answered rest size (Ok _) yields = table-made rest size yields
+  making-answered rest size (Err r) yields = making-refused yields
 
 -- a refusal that stands for what is not there
 pub refused-alone : {A : Type 0} (x : Perhaps A) (r given : Refused) → Err r ≡ ok_or x given → x ≡ None → r ≡ given

@@ -3,7 +3,7 @@ use Rattle.std.specs.Prelude.{◌≡◌, List, ℕ, ℤ, ◌≤◌, length, take
 use Rattle.meaning.specs.Refusal.{text_limit, value_limit}
 use Rattle.meaning.specs.Reply.{make_reply}
 use Rattle.meaning.specs.Text.{lines_of}
-use Rattle.meaning.specs.Program.{refusal_text, making_text, parts_of, on_parts, respond}
+use Rattle.meaning.specs.Program.{refusal_text, table_text, making_text, parts_of, on_parts, respond}
 use Rattle.refusal.specs.declared.refused.Refused.{Refused}
 use Rattle.refusal.specs.Refusal.{refused_reply}
 use Rattle.service.specs.Walk.{ListRead}
@@ -41,3 +41,8 @@ ColumnGiven input end cells column =
 abbrev pub ColumnYield : List ℕ → Ending → (cells : ℕ) → (stored : List ℤ) → Result ℕ Refused → Type 0
 ColumnYield input end cells stored (Ok count) = (count ≤ value_limit) × (length stored ≡ value_limit) × ColumnGiven input end cells (take count stored)
 ColumnYield input end cells stored (Err r) = refusal_text (refused_reply r) ≡ on_parts (parts_of (lines_of input))
+
+-- what making answers: the table, or the refusal
+abbrev pub made_text : List ℕ → Result (Unit {0}) Refused → List ℕ
+made_text table (Ok _) = table_text table
+made_text table (Err r) = refusal_text (refused_reply r)

@@ -6,15 +6,16 @@ mod answer_text;
 mod input;
 mod reading;
 
-ghost use Rattle.std.specs.Prelude.{◌≡◌, replicate};
+ghost use Rattle.std.specs.Prelude.{◌≡◌, ◌≤◌, length, replicate};
 ghost use Rattle.meaning.specs.Refusal.{cell_limit};
 ghost use Rattle.meaning.specs.Text.{lines_of};
 ghost use Rattle.meaning.specs.Program.{parts_of, on_parts, respond as response_to};
 ghost use Rattle.program.specs.Answered.{Answered};
-ghost use Rattle.program.specs.Made.{InputsGiven, ColumnGiven};
+ghost use Rattle.program.specs.Made.{InputsGiven, ColumnGiven, made_text};
 
 use answer::{answer_refusal, answer_table};
 use reading::{Listed, read_column, read_list};
+use refusal::Refused;
 use service::make;
 
 // The public call: for every input the program's answer, where it has room in the output. FORMAT 9.16, 11.11
@@ -23,7 +24,7 @@ pub fn respond(input: &[u8], output: &mut [u8]) -> usize
 {
     match read_list(input) {
         Ok(listed) => answer_list(listed, output),
-        Err(unread) => answer_refusal(output, unread),
+        Err(refused) => answer_refusal(output, refused),
     }
 }
 
@@ -36,7 +37,7 @@ fn answer_list(listed: Listed, output: &mut [u8]) -> usize
     let mut inputs: [i64; 256] = [0; 256];
     match read_column(listed, &mut inputs) {
         Ok(count) => answer_made(listed, &inputs[..count], output),
-        Err(unread) => answer_refusal(output, unread),
+        Err(refused) => answer_refusal(output, refused),
     }
 }
 
@@ -62,8 +63,17 @@ fn answer_within(
     ensures { Answered (on_parts (parts_of (lines_of listed.entry.text.bytes.now))) output.old output.new result }
 {
     let list = &listed.text.bytes[..listed.end.at];
-    match make(list, inputs, &mut table[..listed.cells]) {
-        Ok(()) => answer_table(output, &table[..listed.cells]),
+    let made = make(list, inputs, &mut table[..listed.cells]);
+    answer_making(made, &table[..listed.cells], output)
+}
+
+// What making answers: the table, or the refusal that it replies.
+fn answer_making(made: Result<(), Refused>, table: &[u32], output: &mut [u8]) -> usize
+    requires { length table.now ≤ cell_limit }
+    ensures { Answered (made_text table.now made) output.old output.new result }
+{
+    match made {
+        Ok(()) => answer_table(output, table),
         Err(refused) => answer_refusal(output, refused),
     }
 }

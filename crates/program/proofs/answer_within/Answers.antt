@@ -6,7 +6,7 @@ use native.Mathlib.Omega.{arith}
 use lib.ListN.{take, replicate}
 use Rattle.meaning.specs.Refusal.{cell_limit}
 use Rattle.program.specs.Answered.{Answered}
-use Rattle.program.proofs.Answering.{take-replicate, table-made, making-refused}
+use Rattle.program.proofs.Answering.{take-replicate, making-answered}
 use Rattle.program.proofs.Limits.{list-most}
 use Rattle.program.proofs.answer_within.Goals as goal
 use Rattle.program.proofs.answer_within.Goals.{Start}
@@ -19,14 +19,8 @@ zeros c =
     rw c.requires.2
     (take-replicate c.args.listed.cells cell_limit (omega (arith, (list-most c.requires.0.listed).cells-most, c.requires.0.cells_are)))
 
-pub returns-in-Ok : goal.returns-in-Ok
-returns-in-Ok c =
-    subst (λ (answer : List ℕ). Answered answer c.args.output.now c.answer_table.new.output c.answer_table.result)
-    (table-made _ _ _ _ _ (zeros (goal.at.returns-in-Ok c).Start) _ (omega (arith, c.make.auto.table)) c.in-Ok.ensures ∙ c.requires.1)
-    c.answer_table.ensures
-
-pub returns-in-Err : goal.returns-in-Err
-returns-in-Err c =
-    subst (λ (answer : List ℕ). Answered answer c.args.output.now c.answer_refusal.new.output c.answer_refusal.result)
-    (making-refused _ _ _ _ _ (zeros (goal.at.returns-in-Err c).Start) c.in-Err.ensures ∙ c.requires.1)
-    c.answer_refusal.ensures
+pub returns : goal.returns
+returns c =
+    subst (λ (answer : List ℕ). Answered answer c.args.output.now c.answer_making.new.output c.answer_making.result)
+    (making-answered _ _ _ _ _ (zeros (goal.at.returns c).Start) _ (omega (arith, c.make-made.auto.table)) _ c.make-made.ensures ∙ c.requires.1)
+    c.answer_making.ensures
