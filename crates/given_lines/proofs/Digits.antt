@@ -2,7 +2,7 @@
 use mathlib.Core.Path.{◌≡◌, refl, sym, ap, ◌∙◌}
 use mathlib.Core.Bool.{Bool, true, false, ◌&&◌}
 use mathlib.Core.List.{◌∷◌}
-use Prim.Native.Nat.{ℕ, suc, ◌-◌, ◌/◌, ◌≤◌, ◌<◌}
+use Prim.Native.Nat.{ℕ, suc, ◌-◌, ◌≤◌, ◌<◌}
 use native.Mathlib.Omega.{arith}
 use borrow.Author.Tests.{le-leb, ltb-true, ltb-false}
 use mir.Syntax.{w64}
@@ -15,7 +15,8 @@ use Rattle.algebra.proofs.Test.{≡-test, left, right, le_z-iff, le_z-false}
 use Rattle.algebra.proofs.Integer.Order.{integer}
 use Rattle.meaning.specs.Number.{between}
 use Rattle.meaning.specs.Text.{largest, decimal_of, number_text}
-use Rattle.meaning.proofs.Decimal.{length-short, length-long, some-digit}
+use Rattle.meaning.proofs.Decimal.{length-short, some-digit}
+use Rattle.output.proofs.Digits.{two-digits}
 use Rattle.std.specs.Prelude.{Some}
 use Rattle.given_lines.specs.Line.{MoreBytesYield}
 use Rattle.given_lines.proofs.Lengths.{number-most}
@@ -66,9 +67,6 @@ module _ (z : ℤ) (short : between (neg_ℤ (pos 99)) z (pos 99) ≡ true) wher
   unfolding between
   short-high = (le_z-iff z (pos 99)).0 (right (le_z (neg_ℤ (pos 99)) z) (le_z z (pos 99)) (≡-test _ short))
 
-two_digits : (n : ℕ) → 10 ≤ n → n < 100 → length (decimal_of n) ≡ 2
-two_digits n h k = omega (arith, length-long n h, length-short (n / 10) (omega arith))
-
 -- two digits, or a sign and one digit
 pub one_more : (z : ℤ) → (non_neg z && ltb (nat_abs z) 10) ≡ false → between (neg_ℤ (pos 99)) z (pos 99) ≡ true → le_z (neg_ℤ (pos 9)) z ≡ true
     → MoreBytesYield z (Some 1)
@@ -76,7 +74,7 @@ unfolding number_text
 one_more (pos n) long short down =
     let high = short-high (pos n) short in
     let few : n ≤ 99 = omega integer in
-    (le-leb n largest (omega arith), two_digits n (not-below-limit n 10 long) (omega arith), omega arith)
+    (le-leb n largest (omega arith), two-digits n (not-below-limit n 10 long) (omega arith), omega arith)
 one_more (negsuc n) long short down =
     let low = (le_z-iff (neg_ℤ (pos 9)) (negsuc n)).0 (≡-test _ down) in
     let few : n ≤ 8 = omega integer in
@@ -91,7 +89,7 @@ two-more (negsuc n) short down =
     let high = le_z-false (neg_ℤ (pos 9)) (negsuc n) down in
     let few : n ≤ 98 = omega integer in
     let many : 9 ≤ n = omega integer in
-    (le-leb (suc n) largest (omega arith), ap suc (two_digits (suc n) (omega arith) (omega arith)), omega arith)
+    (le-leb (suc n) largest (omega arith), ap suc (two-digits (suc n) (omega arith) (omega arith)), omega arith)
 
 some_byte : (z : ℤ) → 0 < length (number_text z)
 unfolding number_text

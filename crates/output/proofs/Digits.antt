@@ -1,5 +1,5 @@
--- Writing a number's digits, the last ones first, two by two: what is known before each two, how they are written, and what is known at the end. How many digits there
--- are is told by the power of 10 just below the number.
+-- Writing a number's digits, the last ones first, two by two: what is known before each two, how they are written, and what is known at the end; and how
+-- many there are, which is told by tests where they are few, and else by the power of 10 just below the number.
 use mathlib.Core.Path.{◌≡◌, refl, sym, ap, subst, ◌∙◌}
 use mathlib.Core.List.{List, [], ◌∷◌, ◌++◌, append_assoc}
 use Prim.Native.Nat.{ℕ, zero, suc, ◌+◌, ◌-◌, ◌*◌, ◌/◌, ◌%◌, ◌^◌, ◌≤◌, ◌<◌}
@@ -16,17 +16,14 @@ use Rattle.meaning.proofs.Decimal.{decimal-short, decimal-long, length-short, le
 
 -- ---- how many digits
 
-pub one_digit : (n : ℕ) → n < 10 → length (decimal_of n) ≡ 1
-one_digit n h = length-short n h
+pub two-digits : (n : ℕ) → 10 ≤ n → n < 100 → length (decimal_of n) ≡ 2
+two-digits n h k = omega (arith, length-long n h, length-short (n / 10) (omega arith))
 
-pub two_digits : (n : ℕ) → 10 ≤ n → n < 100 → length (decimal_of n) ≡ 2
-two_digits n h k = omega (arith, length-long n h, length-short (n / 10) (omega arith))
+pub three-digits : (n : ℕ) → 100 ≤ n → n < 1000 → length (decimal_of n) ≡ 3
+three-digits n h k = omega (arith, length-long n (omega arith), two-digits (n / 10) (omega arith) (omega arith))
 
-pub three_digits : (n : ℕ) → 100 ≤ n → n < 1000 → length (decimal_of n) ≡ 3
-three_digits n h k = omega (arith, length-long n (omega arith), two_digits (n / 10) (omega arith) (omega arith))
-
-pub four_digits : (n : ℕ) → 1000 ≤ n → n < 10000 → length (decimal_of n) ≡ 4
-four_digits n h k = omega (arith, length-long n (omega arith), three_digits (n / 10) (omega arith) (omega arith))
+pub four-digits : (n : ℕ) → 1000 ≤ n → n < 10000 → length (decimal_of n) ≡ 4
+four-digits n h k = omega (arith, length-long n (omega arith), three-digits (n / 10) (omega arith) (omega arith))
 
 -- a number from a power of 10 on has more digits than its exponent says
 decimal-least : (k n : ℕ) → 10 ^ k ≤ n → suc k ≤ length (decimal_of n)
@@ -38,12 +35,14 @@ decimal-least (suc k) n h =
     omega (arith, length-long n (omega (arith, power, some-power)), decimal-least k (n / 10) (omega (arith, power)))
 
 -- what the library's logarithm says of how many digits there are
-pub log_length : (n : ℕ) (log : Answer ℕ) → IfNone log (n ≡ 0) → IfSome log (λ k. 10 ^ k ≤ n) → IfSome log (λ k. n < 10 * 10 ^ k)
+pub log-length : (n : ℕ) (log : Answer ℕ) → IfNone log (n ≡ 0) → IfSome log (λ k. 10 ^ k ≤ n) → IfSome log (λ k. n < 10 * 10 ^ k)
     → unwrap_or log 0 + 1 ≡ length (decimal_of n)
-log_length n None none low high = omega (arith, length-short n (omega (arith, none)))
-log_length n (Some k) none low high =
+log-length n None none low high = omega (arith, length-short n (omega (arith, none)))
+log-length n (Some k) none low high =
     let power : 10 ^ suc k ≡ 10 ^ k * 10 = pow-suc 10 k in
     omega (arith, decimal-least k n low, decimal-most k n (omega (arith, power, high)))
+
+pub ruleset digits_counted = (length-short, two-digits, log-length)
 
 -- ---- two digits of more
 
@@ -91,33 +90,32 @@ module _ {n : ℕ} {before part : List ℕ} {rest at : ℕ} (f : Filling n befor
   pub filling_end : {after : List ℕ} {count m : ℕ} → count ≡ length (decimal_of n) → Written (decimal_of rest) part after m → Written (decimal_of n) before after count
   filling_end e w = record { stands = w.stands ∙ ap (λ (i : ℕ). decimal_of rest ++ drop i part) f.place ∙ f.stands; counted = e }
 
--- ---- one digit, and two
+-- ---- one to four digits
 
-pub one_written : {n : ℕ} {before : List ℕ} → n < 10 → length (decimal_of n) ≤ length before → Written (decimal_of n) before (set before 0 (48 + n)) 1
-one_written {n} {before} h room =
+pub one-written : {n : ℕ} {before : List ℕ} → n < 10 → length (decimal_of n) ≤ length before → Written (decimal_of n) before (set before 0 (48 + n)) 1
+one-written {n} {before} h room =
     subst (λ (ds : List ℕ). Written ds before (set before 0 (48 + n)) 1) (sym (decimal-short n h))
     (written_byte (48 + n) (nothing_written before) (omega (arith, length-short n h)))
 
-pub two_written : {n : ℕ} {before after : List ℕ} → 10 ≤ n → n < 100 → PairStands n 0 before after → Written (decimal_of n) before after 2
-two_written {n} {before} {after} h k w =
+pub two-written : {n : ℕ} {before after : List ℕ} → 10 ≤ n → n < 100 → PairStands n 0 before after → Written (decimal_of n) before after 2
+two-written {n} {before} {after} h k w =
     let both : decimal_of n ≡ (48 + n / 10) ∷ (48 + n % 10) ∷ [] = decimal-long n h ∙ rw (decimal-short (n / 10) (omega arith)) in
     record { stands = w.stands ∙ rw both; counted = rw both }
 
--- three, and four
-pub three_written : {n : ℕ} {before after : List ℕ} → 100 ≤ n → n < 1000 → length (decimal_of n) ≤ length before → PairStands (n % 100) 1 before after
+pub three-written : {n : ℕ} {before after : List ℕ} → 100 ≤ n → n < 1000 → length (decimal_of n) ≤ length before → PairStands (n % 100) 1 before after
     → Written (decimal_of n) before (set after 0 (48 + n / 100)) 3
-three_written {n} {before} {after} h k room w =
-    let size = three_digits n h k in
+three-written {n} {before} {after} h k room w =
+    let size = three-digits n h k in
     let all : decimal_of n ≡ (48 + n / 100) ∷ (48 + n % 100 / 10) ∷ (48 + n % 100 % 10) ∷ [] = decimal-pair n h ∙ rw (decimal-short (n / 100) (omega arith)) in
     record { stands = drop-set after 0 (48 + n / 100) (omega (arith, w.kept)) ∙ ap (λ (ds : List ℕ). (48 + n / 100) ∷ ds) w.stands ∙ rw all; counted = sym size }
 
-pub four_written : {n : ℕ} {before middle after : List ℕ} → 1000 ≤ n → n < 10000 → PairStands (n % 100) 2 before middle → PairStands (n / 100) 0 middle after
+pub four-written : {n : ℕ} {before middle after : List ℕ} → 1000 ≤ n → n < 10000 → PairStands (n % 100) 2 before middle → PairStands (n / 100) 0 middle after
     → Written (decimal_of n) before after 4
-four_written {n} {before} {middle} {after} h k w v =
+four-written {n} {before} {middle} {after} h k w v =
     let tens : n / 100 / 10 ≡ n / 1000 = omega arith in
-    let first = two_written {n = n / 100} (omega arith) (omega arith) v in
-    let size = four_digits n h k in
-    let two = two_digits (n / 100) (omega arith) (omega arith) in
+    let first = two-written {n = n / 100} (omega arith) (omega arith) v in
+    let size = four-digits n h k in
+    let two = two-digits (n / 100) (omega arith) (omega arith) in
     record {
       stands =
           first.stands ∙ ap (λ (i : ℕ). decimal_of (n / 100) ++ drop i middle) two ∙ ap (λ (ds : List ℕ). decimal_of (n / 100) ++ ds) w.stands
@@ -125,6 +123,8 @@ four_written {n} {before} {middle} {after} h k w v =
           ∙ rw (← decimal-pair n (omega arith), size) refl;
       counted = sym size;
     }
+
+pub ruleset short_written = (length-short, two-digits, three-digits, four-digits, one-written, two-written, three-written, four-written)
 
 -- a number of 64 bits has few digits, as the check applies it
 pub ruleset short_digits = (decimal-of-64)

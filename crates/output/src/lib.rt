@@ -22,7 +22,7 @@ pub fn write_bytes(part: &mut [u8], text: &[u8]) -> usize
 // ---- a number as it is written: its decimal digits, without a leading zero
 
 // How many digits it has. One or two, as most numbers have, are told without the logarithm. `as`, as there is no `From` from a u32 to a usize.
-#[tactic(auto, using(crate::proofs::Digits::one_digit, crate::proofs::Digits::two_digits, crate::proofs::Digits::log_length))]
+#[tactic(auto, using(crate::proofs::Digits::digits_counted))]
 pub fn decimal_length(n: u64) -> usize
     ensures { result ≡ length (decimal_of n) }
 {
@@ -47,7 +47,7 @@ fn write_pair(part: &mut [u8], at: usize, n: u64)
 
 // Writes a number of up to four digits, as nearly all have that the program writes: they take no loop, and their count is told on the way.
 #[inline(always)]
-#[tactic(auto, using(crate::proofs::Digits::one_digit, crate::proofs::Digits::two_digits, crate::proofs::Digits::three_digits, crate::proofs::Digits::four_digits, crate::proofs::Digits::one_written, crate::proofs::Digits::two_written, crate::proofs::Digits::three_written, crate::proofs::Digits::four_written))]
+#[tactic(auto, using(crate::proofs::Digits::short_written))]
 fn write_short(part: &mut [u8], n: u64) -> usize
     requires { (n < 10000) × (length (decimal_of n) ≤ length part.old) }
     ensures { Written (decimal_of n) part.old part.new result }

@@ -8,8 +8,7 @@ use lib.IntN.{ℤ}
 use lib.ListN.{length, take, replicate}
 use lib.Seq.{take_at}
 use Rattle.meaning.specs.Reply.{Reply, reply, making, make_reply}
-use Rattle.meaning.specs.Text.{lines_of}
-use Rattle.meaning.specs.Program.{refusal_text, table_text, making_text, parts_of, on_parts}
+use Rattle.meaning.specs.Program.{refusal_text, table_text, making_text}
 use Rattle.service.specs.Reply.{Makes}
 use Rattle.std.specs.Prelude.{None, Result, Ok, Err, IsErrAnd}
 use Rattle.std.specs.Prelude.{Option as Perhaps}
@@ -19,9 +18,7 @@ use Rattle.refusal.specs.Refusal.{number_of, refused_reply}
 use Rattle.service.proofs.Replies.{not-accepted}
 use Rattle.output.specs.Written.{Written}
 use Rattle.program.specs.Answered.{Answered, longest_answer}
-use Rattle.program.specs.Made.{PartsYield, ColumnYield, made_text}
-use Rattle.program.specs.declared.input.Ending.{Ending}
-use Rattle.program.specs.declared.reading.Listed.{Listed}
+use Rattle.program.specs.Made.{made_text}
 
 module _ {answer before : List ℕ} (short : length answer ≤ longest_answer) where
   pub answered-room : {after : List ℕ} {r : ℕ} → Written answer before after r → length answer ≤ length before → Answered answer before after r
@@ -76,14 +73,7 @@ module _ (list table last : List ℕ) (xs : List ℤ) (cells : ℕ) (zeros : tak
 pub refused-alone : {A : Type 0} (x : Perhaps A) (r given : Refused) → Err r ≡ ok_or x given → x ≡ None → r ≡ given
 refused-alone x r given e none = ap (error_or given) (rw none at e)
 
--- a refusal that is passed on is the answer: of the list
-pub passed_read : (input : List ℕ) (r : Result Listed Refused) (broken : Refused) → IsErrAnd r (λ x. x ≡ broken)
-    → refusal_text (refused_reply broken) ≡ on_parts (parts_of (lines_of input)) → PartsYield input r
-passed_read input (Ok l) broken h e = absurd h
-passed_read input (Err x) broken h e = rw h e
-
--- and of its inputs
-pub passed_column : (input : List ℕ) (end : Ending) (cells : ℕ) (stored : List ℤ) (r : Result ℕ Refused) (broken : Refused) → IsErrAnd r (λ x. x ≡ broken)
-    → refusal_text (refused_reply broken) ≡ on_parts (parts_of (lines_of input)) → ColumnYield input end cells stored r
-passed_column input end cells stored (Ok n) broken h e = absurd h
-passed_column input end cells stored (Err x) broken h e = rw h e
+-- where a refusal is passed on, what it yields is yielded
+pub passed-on : {A : Type 0} (yield : Result A Refused → Type 0) (r : Result A Refused) (broken : Refused) → IsErrAnd r (λ x. x ≡ broken) → yield (Err broken) → yield r
+passed-on yield (Ok n) broken h e = absurd h
+passed-on yield (Err x) broken h e = rw h e

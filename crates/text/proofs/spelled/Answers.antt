@@ -1,7 +1,10 @@
 -- The one word that the field may be is compared with it, byte by byte.
-use mathlib.Core.Path.{◌≡◌}
+use mathlib.Core.Path.{◌≡◌, ap, ◌∙◌}
+use mathlib.Core.Bool.{◌||◌}
+use Prim.Native.Nat.{ℕ, ◌+◌}
 use native.Mathlib.Omega.{arith}
-use lib.ListN.{length}
+use lib.Dec.{eqb}
+use lib.ListN.{length, get_or}
 use Rattle.meaning.specs.Word.{kind_of}
 use Rattle.text.specs.Word.{word_of}
 use Rattle.text.proofs.Ends.{in-line}
@@ -23,8 +26,9 @@ loop-i-preserved c =
 
 pub returns : goal.returns
 returns c =
-    let all : c.loop-i.i ≡ length (kind_of (word_of c.args.word)).spelling =
-    rw c.spelling-spelling.ensures at (let e : c.loop-i.i ≡ length c.spelling-spelling.result.now = omega (arith, c.loop-i-test.false, c.loop-i.auto.i-end) in e) in
-    let s = rw all at c.loop-i.invariant in
+    let text = c.args.text.bytes.now in
+    let size = ap length c.spelling-spelling.ensures in
+    let all : c.loop-i.i ≡ length (kind_of (word_of c.args.word)).spelling = omega (arith, size, c.loop-i-test.false, c.loop-i.auto.i-end) in
+    let after = ap (λ (n : ℕ). eqb (get_or text (c.args.at + n) 0) 9 || eqb (get_or text (c.args.at + n) 0) 10) size in
     rw (c.then_some.ensures, c.spelling-spelling.ensures)
-    (word_there c.args.text.bytes.now c.args.at c.args.text.ended c.requires.0 _ c.requires.1 s _ (rw c.spelling-spelling.ensures at c.is_end.ensures))
+    (word_there text c.args.at c.args.text.ended c.requires.0 _ c.requires.1 (rw all at c.loop-i.invariant) _ (c.is_end.ensures ∙ after))
